@@ -1,0 +1,16 @@
+-- What a list of entries is, and when it is refused.
+use Rattle.std.specs.Prelude.{ℕ, ◌==◌, List, length, nat_lt, if◌then◌else◌, Option, None, Some, position, Result, Ok, Err}
+use Rattle.rate_types.specs.declared.entries.Entry.{Entry}
+use Rattle.rate_types.specs.declared.entries.EntriesFault.{EntriesFault}
+use Rattle.rate_types.specs.declared.entries.EntriesFault.TheVariants.{NoEntries, TooMany, EmptyKey}
+
+-- the entries, unless the entry at this place has an empty key
+abbrev pub unless_empty_key : Option ℕ → List Entry → Result (List Entry) EntriesFault
+unless_empty_key None items = Ok items
+unless_empty_key (Some index) items = Err (EmptyKey index)
+
+-- 1 to 32 entries with keys that aren't empty, or the first reason against it
+unfoldable pub entries_of : List Entry → Result (List Entry) EntriesFault
+entries_of items = if length items == 0 then Err NoEntries
+    else (if nat_lt 32 (length items) then Err (TooMany (length items))
+    else unless_empty_key (position (λ e. length e.key == 0) items) items)

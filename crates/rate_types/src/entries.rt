@@ -1,0 +1,192 @@
+ghost use Rattle.std.proofs.Common.{rules};
+ghost use Rattle.std.specs.Prelude.{◌≡◌, ◌<◌, ◌==◌, IfOk, IfSome, position, length};
+ghost use Rattle.std.specs.Cmp.{partial_order_from_own_ties};
+ghost use Rattle.std.specs.Cmp.Lexicographic.{lists_ties};
+ghost use Rattle.std.specs.Cmp.Rules.{comparing};
+ghost use Rattle.std.specs.Ordering.{as_partial_cmp};
+ghost use Rattle.rate_types.specs.Counters.{entry_cmp, same_entry, entries_cmp, same_entries};
+ghost use Rattle.rate_types.specs.Entries.{entries_of};
+
+use crate::{OutOfMemory, Text};
+use std::alloc::Global;
+use std::cmp::Ordering;
+use std::marker::Model;
+
+/// A key with its value: one entry of a descriptor.
+#[derive(Drop)]
+pub struct Entry {
+    pub key: Text,
+    pub value: Text,
+}
+
+impl Entry {
+    /// An equal entry.
+    pub fn copy(&self) -> Result<Entry, OutOfMemory>
+        ensures { IfOk result (λ e. e ≡ self.now) }
+    {
+        Ok(Entry {
+            key: self.key.copy()?,
+            value: self.value.copy()?,
+        })
+    }
+}
+
+impl PartialEq for Entry {
+    ghost eq = { same_entry };
+
+    ghost laws = { Prim.search (comparing, lists_ties, rules) depth 20 };
+
+    fn eq(&self, other: &Entry) -> bool {
+        self.key == other.key && self.value == other.value
+    }
+}
+
+impl Eq for Entry {
+    ghost laws = { Prim.search (comparing, lists_ties, rules) depth 20 };
+}
+
+impl Ord for Entry {
+    ghost cmp = { entry_cmp };
+
+    ghost total = { Prim.search (comparing, lists_ties, rules) depth 20 };
+
+    ghost matches_partial_cmp = { Prim.search (comparing, lists_ties, rules) depth 20 };
+
+    ghost matches_eq = { Prim.search (comparing, lists_ties, rules) depth 20 };
+
+    fn cmp(&self, other: &Entry) -> Ordering {
+        self.key.cmp(&other.key).then(self.value.cmp(&other.value))
+    }
+}
+
+impl PartialOrd for Entry {
+    ghost partial_cmp = { as_partial_cmp entry_cmp };
+
+    ghost laws = { partial_order_from_own_ties (Prim.search (comparing, lists_ties, rules) depth 20) (Prim.search (comparing, lists_ties, rules) depth 20) };
+
+    fn partial_cmp(&self, other: &Entry) -> Option<Ordering> {
+        Some(self.cmp(other))
+    }
+}
+
+/// The entries of a descriptor: 1 to 32, in order, each with a key that isn't empty.
+#[derive(Drop)]
+pub struct Entries {
+    items: Vec<Entry>,
+}
+
+impl Model for Entries {
+    ghost use Rattle.std.specs.Prelude.{◌≡◌, ℕ, ◌≤◌, List, Ok, length};
+    ghost use Rattle.rate_types.specs.declared.entries.Entry.{Entry};
+    ghost use Rattle.rate_types.specs.Entries.{entries_of};
+
+    ghost Value = { List Entry };
+
+    ghost view = { λ e. e.items.items };
+
+    ghost invariant = { λ e. entries_of e.items.items ≡ Ok e.items.items };
+}
+
+/// Why a list isn't the entries of a descriptor. They are tried in this order.
+#[derive(Clone, Copy, Debug, PartialEq, Eq)]
+pub enum EntriesFault {
+    /// The list is empty.
+    NoEntries,
+    /// The list has `count` entries, more than 32.
+    TooMany { count: u64 },
+    /// The entry at `index`, from 0, is the first with an empty key.
+    EmptyKey { index: u32 },
+}
+
+impl Entries {
+    /// The entries of this list. It takes no memory.
+    #[tactic(auto, unfolding(crate::specs::Entries::entries_of))]
+    pub fn build(items: Vec<Entry>) -> Result<Entries, EntriesFault>
+        ensures { result ≡ entries_of items.items }
+    {
+        if items.is_empty() {
+            return Err(EntriesFault::NoEntries);
+        }
+        if items.len() > 32 {
+            return Err(EntriesFault::TooMany {
+                count: items.len() as u64,
+            });
+        }
+        match first_empty_key(&items) {
+            Some(index) => Err(EntriesFault::EmptyKey {
+                index: index as u32,
+            }),
+            None => Ok(Entries { items }),
+        }
+    }
+
+    /// Equal entries.
+    pub fn copy(&self) -> Result<Entries, OutOfMemory>
+        ensures { IfOk result (λ e. e ≡ self.now) }
+    {
+        let items = copies(&self.items)?;
+        Ok(Entries { items })
+    }
+
+    /// The entries in order.
+    pub fn items(&self) -> &[Entry]
+        ensures { result.now ≡ self.now }
+    {
+        &self.items
+    }
+}
+
+fn first_empty_key(items: &[Entry]) -> Option<usize>
+    ensures place { result ≡ position (λ e. length e.key == 0) items.now }
+    ensures within { IfSome result (λ index. index < length items.now) }
+{
+    items.iter().position(|entry| entry.key.as_str().is_empty())
+}
+
+impl PartialEq for Entries {
+    ghost eq = { same_entries };
+
+    ghost laws = { Prim.search (comparing, lists_ties, rules) depth 20 };
+
+    fn eq(&self, other: &Entries) -> bool {
+        self.items.as_slice() == other.items.as_slice()
+    }
+}
+
+impl Eq for Entries {
+    ghost laws = { Prim.search (comparing, lists_ties, rules) depth 20 };
+}
+
+impl Ord for Entries {
+    ghost cmp = { entries_cmp };
+
+    ghost total = { Prim.search (comparing, lists_ties, rules) depth 20 };
+
+    ghost matches_partial_cmp = { Prim.search (comparing, lists_ties, rules) depth 20 };
+
+    ghost matches_eq = { Prim.search (comparing, lists_ties, rules) depth 20 };
+
+    fn cmp(&self, other: &Entries) -> Ordering {
+        self.items.as_slice().cmp(other.items.as_slice())
+    }
+}
+
+impl PartialOrd for Entries {
+    ghost partial_cmp = { as_partial_cmp entries_cmp };
+
+    ghost laws = { partial_order_from_own_ties (Prim.search (comparing, lists_ties, rules) depth 20) (Prim.search (comparing, lists_ties, rules) depth 20) };
+
+    fn partial_cmp(&self, other: &Entries) -> Option<Ordering> {
+        Some(self.cmp(other))
+    }
+}
+
+fn copies(entries: &Vec<Entry>) -> Result<Vec<Entry>, OutOfMemory>
+    ensures { IfOk result (λ v. v.items ≡ entries.now.items) }
+{
+    let mut copies = Vec::new(*entries.allocator());
+    for entry in entries {
+        copies.push(entry.copy()?)?;
+    }
+    Ok(copies)
+}

@@ -1,0 +1,126 @@
+ghost use Rattle.std.specs.Prelude.{◌≡◌, ◌≤◌, ◌<◌, ◌==◌, ◌↔◌, List, [], ℕ, length, string_bytes, IfOk, Err, IfSome, IfNone};
+ghost use Rattle.std.proofs.Common.{rules};
+ghost use Rattle.std.specs.Cmp.{partial_order_from_own_ties};
+ghost use Rattle.std.specs.Cmp.Rules.{comparing};
+ghost use Rattle.std.specs.Cmp.Lexicographic.{slice_cmp, pointwise};
+ghost use Rattle.std.specs.Ordering.{nat_cmp, as_partial_cmp};
+ghost use Rattle.rate_types.specs.declared.text.TextFault.TheVariants.{TooLong};
+
+use crate::OutOfMemory;
+use std::alloc::Global;
+use std::cmp::Ordering;
+use std::marker::Model;
+
+/// Why a text isn't made.
+#[derive(Clone, Copy, Debug, PartialEq, Eq)]
+pub enum TextFault {
+    /// The text has `len` bytes, more than 1,024.
+    TooLong { len: u64 },
+    OutOfMemory,
+}
+
+/// A text of at most 1,024 bytes, in UTF-8: a domain, a key, a value or a name. Texts are compared byte by byte.
+#[derive(Drop)]
+pub struct Text {
+    text: String,
+}
+
+impl Model for Text {
+    ghost Value = { List ℕ };
+
+    ghost view = { λ t. string_bytes t.text };
+
+    ghost invariant = { λ t. length (string_bytes t.text) ≤ 1024 };
+}
+
+impl Text {
+    /// A copy of a text of at most 1,024 bytes.
+    pub fn new(alloc: Global, text: &str) -> Result<Text, TextFault>
+        ensures same { IfOk result (λ t. t ≡ text.now) }
+        ensures too_long { (len : ℕ) → (result ≡ Err (TextFault.TooLong len)) ↔ ((1024 < length text.now) × (len ≡ length text.now)) }
+    {
+        if text.len() > 1024 {
+            return Err(TextFault::TooLong {
+                len: text.len() as u64,
+            });
+        }
+        match String::from_str(alloc, text) {
+            Ok(text) => Ok(Text { text }),
+            Err(_) => Err(TextFault::OutOfMemory),
+        }
+    }
+
+    /// The empty text. It takes no memory.
+    pub fn empty(alloc: Global) -> Text
+        ensures { result ≡ [] }
+    {
+        Text {
+            text: String::new(alloc),
+        }
+    }
+
+    /// The text itself, where it isn't too long. It takes no memory.
+    pub fn of(text: String) -> Option<Text>
+        ensures same { IfSome result (λ t. (t ≡ string_bytes text) × (length (string_bytes text) ≤ 1024)) }
+        ensures too_long { IfNone result (1024 < length (string_bytes text)) }
+    {
+        if text.len() > 1024 {
+            return None;
+        }
+        Some(Text { text })
+    }
+
+    /// The text as std has it.
+    pub fn as_str(&self) -> &str
+        ensures bytes { result.now ≡ self.now }
+        ensures bound { length self.now ≤ 1024 }
+    {
+        self.text.as_str()
+    }
+
+    /// An equal text.
+    pub fn copy(&self) -> Result<Text, OutOfMemory>
+        ensures { IfOk result (λ t. t ≡ self.now) }
+    {
+        let text = self.text.clone()?;
+        Ok(Text { text })
+    }
+}
+
+impl PartialEq for Text {
+    ghost eq = { pointwise ◌==◌ };
+
+    ghost laws = { Prim.search (comparing, rules) };
+
+    fn eq(&self, other: &Text) -> bool {
+        self.as_str() == other.as_str()
+    }
+}
+
+impl Eq for Text {
+    ghost laws = { Prim.search (comparing, rules) };
+}
+
+impl Ord for Text {
+    ghost cmp = { slice_cmp nat_cmp };
+
+    ghost total = { Prim.search (comparing, rules) };
+
+    ghost matches_partial_cmp = { Prim.search (comparing, rules) };
+
+    ghost matches_eq = { Prim.search (comparing, rules) };
+
+    fn cmp(&self, other: &Text) -> Ordering {
+        self.as_str().cmp(other.as_str())
+    }
+}
+
+impl PartialOrd for Text {
+    ghost partial_cmp = { as_partial_cmp (slice_cmp nat_cmp) };
+
+    ghost laws = { partial_order_from_own_ties (Prim.search (comparing, rules)) (Prim.search (comparing, rules)) };
+
+    fn partial_cmp(&self, other: &Text) -> Option<Ordering> {
+        Some(self.cmp(other))
+    }
+}
