@@ -5,9 +5,11 @@ ghost use Rattle.std.specs.Cmp.Rules.{comparing};
 ghost use Rattle.std.specs.Ordering.{as_partial_cmp};
 ghost use Rattle.rate_types.specs.Counters.{name_cmp, same_name};
 ghost use Rattle.rate_types.specs.contracts.entries.EntriesOrd.TheImpl.Laws.{matches_eq-law as entries_ties};
+ghost use Rattle.rate_types.specs.Hashes.{name_writes, name_alike};
 
 use crate::{Entries, OutOfMemory, Text, Unit};
 use std::cmp::Ordering;
+use std::hash::{Hash, Hasher};
 
 /// What a counter is called in every window: its domain, the entries with their values, and the unit.
 /// Names are ordered by these, in this order.
@@ -70,5 +72,17 @@ impl PartialOrd for CounterName {
 
     fn partial_cmp(&self, other: &CounterName) -> Option<Ordering> {
         Some(self.cmp(other))
+    }
+}
+
+impl Hash for CounterName {
+    ghost hash_input = { name_writes };
+
+    ghost respects_eq = { name_alike.fed };
+
+    fn hash<H: Hasher>(&self, state: &mut H) {
+        self.domain.hash(state);
+        self.entries.hash(state);
+        self.unit.rank().hash(state);
     }
 }

@@ -6,10 +6,12 @@ ghost use Rattle.std.specs.Cmp.Rules.{comparing};
 ghost use Rattle.std.specs.Ordering.{as_partial_cmp};
 ghost use Rattle.rate_types.specs.Counters.{entry_cmp, same_entry, entries_cmp, same_entries};
 ghost use Rattle.rate_types.specs.Entries.{entries_of};
+ghost use Rattle.rate_types.specs.Hashes.{entry_writes, entry_alike, entries_writes, entries_alike};
 
 use crate::{OutOfMemory, Text};
 use std::alloc::Global;
 use std::cmp::Ordering;
+use std::hash::{Hash, Hasher};
 use std::marker::Model;
 
 /// A key with its value: one entry of a descriptor.
@@ -189,4 +191,25 @@ fn copies(entries: &Vec<Entry>) -> Result<Vec<Entry>, OutOfMemory>
         copies.push(entry.copy()?)?;
     }
     Ok(copies)
+}
+
+impl Hash for Entry {
+    ghost hash_input = { entry_writes };
+
+    ghost respects_eq = { entry_alike.fed };
+
+    fn hash<H: Hasher>(&self, state: &mut H) {
+        self.key.hash(state);
+        self.value.hash(state);
+    }
+}
+
+impl Hash for Entries {
+    ghost hash_input = { entries_writes };
+
+    ghost respects_eq = { entries_alike.fed };
+
+    fn hash<H: Hasher>(&self, state: &mut H) {
+        self.items.as_slice().hash(state);
+    }
 }

@@ -1,14 +1,16 @@
-ghost use Rattle.std.specs.Prelude.{◌≡◌, ◌≤◌, ◌<◌, ◌==◌, ◌↔◌, List, [], ℕ, length, string_bytes, IfOk, Err, IfSome, IfNone};
+ghost use Rattle.std.specs.Prelude.{◌≡◌, ◌≤◌, ◌<◌, ◌==◌, ◌↔◌, [], ℕ, length, string_bytes, IfOk, Err, IfSome, IfNone};
 ghost use Rattle.std.proofs.Common.{rules};
 ghost use Rattle.std.specs.Cmp.{partial_order_from_own_ties};
 ghost use Rattle.std.specs.Cmp.Rules.{comparing};
 ghost use Rattle.std.specs.Cmp.Lexicographic.{slice_cmp, pointwise};
 ghost use Rattle.std.specs.Ordering.{nat_cmp, as_partial_cmp};
 ghost use Rattle.rate_types.specs.declared.text.TextFault.TheVariants.{TooLong};
+ghost use Rattle.rate_types.specs.Hashes.{text_writes, text_alike};
 
 use crate::OutOfMemory;
 use std::alloc::Global;
 use std::cmp::Ordering;
+use std::hash::{Hash, Hasher};
 use std::marker::Model;
 
 /// Why a text isn't made.
@@ -26,6 +28,8 @@ pub struct Text {
 }
 
 impl Model for Text {
+    ghost use Rattle.std.specs.Prelude.{◌≤◌, List, ℕ, length, string_bytes};
+
     ghost Value = { List ℕ };
 
     ghost view = { λ t. string_bytes t.text };
@@ -122,5 +126,15 @@ impl PartialOrd for Text {
 
     fn partial_cmp(&self, other: &Text) -> Option<Ordering> {
         Some(self.cmp(other))
+    }
+}
+
+impl Hash for Text {
+    ghost hash_input = { text_writes };
+
+    ghost respects_eq = { text_alike.fed };
+
+    fn hash<H: Hasher>(&self, state: &mut H) {
+        self.as_str().hash(state);
     }
 }
