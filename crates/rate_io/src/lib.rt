@@ -1,0 +1,27 @@
+//! What reaches outside, as traits: a source and a sink of bytes, and files by name.
+//!
+//! Each trait has a count of faults that never falls, and a call answers `Failed` only where the count rose in that
+//! call. What a source has left, what a sink was written and what a file contains are told where the object knows
+//! them: the versions in memory tell, the adapters over the real input, output and files don't. The adapters are the
+//! trusted edge.
+#![tactic(auto)]
+
+mod files;
+mod mem_files;
+mod mem_sink;
+mod mem_source;
+mod real;
+mod sink;
+mod source;
+mod sure;
+mod whole;
+
+pub use files::{FileFault, Files};
+pub use mem_files::{MemFile, MemFiles};
+pub use mem_sink::MemSink;
+pub use mem_source::MemSource;
+pub use real::{HostFiles, ReaderSource, WriterSink};
+pub use sink::Sink;
+pub use source::{Failed, Source};
+pub use sure::{SureSink, SureSource};
+pub use whole::read_up_to;

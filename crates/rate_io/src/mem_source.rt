@@ -1,0 +1,53 @@
+ghost use Rattle.std.specs.Prelude.{◌≡◌};
+
+use crate::{Failed, Source};
+use std::io::{Cursor, Read};
+
+/// Bytes in memory. Calls are counted from 1, and those with a number in `failing` fail.
+#[derive(Drop)]
+pub struct MemSource {
+    bytes: Cursor<Vec<u8>>,
+    has_ended: bool,
+    calls: u64,
+    failing: Vec<u64>,
+    faults: u64,
+}
+
+impl MemSource {
+    /// A source of these bytes. It takes no memory.
+    pub fn new(bytes: Vec<u8>, failing: Vec<u64>) -> MemSource {
+        MemSource {
+            bytes: Cursor::new(bytes),
+            has_ended: false,
+            calls: 0,
+            failing,
+            faults: 0,
+        }
+    }
+
+    /// The number of calls of `read` so far. It stops at the last value of its type.
+    pub fn calls(&self) -> u64 {
+        self.calls
+    }
+}
+
+impl Source for MemSource {
+    ghost left = { λ s. ⟦<Cursor<Vec<u8>> as Read>⟧.remaining s.bytes };
+
+    ghost ended = { λ s. s.has_ended };
+
+    ghost faults = { λ s. s.faults };
+
+    fn read(&mut self, buf: &mut [u8]) -> Result<usize, Failed> {
+        self.calls = self.calls.saturating_add(1);
+        if self.failing.contains(&self.calls) {
+            self.faults = self.faults.saturating_add(1);
+            return Err(Failed);
+        }
+        let Ok(count) = self.bytes.read(buf) else {
+            unreachable!();
+        };
+        self.has_ended = self.has_ended || (count == 0 && !buf.is_empty());
+        Ok(count)
+    }
+}
