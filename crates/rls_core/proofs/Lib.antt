@@ -1,0 +1,5 @@
+pub mod Ends
+pub mod Summed
+pub mod Numbers
+pub mod Counting
+pub mod Replying

@@ -1,0 +1,75 @@
+-- How many counters a map of sums has, and whether one more is among them.
+use Rattle.std.proofs.Common.{◌≡◌, ℕ, ◌+◌, ◌&&◌, ◌||◌, not, Bool, true, false, cond, List, [], ◌∷◌, length, map, Ordering, Less, Equal, Greater, is_eq, is_some, Option, Some, None, refl, sym, ap, ◌∙◌, arith}
+use Rattle.std.specs.Ordering.{ordering_reverse}
+use Rattle.std.specs.BTreeMap.{is_at}
+use Rattle.std.specs.List.{AllByRecursion, list_any}
+use Rattle.std.specs.List.Sorted.{IsStrictlySortedBy}
+use Rattle.std.specs.Map.{lookup, keys_of}
+use Rattle.rate_types.specs.Counters.{key_cmp, same_counter}
+use Rattle.rate_types.specs.declared.counter_key.CounterKey.{CounterKey}
+use Rattle.rate_types.specs.contracts.counter_key.CounterKeyOrd.TheImpl.Laws.{total-law, matches_eq-law}
+use Rattle.rls_core.specs.Sequential.{IsNumberOf, Wants}
+use Rattle.rls_core.specs.Sums.{Sums, has_sum}
+
+has_among : (c : CounterKey) (sums : Sums) → list_any (λ k. same_counter c k) (keys_of sums) ≡ has_sum sums c
+has_among c [] = refl
+has_among c (e ∷ sums) = ap (λ b. b || list_any (λ k. same_counter c k) (keys_of sums)) (matches_eq-law c e.0) ∙ by (is_eq (key_cmp c e.0)) (has_among c sums)
+  where
+    by : (b : Bool) → list_any (λ k. same_counter c k) (keys_of sums) ≡ has_sum sums c
+        → (b || list_any (λ k. same_counter c k) (keys_of sums)) ≡ is_some (cond b (Some e.1) (lookup (is_at (key_cmp c)) sums))
+    by true more = refl
+    by false more = more
+
+keys_length : (sums : Sums) → length (keys_of sums) ≡ length sums
+keys_length [] = refl
+keys_length (e ∷ sums) = omega (arith, keys_length sums)
+
+pub number_of : (sums : Sums) → IsStrictlySortedBy key_cmp (keys_of sums) → IsNumberOf (has_sum sums) (length sums)
+number_of sums sorted = record { counters = keys_of sums; differ = sorted; all = λ c. has_among c sums; count = keys_length sums }
+
+-- equal counters have a sum alike
+reverse_eq : (o : Ordering) → is_eq (ordering_reverse o) ≡ is_eq o
+reverse_eq Less = refl
+reverse_eq Equal = refl
+reverse_eq Greater = refl
+
+pub same_either : (c k : CounterKey) → same_counter c k ≡ same_counter k c
+same_either c k = matches_eq-law c k ∙ ap is_eq (total-law.antisymm c k) ∙ reverse_eq (key_cmp k c) ∙ sym (matches_eq-law k c)
+
+equal_is : (o : Ordering) → is_eq o ≡ true → o ≡ Equal
+equal_is Less h = cc
+equal_is Equal h = refl
+equal_is Greater h = cc
+
+pub lookup_same : (sums : Sums) (c k : CounterKey) → same_counter c k ≡ true → lookup (is_at (key_cmp k)) sums ≡ lookup (is_at (key_cmp c)) sums
+lookup_same sums c k same =
+    let is : key_cmp c k ≡ Equal = equal_is (key_cmp c k) (sym (matches_eq-law c k) ∙ same) in
+    λ i. lookup (λ q. is_eq (sym (total-law.congr c k q is) i)) sums
+
+sorted_none : IsStrictlySortedBy key_cmp []
+unfolding IsStrictlySortedBy
+sorted_none = tt
+
+sorted_one : (k : CounterKey) → IsStrictlySortedBy key_cmp (k ∷ [])
+unfolding IsStrictlySortedBy
+sorted_one k = (tt, tt)
+
+-- a counter that has a cell wants none
+pub wants_none : (sums : Sums) (k : CounterKey) → has_sum sums k ≡ true → Wants (has_sum sums) (k ∷ []) 0
+wants_none sums k has = record { counters = []; differ = sorted_none; all = λ c. by c (same_counter c k) refl; count = refl }
+  where
+    by : (c : CounterKey) (b : Bool) → same_counter c k ≡ b → false ≡ ((same_counter c k || false) && not (has_sum sums c))
+    by c true is = let here : has_sum sums c ≡ true = ap is_some (sym (lookup_same sums c k is)) ∙ has in rw (is, here) refl
+    by c false is = rw is refl
+
+-- one that has none wants one
+pub wants_one : (sums : Sums) (k : CounterKey) → has_sum sums k ≡ false → Wants (has_sum sums) (k ∷ []) 1
+wants_one sums k has = record { counters = k ∷ []; differ = sorted_one k; all = λ c. by c (same_counter c k) refl; count = refl }
+  where
+    by : (c : CounterKey) (b : Bool) → same_counter c k ≡ b → (same_counter c k || false) ≡ ((same_counter c k || false) && not (has_sum sums c))
+    by c true is = let here : has_sum sums c ≡ false = ap is_some (sym (lookup_same sums c k is)) ∙ has in rw (is, here) refl
+    by c false is = rw is refl
+
+-- and no counter wants none
+pub wants_nothing : (sums : Sums) → Wants (has_sum sums) [] 0
+wants_nothing sums = record { counters = []; differ = sorted_none; all = λ c. refl; count = refl }

@@ -1,0 +1,6 @@
+pub mod Status
+pub mod Reply
+pub mod Sequential
+pub mod Totals
+pub mod Sums
+pub mod Plain

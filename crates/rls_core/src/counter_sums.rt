@@ -1,0 +1,129 @@
+ghost use Rattle.std.specs.Prelude.{◌≡◌, ◌≤◌, ◌+◌, [], nat_lt, filter, length, if◌then◌else◌, Some, IfOk, OnOk, OnErr};
+ghost use Rattle.std.specs.BTreeMap.{is_at, insert_entry};
+ghost use Rattle.std.specs.List.{AllByRecursion};
+ghost use Rattle.std.specs.List.Sorted.{IsStrictlySortedBy};
+ghost use Rattle.std.specs.Map.{lookup, keys_of};
+ghost use Rattle.rate_types.specs.Counters.{key_cmp, same_counter};
+ghost use Rattle.rate_types.specs.declared.counter_key.CounterKey.{CounterKey};
+ghost use Rattle.window_keys.specs.Counter.{window_end_of};
+ghost use Rattle.rls_core.specs.Sums.{charged_totals, has_sum};
+
+use crate::{Total, Totals};
+use rate_types::{CounterKey, OutOfMemory};
+use std::alloc::Global;
+use std::collections::BTreeMap;
+use std::marker::Model;
+use window_keys::end_of;
+
+/// A sum for each of some counters, in key order. Contracts see the list of the counters with their sums.
+#[derive(Drop)]
+pub struct CounterSums {
+    alloc: Global,
+    sums: BTreeMap<CounterKey, u64>,
+    // No counter's window ends before this moment.
+    next_end: u64,
+}
+
+impl Model for CounterSums {
+    ghost use Rattle.std.specs.Prelude.{◌≤◌};
+    ghost use Rattle.std.specs.List.{AllByRecursion};
+    ghost use Rattle.window_keys.specs.Counter.{window_end_of};
+    ghost use Rattle.rls_core.specs.Sums.{Sums};
+
+    ghost Value = { Sums };
+
+    ghost view = { λ s. s.sums.entries };
+
+    ghost invariant = { λ s. AllByRecursion (λ e. s.next_end ≤ window_end_of e.0) s.sums.entries };
+}
+
+fn is_open(counter: &CounterKey, moment: u64) -> bool
+    ensures { result ≡ nat_lt moment (window_end_of counter.now) }
+{
+    moment < end_of(counter)
+}
+
+fn retain_open(sums: &mut BTreeMap<CounterKey, u64>, moment: u64)
+    ensures { sums.new.entries ≡ filter (λ e. nat_lt moment (window_end_of e.0)) sums.old.entries }
+{
+    sums.retain(|counter, _| is_open(counter, moment));
+}
+
+// A moment that no window ends before: that of the first end.
+fn least_end(sums: &BTreeMap<CounterKey, u64>) -> u64
+    ensures { AllByRecursion (λ e. result ≤ window_end_of e.0) sums.now.entries }
+{
+    let mut least = u64::MAX;
+    'sums: for (counter, _) in sums.iter() {
+        least = least.min(end_of(counter));
+    }
+    least
+}
+
+impl CounterSums {
+    /// No counter has a sum.
+    pub fn new(alloc: Global) -> CounterSums
+        ensures { result ≡ [] }
+    {
+        CounterSums {
+            alloc,
+            sums: BTreeMap::new(alloc),
+            next_end: u64::MAX,
+        }
+    }
+
+    /// How many counters have a sum.
+    pub fn len(&self) -> usize
+        ensures number { result ≡ length self.now }
+        ensures sorted { IsStrictlySortedBy key_cmp (keys_of self.now) }
+    {
+        self.sums.len()
+    }
+
+    /// The sum of a counter, where it has one.
+    pub fn get(&self, counter: &CounterKey) -> Option<u64>
+        ensures { result ≡ lookup (is_at (key_cmp counter.now)) self.now }
+    {
+        self.sums.get(counter).copied()
+    }
+
+    /// Gives a counter a sum in place of its last one.
+    pub fn put(&mut self, counter: CounterKey, sum: u64) -> Result<(), OutOfMemory>
+        ensures entries { OnOk result (self.new ≡ insert_entry key_cmp self.old counter sum) }
+        ensures found { OnOk result ((c : CounterKey) → lookup (is_at (key_cmp c)) self.new
+            ≡ (if same_counter counter c then Some sum else lookup (is_at (key_cmp c)) self.old)) }
+        ensures len { OnOk result (length self.new ≡ length self.old + (if has_sum self.old counter then 0 else 1)) }
+        ensures err { OnErr result (self.new ≡ self.old) }
+    {
+        let end = end_of(&counter);
+        self.sums.insert(counter, sum)?;
+        self.next_end = self.next_end.min(end);
+        Ok(())
+    }
+
+    /// Drops the counters whose windows end at a moment or before it.
+    pub fn drop_ended(&mut self, moment: u64)
+        ensures { self.new ≡ filter (λ e. nat_lt moment (window_end_of e.0)) self.old }
+    {
+        if self.next_end <= moment {
+            retain_open(&mut self.sums, moment);
+            self.next_end = least_end(&self.sums);
+        }
+    }
+
+    /// The counters that were charged, with what was charged on them.
+    pub fn totals(&self) -> Result<Totals, OutOfMemory>
+        ensures { IfOk result (λ ts. ts ≡ charged_totals self.now) }
+    {
+        let mut totals = Vec::new(self.alloc);
+        'sums: for (counter, sum) in self.sums.iter() {
+            if *sum > 0 {
+                totals.push(Total {
+                    key: counter.copy()?,
+                    charged: *sum,
+                })?;
+            }
+        }
+        Ok(Totals::of(totals))
+    }
+}

@@ -1,0 +1,31 @@
+use rate_types::{OutOfMemory, Seconds};
+
+/// Why a check isn't answered. Nothing is charged then.
+#[derive(Clone, Copy, Debug, PartialEq, Eq)]
+pub enum CheckFault {
+    /// There is no cell for the counters of the check: at `moment`, `live` counters have cells whose windows aren't
+    /// over, `held` cells are held by others, and `wanted` counters of the check have none.
+    CountersFull {
+        moment: Seconds,
+        live: u32,
+        held: u32,
+        wanted: u32,
+    },
+    /// `claims` counters were given cells, and `wanted` more are above what the limiter was made for.
+    ClaimsSpent {
+        claims: u64,
+        wanted: u32,
+    },
+    OutOfMemory,
+}
+
+impl From<OutOfMemory> for CheckFault {
+    ghost use Rattle.std.specs.Prelude.{◌≡◌};
+    ghost use Rattle.rls_core.specs.declared.fault.CheckFault.TheVariants as fault;
+
+    ghost from_gives = { λ _ e. e ≡ fault.OutOfMemory };
+
+    fn from(_: OutOfMemory) -> Self {
+        CheckFault::OutOfMemory
+    }
+}

@@ -1,0 +1,19 @@
+//! Checks: a request against a configuration and the counts of its counters.
+//!
+//! A reply is the status of each descriptor by one configuration, at one moment, with the count of its counter.
+//! `Plain` is the limiter of one worker: it counts in one map, each descriptor finding what was charged before it.
+#![tactic(auto)]
+
+mod counter_sums;
+mod fault;
+mod plain;
+mod reply;
+mod status;
+mod totals;
+
+pub use fault::CheckFault;
+pub use plain::Plain;
+pub use reply::Reply;
+pub use rule_lookup::{FlatConfig, FlatConfigs, FlatRule, FlatRules};
+pub use status::{Code, Count, Status, status_for};
+pub use totals::{Total, Totals};
