@@ -1,0 +1,4 @@
+pub mod Turns
+pub mod Acts
+pub mod Answers
+pub mod Passes

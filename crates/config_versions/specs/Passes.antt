@@ -1,0 +1,20 @@
+-- What contracts see of the versions and of a pass.
+use Rattle.std.specs.Prelude.{◌≡◌, ℕ}
+use Rattle.std.specs.Arc.{arc_value}
+use Rattle.told_list.specs.Tokens.{list_id, list_of, tokens, view}
+use Rattle.config_versions.specs.declared.pass.VersionPass.{VersionPass}
+use Rattle.config_versions.specs.declared.versions.Versions.{Versions}
+use Rattle.config_versions.specs.Turns.{Stand}
+
+module _ {I : Type 0} where
+  -- the pass was made with these versions
+  abbrev pub IsPassOf : Versions I → VersionPass I → Type 0
+  IsPassOf versions pass = list_of pass.seen ≡ list_id versions.told
+
+  -- how many passes were made
+  abbrev pub pass_count : Versions I → ℕ
+  pass_count versions = tokens versions.told
+
+  -- how a pass stands
+  abbrev pub stand : VersionPass I → Stand I
+  stand pass = record { version = pass.version; index = arc_value pass.index; view = view pass.seen }

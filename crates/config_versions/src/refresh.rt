@@ -1,0 +1,35 @@
+use crate::book::Book;
+use std::sync::Arc;
+use told_list::Act;
+
+/// What became of a pass that was to be brought to the newest version.
+pub enum Refreshed<I> {
+    /// It is at the newest version.
+    Newest,
+    /// This version is newer, and the newest.
+    Newer(u32, Arc<I>),
+    /// There is a newer version, of which no copy could be made.
+    OutOfMemory,
+}
+
+/// Looks for a version that is newer than the one with this number.
+#[derive(Drop)]
+pub struct Refresh {
+    pub version: u32,
+}
+
+impl<I: Drop> Act<Book<I>> for Refresh {
+    ghost use Rattle.std.specs.Prelude.{map};
+    ghost use Rattle.std.specs.Arc.{arc_value};
+    ghost use Rattle.config_versions.specs.Acts.{Refreshes};
+
+    type Out = Refreshed<I>;
+
+    ghost ready = { λ _ _. Unit {0} };
+
+    ghost did = { λ p b r q c. Refreshes p.version (map arc_value b.versions.items) r (map arc_value c.versions.items) };
+
+    fn act(&mut self, kept: &mut Book<I>) -> Refreshed<I> {
+        kept.newer_than(self.version)
+    }
+}

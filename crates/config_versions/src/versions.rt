@@ -1,0 +1,136 @@
+ghost use Rattle.std.specs.Prelude.{◌≡◌, length, map};
+ghost use Rattle.std.specs.Arc.{arc_value};
+ghost use Rattle.told_list.specs.Tokens.{opening};
+
+use crate::book::{Book, MOST};
+use crate::fault::InstallFault;
+use crate::install::{Install, Installed};
+use crate::pass::VersionPass;
+use crate::passes::{passes_of, tokens_of};
+use crate::refresh::{Refresh, Refreshed};
+use rate_types::OutOfMemory;
+use std::alloc::Global;
+use std::sync::{Arc, Wait};
+use told_list::Told;
+
+/// The versions of what the passes use, in the order in which they were installed, behind their lock.
+#[derive(Drop)]
+pub struct Versions<I: Drop> {
+    pub(crate) told: Told<Book<I>>,
+    ghost first: { length (map arc_value (opening told).versions.items) ≡ 1 },
+}
+
+impl<I: Drop> Versions<I> {
+    ghost use Rattle.std.specs.Prelude.{◌≡◌, ◌≤◌, ◌<◌, ◌+◌, ℕ, All, IfOk, MatchOption, vec_len};
+    ghost use mathlib.Core.List.{IsPrefix};
+    ghost use Rattle.told_list.specs.Lists.{total, times, IsOwnedOnce};
+    ghost use Rattle.config_versions.specs.Turns.{IsFirst, HasLoaded};
+    ghost use Rattle.config_versions.specs.Answers.{AnswersInstall, AnswersRefresh};
+    ghost use Rattle.config_versions.specs.Passes.{IsPassOf, pass_count, stand};
+
+    /// The version 0, which is `first`, and 1 to 1,024 passes that are at it.
+    pub fn make(
+        alloc: Global,
+        first: Arc<I>,
+        passes: u32,
+    ) -> Result<(Versions<I>, Vec<VersionPass<I>>), OutOfMemory>
+        requires passes { (1 ≤ passes) × (passes ≤ 1024) }
+        ensures count { IfOk result (λ r. (pass_count r.0 ≡ passes) × (vec_len r.1 ≡ passes)) }
+        ensures first { IfOk result (λ r. All (λ p. IsPassOf r.0 p × IsFirst (arc_value first) (stand p)) r.1.items) }
+    {
+        let own = Arc::try_clone(&first)?;
+        let book = Book::of(alloc, own)?;
+        let (told, seats) = Told::make(alloc, book, passes)?;
+        let passes = passes_of(alloc, seats, &first)?;
+        Ok((Versions { told }, passes))
+    }
+
+    /// Adds `next` as the newest version, and brings the pass to it. The answer is its number. It may wait for other
+    /// calls on these versions.
+    pub fn install<R: Wait>(
+        &self,
+        rt: &R,
+        pass: &mut VersionPass<I>,
+        next: Arc<I>,
+    ) -> Result<u32, InstallFault>
+        requires pass { IsPassOf self.now pass.old }
+        ensures pass { IsPassOf self.now pass.new }
+        ensures answer { AnswersInstall (arc_value next) result (stand pass.old) (stand pass.new) }
+    {
+        let mut act = Install { next };
+        match self.told.with(rt, &mut pass.seen, &mut act) {
+            Installed::Added(number) => {
+                let Install { next } = act;
+                pass.version = number;
+                pass.index = next;
+                Ok(number)
+            }
+            Installed::Full(newest) => {
+                pass.version = MOST - 1;
+                pass.index = newest;
+                Err(InstallFault::VersionsFull { versions: MOST })
+            }
+            Installed::OutOfMemory => Err(InstallFault::OutOfMemory),
+        }
+    }
+
+    /// Brings the pass to the newest version. It may wait for other calls on these versions. After `OutOfMemory` the pass
+    /// is at the version at which it was, and `is_behind` still tells that it is behind.
+    pub fn refresh<R: Wait>(&self, rt: &R, pass: &mut VersionPass<I>) -> Result<(), OutOfMemory>
+        requires pass { IsPassOf self.now pass.old }
+        ensures pass { IsPassOf self.now pass.new }
+        ensures answer { AnswersRefresh result (stand pass.old) (stand pass.new) }
+    {
+        let mut act = Refresh {
+            version: pass.version,
+        };
+        match self.told.with(rt, &mut pass.seen, &mut act) {
+            Refreshed::Newest => Ok(()),
+            Refreshed::Newer(version, index) => {
+                pass.version = version;
+                pass.index = index;
+                Ok(())
+            }
+            Refreshed::OutOfMemory => Err(OutOfMemory),
+        }
+    }
+
+    /// The number of the newest version, exactly where it is greater than that of the pass's version. It is one load, and
+    /// waits for nobody.
+    pub fn is_behind(&self, pass: &mut VersionPass<I>) -> Option<u32>
+        requires pass { IsPassOf self.now pass.old }
+        ensures pass { IsPassOf self.now pass.new }
+        ensures answer { MatchOption result ((stand pass.new).view.shown ≡ (stand pass.old).version + 1) (λ n. (n + 1 ≡ (stand pass.new).view.shown) × ((stand pass.old).version < n)) }
+        ensures loaded { HasLoaded (stand pass.old) (stand pass.new) }
+    {
+        let length = match self.told.behind(&mut pass.seen) {
+            Some(length) => length,
+            None => pass.seen.length(),
+        };
+        let newest = (length - 1) as u32;
+        if newest > pass.version {
+            Some(newest)
+        } else {
+            None
+        }
+    }
+
+    /// All versions, for which all passes are given back. What each pass knew is a prefix of them, and each number but 0
+    /// is the own number of exactly one pass, which installed that version. It waits for nobody. After `OutOfMemory` the
+    /// versions and the passes are given up.
+    pub fn close(
+        self,
+        alloc: Global,
+        passes: Vec<VersionPass<I>>,
+    ) -> Result<Vec<Arc<I>>, OutOfMemory>
+        requires passes { All (λ p. IsPassOf self p) passes.items }
+        requires every { vec_len passes ≡ pass_count self }
+        ensures prefixes { IfOk result (λ v. All (λ p. IsPrefix (stand p).view.known (map arc_value v.items)) passes.items) }
+        ensures owned { IfOk result (λ v. (n : ℕ) → IsOwnedOnce 1 (vec_len v) n (total (λ p. times n (stand p).view.own) passes.items)) }
+    {
+        let Versions { told } = self;
+        let seats = tokens_of(alloc, passes)?;
+        let Book { versions } = told.close(seats);
+        Ok(versions)
+    }
+}
