@@ -1,0 +1,16 @@
+pub mod Kept
+pub mod Sums
+pub mod Views
+pub mod Ledgers
+pub mod Regrouping
+pub mod Charging
+pub mod Looking
+pub mod Pinning
+pub mod Claiming
+pub mod Ticking
+pub mod Steps
+pub mod Tables
+pub mod Parting
+pub mod Passes
+pub mod Opening
+pub mod Closing

@@ -1,0 +1,20 @@
+-- The word of a gate: a claim below 2 ^ 40, a bit that is 1 where the gate is open, and a number of pins.
+-- Only this file, src/gate.rt and proofs/Gates.antt know how the three are packed.
+use Rattle.std.specs.Prelude.{ℕ, ◌+◌, ◌*◌, ◌/◌, ◌%◌, ◌==◌, ◌&&◌, Bool}
+
+abbrev pub gate_word : ℕ → ℕ → ℕ → ℕ
+gate_word claim bit pins = (claim * 65536 + pins) * 2 + bit
+
+-- what a word shows
+abbrev pub claim_shown : ℕ → ℕ
+claim_shown word = word / 131072
+
+abbrev pub bit_shown : ℕ → ℕ
+bit_shown word = word % 2
+
+abbrev pub pins_shown : ℕ → ℕ
+pins_shown word = word / 2 % 65536
+
+-- the gate is open under the claim
+abbrev pub shows : ℕ → ℕ → Bool
+shows claim word = (bit_shown word == 1) && (claim_shown word == claim)

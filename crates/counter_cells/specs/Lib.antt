@@ -1,0 +1,13 @@
+pub mod Sums
+pub mod Gates
+pub mod Places
+pub mod Views
+pub mod Steps
+pub mod Claiming
+pub mod Ledgers
+pub mod Lawful
+pub mod Names
+pub mod Seats
+pub mod Answers
+pub mod Opened
+pub mod Closing

@@ -1,0 +1,32 @@
+-- Where the words stand in the table: first the clock, then of each cell its gate and its count.
+use Rattle.std.specs.Prelude.{ℕ, ◌+◌, ◌-◌, ◌*◌, ◌/◌, List, ◌∷◌, replicate, slice_index}
+
+abbrev pub words_of : ℕ → ℕ
+words_of cells = 2 * cells + 1
+
+abbrev pub gate_at : ℕ → ℕ
+gate_at cell = 2 * cell + 1
+
+abbrev pub count_at : ℕ → ℕ
+count_at cell = 2 * cell + 2
+
+-- the cell of a gate's place, and of a count's
+abbrev pub gate_cell : ℕ → ℕ
+gate_cell place = place / 2
+
+abbrev pub count_cell : ℕ → ℕ
+count_cell place = place / 2 - 1
+
+-- the words of a table
+abbrev pub clock_of : List ℕ → ℕ
+clock_of words = slice_index words 0
+
+abbrev pub gate_of : List ℕ → ℕ → ℕ
+gate_of words cell = slice_index words (gate_at cell)
+
+abbrev pub count_of : List ℕ → ℕ → ℕ
+count_of words cell = slice_index words (count_at cell)
+
+-- the words at the start: all gates closed with claim 0 and without pins, all counts 0
+abbrev pub first_words : ℕ → ℕ → List ℕ
+first_words cells start = start ∷ replicate (2 * cells) 0

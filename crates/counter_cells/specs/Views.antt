@@ -1,0 +1,81 @@
+-- What is counted in a view.
+use Rattle.std.specs.Prelude.{◌≡◌, ℕ, ◌+◌, ◌≤◌, ◌==◌, ◌&&◌, nat_lt, Bool, Option, Some, None, List, [], ◌∷◌, length, if◌then◌else◌, slice_index_or, false}
+use Rattle.std.specs.List.{AllByRecursion}
+use Rattle.counter_cells.specs.declared.view.Tick.{Tick}
+use Rattle.counter_cells.specs.declared.view.Charge.{Charge}
+use Rattle.counter_cells.specs.declared.view.Cell.{Cell}
+use Rattle.counter_cells.specs.declared.view.View.{View}
+use Rattle.counter_cells.specs.Sums.{total, one_if}
+
+-- the most hits of one charge
+abbrev pub most_hits : ℕ
+most_hits = 4294967295
+
+-- a pair of a cell and a claim is this one
+abbrev pub is_pair : ℕ → ℕ → ℕ × ℕ → Bool
+is_pair cell claim p = (p.0 == cell) && (p.1 == claim)
+
+-- the good pins on a cell, and those of them under a claim
+abbrev pub good_on : ℕ → View → ℕ
+good_on cell v = total (λ p. one_if (p.0 == cell)) v.good
+
+abbrev pub good_at : ℕ → ℕ → View → ℕ
+good_at cell claim v = total (λ p. one_if (is_pair cell claim p)) v.good
+
+-- the stray pins on a cell
+abbrev pub stray_on : ℕ → View → ℕ
+stray_on cell v = total (λ j. one_if (j == cell)) v.stray
+
+-- all pins on a cell
+abbrev pub pins_on : ℕ → View → ℕ
+pins_on cell v = good_on cell v + stray_on cell v
+
+-- all pins
+abbrev pub pins_of : View → ℕ
+pins_of v = length v.good + length v.stray
+
+-- the unused looks on a cell, and those of them that were at most the most hits
+abbrev pub unused_on : ℕ → View → ℕ
+unused_on cell v = total (λ p. one_if (p.0 == cell)) v.unused
+
+abbrev pub small_on : ℕ → View → ℕ
+small_on cell v = total (λ p. if p.0 == cell then one_if (nat_lt p.1 4294967296) else 0) v.unused
+
+-- the pairs (cell, claim) under which the view has or had a good pin: of this cell and claim, and of this claim
+abbrev pub pair_at : ℕ → ℕ → View → ℕ
+pair_at cell claim v = total (λ p. one_if (is_pair cell claim p)) v.pairs
+
+abbrev pub pair_of : ℕ → View → ℕ
+pair_of claim v = total (λ p. one_if (p.1 == claim)) v.pairs
+
+-- how many charges and looks it has under a claim
+abbrev pub charges_of : ℕ → View → ℕ
+charges_of claim v = total (λ (x : Charge). one_if (x.claim == claim)) v.charges
+
+abbrev pub looks_of : ℕ → View → ℕ
+looks_of claim v = total (λ p. one_if (p.0 == claim)) v.looks
+
+-- the claim of the newest good pin on a cell
+abbrev pub claim_on : ℕ → List (ℕ × ℕ) → ℕ
+claim_on cell [] = 0
+claim_on cell (p ∷ ps) = if p.0 == cell then p.1 else claim_on cell ps
+
+-- all that the view knows under the claim, each `before + hits` and each look, is at most the count
+pub record Capped (claim count : ℕ) (v : View) : Type 0 where
+  pub charges : AllByRecursion (λ (x : Charge). x.claim ≡ claim → x.before + x.hits ≤ count) v.charges
+  pub looks : AllByRecursion (λ (p : ℕ × ℕ). p.0 ≡ claim → p.1 ≤ count) v.looks
+
+-- what the claimer knows of a cell
+abbrev pub no_cell : Cell
+no_cell = record { ever = false; is_open = false; reset = false; claim = 0 }
+
+abbrev pub cell_or : List Cell → ℕ → Cell
+cell_or cells k = slice_index_or cells k no_cell
+
+-- 1 where the tick offered the moment to the clock
+abbrev pub offer_is : ℕ → Option ℕ → ℕ
+offer_is moment None = 0
+offer_is moment (Some offer) = one_if (offer == moment)
+
+abbrev pub offered : ℕ → Tick → ℕ
+offered moment x = offer_is moment x.offer

@@ -1,0 +1,183 @@
+ghost use Rattle.std.specs.Prelude.{◌≡◌, ℕ, ◌*◌, ◌≤◌, ◌<◌, ◌^◌, length, true, false, []};
+ghost use Rattle.counter_cells.specs.Sums.{times};
+ghost use Rattle.counter_cells.specs.Places.{words_of};
+ghost use Rattle.counter_cells.specs.Views.{most_hits, good_on, small_on, claim_on, cell_or, Capped};
+ghost use Rattle.counter_cells.specs.Steps.{ticked, pinned, good_pin, unpinned, looked, charged, claimed_by, held_by, reset_by, opened_by};
+ghost use Rattle.counter_cells.specs.declared.answers.Pin.TheVariants.{Pinned};
+ghost use Rattle.counter_cells.specs.Answers.{MatchPin, MatchReclaim, IsOther};
+ghost use Rattle.counter_cells.specs.Seats.{SitsAt, IsTaken};
+
+use crate::answers::{Pin, Reclaim, Spot};
+use crate::claimer::CellClaimer;
+use crate::naming::CellNaming;
+use crate::pass::CellPass;
+use crate::plays::{
+    Asked, Charges, Looks, Opens, Peeks, Pins, Reclaims, Resets, Ticks, Unpins, Unstrays,
+};
+use crate::rule::{CellTable, Chair};
+use crate::{gate, places};
+use rate_types::Seconds;
+use std::marker::{Brand, PhantomData};
+
+/// The gates, the counts and the clock. Threads share them by a reference.
+#[derive(Drop)]
+pub struct Cells<N: CellNaming> {
+    pub(crate) table: CellTable,
+    pub(crate) count: u32,
+    pub(crate) of: PhantomData<N>,
+    ghost named: { (table.shared.table_id ≡ N.table) × (table.shared.key ≡ N.setup) },
+    ghost size: { (count ≡ N.setup.cells) × (count ≤ 1048576) },
+    ghost words: { (table.shared.table_id.words ≡ words_of count) × (table.shared.table_id.slots ≡ 0) },
+}
+
+impl<N: CellNaming> Cells<N> {
+    pub(crate) fn new(table: CellTable, count: u32) -> Cells<N>
+        requires named { (table.shared.table_id ≡ N.table) × (table.shared.key ≡ N.setup) }
+        requires size { (count ≡ N.setup.cells) × (count ≤ 1048576) }
+        requires words { (table.shared.table_id.words ≡ words_of count) × (table.shared.table_id.slots ≡ 0) }
+    {
+        Cells {
+            table,
+            count,
+            of: PhantomData,
+        }
+    }
+
+    /// Raises the clock to `now`, where it isn't later already, and answers it: the greater of `now` and the clock.
+    pub fn tick(&self, pass: &mut CellPass<N>, now: Seconds) -> Seconds
+        ensures ticked { pass.new ≡ ticked result now pass.old }
+        ensures greatest { (now ≤ result) × (pass.old.moment ≤ result) }
+    {
+        let now = now.get();
+        let clock = self
+            .table
+            .shared
+            .fetch_max::<Ticks>(&mut pass.seat, places::CLOCK, now);
+        let moment = Seconds::capped(clock.max(now));
+        pass.moment = moment;
+        moment
+    }
+
+    // The addition of a pin, and the gate's word before it.
+    fn take_pin<A: Asked>(&self, seat: &mut Chair, spot: Spot) -> u64
+        requires seat { SitsAt N.table seat.old × (length seat.old.me.0.numbers ≡ 1) × (seat.old.me.0.stray ≡ []) }
+        requires cell { spot.cell < N.setup.cells }
+        requires room { length seat.old.me.0.good < 32 }
+        requires asked { A.claim ≡ spot.claim }
+        ensures seat { SitsAt N.table seat.new }
+        ensures pinned { seat.new.me.0 ≡ pinned spot.claim spot.cell result seat.old.me.0 }
+    {
+        self.table
+            .shared
+            .fetch_add::<Pins<A>>(seat, places::gate(spot.cell), gate::PIN)
+    }
+
+    /// Pins the cell, where its gate is open under the claim: then it stays so until the pin is given back.
+    /// `Other` comes exactly where the gate found is closed or has another claim, and shows that gate.
+    /// No pin is held then.
+    pub fn pin(&self, pass: &mut CellPass<N>, spot: Spot) -> Pin
+        requires cell { spot.cell < N.setup.cells }
+        requires room { length pass.old.good < 32 }
+        ensures pin { MatchPin result (pass.new ≡ good_pin spot.cell spot.claim pass.old) (λ claim is_open. (pass.new ≡ pass.old) × IsOther spot.claim claim is_open) }
+        ensures held { result ≡ Pinned → 1 ≤ good_on spot.cell pass.new }
+    {
+        let word = self.take_pin::<Brand>(&mut pass.seat, spot);
+        if gate::shows(word, spot.claim) {
+            pass.pins += 1;
+            return Pin::Pinned;
+        }
+        self.table
+            .shared
+            .fetch_sub::<Unstrays>(&mut pass.seat, places::gate(spot.cell), gate::PIN);
+        Pin::Other {
+            claim: gate::claim_of(word),
+            is_open: gate::is_open(word),
+        }
+    }
+
+    /// Reads the count of a pinned cell. All that the pass knows under the pin's claim is at most what is found. Until
+    /// the pass's next charge there, or its last pin there ends, the look is unused and allows one charge.
+    pub fn look(&self, pass: &mut CellPass<N>, cell: u32) -> u64
+        requires cell { cell < N.setup.cells }
+        requires pin { 1 ≤ good_on cell pass.old }
+        ensures looked { pass.new ≡ looked cell result pass.old }
+        ensures unused { result ≤ most_hits → 1 ≤ small_on cell pass.new }
+        ensures capped { Capped (claim_on cell pass.old.good) result pass.old }
+    {
+        self.table
+            .shared
+            .load::<Looks>(&mut pass.seat, places::count(cell))
+    }
+
+    /// Adds hits to the count of a pinned cell by one atomic addition, and answers the count before. The pass has looked
+    /// at the count since its last charge there, and found at most 4,294,967,295.
+    /// All that the pass knows under the pin's claim is at most what is found.
+    pub fn charge(&self, pass: &mut CellPass<N>, cell: u32, hits: u32) -> u64
+        requires cell { cell < N.setup.cells }
+        requires looked { 1 ≤ small_on cell pass.old }
+        requires hits { 1 ≤ hits }
+        ensures charged { pass.new ≡ charged cell result hits pass.old }
+        ensures capped { Capped (claim_on cell pass.old.good) result pass.old }
+    {
+        self.table
+            .shared
+            .fetch_add::<Charges>(&mut pass.seat, places::count(cell), u64::from(hits))
+    }
+
+    /// Gives one pin back.
+    pub fn unpin(&self, pass: &mut CellPass<N>, cell: u32)
+        requires cell { cell < N.setup.cells }
+        requires pin { 1 ≤ good_on cell pass.old }
+        ensures unpinned { pass.new ≡ unpinned cell pass.old }
+    {
+        self.table
+            .shared
+            .fetch_sub::<Unpins>(&mut pass.seat, places::gate(cell), gate::PIN);
+        pass.pins -= 1;
+    }
+
+    /// One try to take the cell under a claim that was never drawn. `Claimed` leaves the gate closed under it.
+    /// `Held` comes exactly where the gate read shows pins.
+    pub fn reclaim(&self, claimer: &mut CellClaimer<N>, cell: u32, next: u64) -> Reclaim
+        requires cell { cell < N.setup.cells }
+        requires next { (next < 2 ^ 40) × (times next claimer.old.drawn ≡ 0) }
+        ensures reclaim { MatchReclaim result (claimer.new ≡ claimed_by cell next claimer.old) (λ pins. (claimer.new ≡ held_by cell pins claimer.old) × (1 ≤ pins)) }
+    {
+        let place = places::gate(cell);
+        let word = self.table.shared.load::<Peeks>(&mut claimer.seat, place);
+        let bare = gate::without_pins(word);
+        let found = self
+            .table
+            .shared
+            .compare_exchange::<Reclaims>(&mut claimer.seat, place, bare, gate::closed(next));
+        if found == bare {
+            Reclaim::Claimed
+        } else {
+            Reclaim::Held {
+                pins: gate::pins_of(found),
+            }
+        }
+    }
+
+    /// Sets the count of a cell that is taken and not yet open to 0.
+    pub fn reset(&self, claimer: &mut CellClaimer<N>, cell: u32)
+        requires cell { cell < N.setup.cells }
+        requires taken { IsTaken (cell_or claimer.old.cells cell) }
+        ensures reset { claimer.new ≡ reset_by cell claimer.old }
+    {
+        self.table
+            .shared
+            .store::<Resets>(&mut claimer.seat, places::count(cell), 0);
+    }
+
+    /// Opens a cell that is taken, not yet open and reset.
+    pub fn open_cell(&self, claimer: &mut CellClaimer<N>, cell: u32)
+        requires cell { cell < N.setup.cells }
+        requires taken { IsTaken (cell_or claimer.old.cells cell) × ((cell_or claimer.old.cells cell).reset ≡ true) }
+        ensures opened { claimer.new ≡ opened_by cell claimer.old }
+    {
+        self.table
+            .shared
+            .fetch_or::<Opens>(&mut claimer.seat, places::gate(cell), gate::OPEN);
+    }
+}

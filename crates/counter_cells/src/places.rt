@@ -1,0 +1,24 @@
+// Where the words stand in the table: first the clock, then of each cell its gate and its count.
+ghost use Rattle.std.specs.Prelude.{◌≡◌, ◌≤◌};
+ghost use Rattle.counter_cells.specs.Places.{words_of, gate_at, count_at};
+
+pub(crate) const CLOCK: usize = 0;
+
+/// How many words a table of so many cells has.
+pub(crate) fn words(cells: u32) -> usize
+    ensures { result ≡ words_of cells }
+{
+    2 * cells as usize + 1
+}
+
+pub(crate) fn gate(cell: u32) -> usize
+    ensures { result ≡ gate_at cell }
+{
+    2 * cell as usize + 1
+}
+
+pub(crate) fn count(cell: u32) -> usize
+    ensures { result ≡ count_at cell }
+{
+    2 * cell as usize + 2
+}

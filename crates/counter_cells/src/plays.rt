@@ -1,0 +1,127 @@
+// What each kind of step tells the seat that makes it: how its view changes, by the word that the step found.
+use crate::view::View;
+use atomic_table::Play;
+use std::marker::{Brand, PhantomData};
+
+/// Raises the clock.
+pub(crate) struct Ticks;
+
+impl Play<u8, View> for Ticks {
+    ghost use Rattle.std.specs.Prelude.{◌≡◌, ◌≤◌, max};
+    ghost use Rattle.counter_cells.specs.Steps.{ticked};
+
+    ghost then = { λ s v n w. (w.0 ≡ ticked (max n s.first) s.first v.0) × (w.1 ≡ v.1) × (v.0.moment ≤ n) × (n ≤ 1000000000000) };
+}
+
+/// The claim that a pin asks for.
+pub(crate) trait Asked {
+    ghost use Rattle.std.specs.Prelude.{ℕ};
+
+    ghost claim: { ℕ };
+}
+
+impl Asked for Brand {
+    ghost claim = { 0 };
+}
+
+/// Takes a pin.
+pub(crate) struct Pins<A>(PhantomData<A>);
+
+impl<A: Asked> Play<u8, View> for Pins<A> {
+    ghost use Rattle.std.specs.Prelude.{◌≡◌};
+    ghost use Rattle.counter_cells.specs.Places.{gate_cell};
+    ghost use Rattle.counter_cells.specs.Steps.{pinned};
+
+    ghost then = { λ s v n w. (w.0 ≡ pinned A.claim (gate_cell s.word) n v.0) × (w.1 ≡ v.1) };
+}
+
+/// Gives a good pin back.
+pub(crate) struct Unpins;
+
+impl Play<u8, View> for Unpins {
+    ghost use Rattle.std.specs.Prelude.{◌≡◌};
+    ghost use Rattle.counter_cells.specs.Places.{gate_cell};
+    ghost use Rattle.counter_cells.specs.Steps.{unpinned};
+
+    ghost then = { λ s v n w. (w.0 ≡ unpinned (gate_cell s.word) v.0) × (w.1 ≡ v.1) };
+}
+
+/// Gives a stray pin back.
+pub(crate) struct Unstrays;
+
+impl Play<u8, View> for Unstrays {
+    ghost use Rattle.std.specs.Prelude.{◌≡◌};
+    ghost use Rattle.counter_cells.specs.Places.{gate_cell};
+    ghost use Rattle.counter_cells.specs.Steps.{unstrayed};
+
+    ghost then = { λ s v n w. (w.0 ≡ unstrayed (gate_cell s.word) v.0) × (w.1 ≡ v.1) };
+}
+
+/// Reads a count under a pin.
+pub(crate) struct Looks;
+
+impl Play<u8, View> for Looks {
+    ghost use Rattle.std.specs.Prelude.{◌≡◌};
+    ghost use Rattle.counter_cells.specs.Places.{count_cell};
+    ghost use Rattle.counter_cells.specs.Views.{Capped, claim_on};
+    ghost use Rattle.counter_cells.specs.Steps.{looked};
+
+    ghost then = { λ s v n w. (w.0 ≡ looked (count_cell s.word) n v.0) × (w.1 ≡ v.1) × Capped (claim_on (count_cell s.word) v.0.good) n v.0 };
+}
+
+/// Adds hits to a count under a pin.
+pub(crate) struct Charges;
+
+impl Play<u8, View> for Charges {
+    ghost use Rattle.std.specs.Prelude.{◌≡◌};
+    ghost use Rattle.counter_cells.specs.Places.{count_cell};
+    ghost use Rattle.counter_cells.specs.Views.{Capped, claim_on};
+    ghost use Rattle.counter_cells.specs.Steps.{charged};
+
+    ghost then = { λ s v n w. (w.0 ≡ charged (count_cell s.word) n s.first v.0) × (w.1 ≡ v.1) × Capped (claim_on (count_cell s.word) v.0.good) n v.0 };
+}
+
+/// The claimer reads a gate, which shows the claim and the open bit that it knows.
+pub(crate) struct Peeks;
+
+impl Play<u8, View> for Peeks {
+    ghost use Rattle.std.specs.Prelude.{◌≡◌};
+    ghost use Rattle.counter_cells.specs.Places.{gate_cell};
+    ghost use Rattle.counter_cells.specs.Claiming.{Peeked};
+
+    ghost then = { λ s v n w. Peeked (gate_cell s.word) v.0 n w.0 × (w.1 ≡ v.1) };
+}
+
+/// The claimer takes a gate that shows no pin.
+pub(crate) struct Reclaims;
+
+impl Play<u8, View> for Reclaims {
+    ghost use Rattle.std.specs.Prelude.{◌≡◌};
+    ghost use Rattle.counter_cells.specs.Gates.{claim_shown};
+    ghost use Rattle.counter_cells.specs.Places.{gate_cell};
+    ghost use Rattle.counter_cells.specs.Claiming.{Reclaimed};
+
+    ghost then = { λ s v n w. Reclaimed (gate_cell s.word) s.first (claim_shown s.second) v.0 n w.0 × (w.1 ≡ v.1) };
+}
+
+/// The claimer sets the count of a cell that it has taken to 0.
+pub(crate) struct Resets;
+
+impl Play<u8, View> for Resets {
+    ghost use Rattle.std.specs.Prelude.{◌≡◌};
+    ghost use Rattle.counter_cells.specs.Places.{count_cell};
+    ghost use Rattle.counter_cells.specs.Steps.{reset_by};
+
+    ghost then = { λ s v n w. (w.0 ≡ reset_by (count_cell s.word) v.0) × (w.1 ≡ v.1) };
+}
+
+/// The claimer opens a gate.
+pub(crate) struct Opens;
+
+impl Play<u8, View> for Opens {
+    ghost use Rattle.std.specs.Prelude.{◌≡◌};
+    ghost use Rattle.counter_cells.specs.Places.{gate_cell};
+    ghost use Rattle.counter_cells.specs.Steps.{opened_by};
+
+    ghost then = { λ s v n w. (w.0 ≡ opened_by (gate_cell s.word) v.0) × (w.1 ≡ v.1) };
+}
