@@ -2,8 +2,9 @@ ghost use Rattle.std.specs.Prelude.{◌≡◌, ℕ, ◌*◌, ◌≤◌, ◌<◌,
 ghost use Rattle.counter_cells.specs.Sums.{times};
 ghost use Rattle.counter_cells.specs.Places.{words_of};
 ghost use Rattle.counter_cells.specs.Views.{most_hits, good_on, small_on, claim_on, cell_or, Capped};
-ghost use Rattle.counter_cells.specs.Steps.{ticked, pinned, good_pin, unpinned, looked, charged, claimed_by, held_by, reset_by, opened_by};
+ghost use Rattle.counter_cells.specs.Steps.{ticked, pinned, good_pin, unpinned, looked, charged, taken, claimed_by, held_by, reset_by, opened_by};
 ghost use Rattle.counter_cells.specs.declared.answers.Pin.TheVariants.{Pinned};
+ghost use Rattle.counter_cells.specs.declared.answers.Reclaim.TheVariants.{Claimed};
 ghost use Rattle.counter_cells.specs.Answers.{MatchPin, MatchReclaim, IsOther};
 ghost use Rattle.counter_cells.specs.Seats.{SitsAt, IsTaken};
 
@@ -49,10 +50,8 @@ impl<N: CellNaming> Cells<N> {
         ensures greatest { (now ≤ result) × (pass.old.moment ≤ result) }
     {
         let now = now.get();
-        let clock = self
-            .table
-            .shared
-            .fetch_max::<Ticks>(&mut pass.seat, places::CLOCK, now);
+        let words = &self.table.shared;
+        let clock = words.fetch_max::<Ticks>(&mut pass.seat, places::CLOCK, now);
         let moment = Seconds::capped(clock.max(now));
         pass.moment = moment;
         moment
@@ -67,9 +66,8 @@ impl<N: CellNaming> Cells<N> {
         ensures seat { SitsAt N.table seat.new }
         ensures pinned { seat.new.me.0 ≡ pinned spot.claim spot.cell result seat.old.me.0 }
     {
-        self.table
-            .shared
-            .fetch_add::<Pins<A>>(seat, places::gate(spot.cell), gate::PIN)
+        let words = &self.table.shared;
+        words.fetch_add::<Pins<A>>(seat, places::gate(spot.cell), gate::PIN)
     }
 
     /// Pins the cell, where its gate is open under the claim: then it stays so until the pin is given back.
@@ -86,9 +84,8 @@ impl<N: CellNaming> Cells<N> {
             pass.pins += 1;
             return Pin::Pinned;
         }
-        self.table
-            .shared
-            .fetch_sub::<Unstrays>(&mut pass.seat, places::gate(spot.cell), gate::PIN);
+        let words = &self.table.shared;
+        words.fetch_sub::<Unstrays>(&mut pass.seat, places::gate(spot.cell), gate::PIN);
         Pin::Other {
             claim: gate::claim_of(word),
             is_open: gate::is_open(word),
@@ -104,9 +101,8 @@ impl<N: CellNaming> Cells<N> {
         ensures unused { result ≤ most_hits → 1 ≤ small_on cell pass.new }
         ensures capped { Capped (claim_on cell pass.old.good) result pass.old }
     {
-        self.table
-            .shared
-            .load::<Looks>(&mut pass.seat, places::count(cell))
+        let words = &self.table.shared;
+        words.load::<Looks>(&mut pass.seat, places::count(cell))
     }
 
     /// Adds hits to the count of a pinned cell by one atomic addition, and answers the count before. The pass has looked
@@ -119,9 +115,8 @@ impl<N: CellNaming> Cells<N> {
         ensures charged { pass.new ≡ charged cell result hits pass.old }
         ensures capped { Capped (claim_on cell pass.old.good) result pass.old }
     {
-        self.table
-            .shared
-            .fetch_add::<Charges>(&mut pass.seat, places::count(cell), u64::from(hits))
+        let words = &self.table.shared;
+        words.fetch_add::<Charges>(&mut pass.seat, places::count(cell), u64::from(hits))
     }
 
     /// Gives one pin back.
@@ -130,9 +125,8 @@ impl<N: CellNaming> Cells<N> {
         requires pin { 1 ≤ good_on cell pass.old }
         ensures unpinned { pass.new ≡ unpinned cell pass.old }
     {
-        self.table
-            .shared
-            .fetch_sub::<Unpins>(&mut pass.seat, places::gate(cell), gate::PIN);
+        let words = &self.table.shared;
+        words.fetch_sub::<Unpins>(&mut pass.seat, places::gate(cell), gate::PIN);
         pass.pins -= 1;
     }
 
@@ -141,10 +135,12 @@ impl<N: CellNaming> Cells<N> {
     pub fn reclaim(&self, claimer: &mut CellClaimer<N>, cell: u32, next: u64) -> Reclaim
         requires cell { cell < N.setup.cells }
         requires next { (next < 2 ^ 40) × (times next claimer.old.drawn ≡ 0) }
+        ensures taken { result ≡ Claimed → cell_or claimer.new.cells cell ≡ taken next }
         ensures reclaim { MatchReclaim result (claimer.new ≡ claimed_by cell next claimer.old) (λ pins. (claimer.new ≡ held_by cell pins claimer.old) × (1 ≤ pins)) }
     {
         let place = places::gate(cell);
-        let word = self.table.shared.load::<Peeks>(&mut claimer.seat, place);
+        let words = &self.table.shared;
+        let word = words.load::<Peeks>(&mut claimer.seat, place);
         let bare = gate::without_pins(word);
         let found = self
             .table
@@ -164,10 +160,10 @@ impl<N: CellNaming> Cells<N> {
         requires cell { cell < N.setup.cells }
         requires taken { IsTaken (cell_or claimer.old.cells cell) }
         ensures reset { claimer.new ≡ reset_by cell claimer.old }
+        ensures marked { cell_or claimer.new.cells cell ≡ record (cell_or claimer.old.cells cell) { reset = true } }
     {
-        self.table
-            .shared
-            .store::<Resets>(&mut claimer.seat, places::count(cell), 0);
+        let words = &self.table.shared;
+        words.store::<Resets>(&mut claimer.seat, places::count(cell), 0);
     }
 
     /// Opens a cell that is taken, not yet open and reset.
@@ -176,8 +172,7 @@ impl<N: CellNaming> Cells<N> {
         requires taken { IsTaken (cell_or claimer.old.cells cell) × ((cell_or claimer.old.cells cell).reset ≡ true) }
         ensures opened { claimer.new ≡ opened_by cell claimer.old }
     {
-        self.table
-            .shared
-            .fetch_or::<Opens>(&mut claimer.seat, places::gate(cell), gate::OPEN);
+        let words = &self.table.shared;
+        words.fetch_or::<Opens>(&mut claimer.seat, places::gate(cell), gate::OPEN);
     }
 }
