@@ -1,0 +1,9 @@
+use Rattle.std.proofs.Common.{◌≡◌, ℕ, ◌≤◌}
+use Rattle.counter_cells.specs.Sums.{times}
+use Rattle.counter_cells.proofs.tests.take_in_turns.Given as goal
+
+abbrev pub invariant-loop-round : goal.invariant-loop-round
+invariant-loop-round g l = record {
+  next : l.next ≤ l.round;
+  undrawn : (c : ℕ) → l.next ≤ c → times c l.claimer.drawn ≡ 0;
+}
