@@ -1,7 +1,8 @@
 -- The word of a gate: a claim below 2 ^ 40, a bit that is 1 where the gate is open, and a number of pins.
--- Only this file, src/gate.rt and proofs/Gates.antt know how the three are packed.
+-- Of the code only src/gate.rt knows how the three are packed.
 use Rattle.std.specs.Prelude.{ℕ, ◌+◌, ◌*◌, ◌/◌, ◌%◌, ◌==◌, ◌&&◌, Bool}
 
+-- the word of a claim, a bit and pins
 abbrev pub gate_word : ℕ → ℕ → ℕ → ℕ
 gate_word claim bit pins = (claim * 65536 + pins) * 2 + bit
 
