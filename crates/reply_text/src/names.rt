@@ -1,0 +1,33 @@
+// The names of units and codes.
+ghost use Rattle.std.specs.Prelude.{◌≡◌};
+ghost use Rattle.reply_text.specs.Texts as texts;
+
+use rate_types::Unit;
+use rls_core::Code;
+
+pub fn unit_name(unit: Unit) -> &'static str
+    ensures { result.now ≡ texts.unit_name unit }
+{
+    match unit {
+        Unit::Second => "SECOND",
+        Unit::Minute => "MINUTE",
+        Unit::Hour => "HOUR",
+        Unit::Day => "DAY",
+    }
+}
+
+pub fn code_name(code: Code) -> &'static str
+    ensures { result.now ≡ texts.code_name code }
+{
+    match code {
+        Code::Ok => "OK",
+        Code::OverLimit => "OVER_LIMIT",
+    }
+}
+
+// The overall code.
+pub fn overall_code(over: bool) -> Code
+    ensures { result ≡ texts.overall_code over }
+{
+    if over { Code::OverLimit } else { Code::Ok }
+}

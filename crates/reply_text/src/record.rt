@@ -1,0 +1,80 @@
+ghost use Rattle.std.specs.Prelude.{◌≡◌, ◌++◌, ◌∷◌, [], OnOk, OnErr};
+
+use crate::Statuses;
+use rate_types::{OutOfMemory, Refused, Seconds};
+use std::alloc::Global;
+use std::marker::Model;
+
+/// What came of a line of a script.
+#[derive(Drop)]
+pub enum Outcome {
+    /// A check was answered.
+    Checked(Statuses),
+    /// A tick offered this moment.
+    Ticked(Seconds),
+    /// The line was refused and had no other effect.
+    Bad(Refused),
+    /// A check was refused: `live` counters have cells, `held` cells are held, and `wanted` counters have none.
+    Full { live: u32, held: u32, wanted: u32 },
+}
+
+/// What came of a line, at which moment and by which version and worker. Lines are numbered from 1, workers and
+/// versions from 0.
+#[derive(Drop)]
+pub struct Record {
+    pub line: u32,
+    pub worker: u32,
+    pub version: u32,
+    pub moment: Seconds,
+    pub outcome: Outcome,
+}
+
+impl Model for Record {
+    ghost use Rattle.reply_text.specs.Shown.{Shown};
+
+    ghost Value = { Shown };
+
+    ghost view = { λ r. record { line = r.line; worker = r.worker; version = r.version; moment = r.moment; outcome = r.outcome } };
+}
+
+/// A list of records.
+#[derive(Drop)]
+pub struct Records {
+    items: Vec<Record>,
+}
+
+impl Model for Records {
+    ghost use Rattle.std.specs.Prelude.{List};
+    ghost use Rattle.reply_text.specs.declared.record.Record.{Record};
+
+    ghost Value = { List Record };
+
+    ghost view = { λ r. r.items.items };
+}
+
+impl Records {
+    /// No record. It takes no memory.
+    pub fn new(alloc: Global) -> Records
+        ensures { result ≡ [] }
+    {
+        Records {
+            items: Vec::new(alloc),
+        }
+    }
+
+    /// The records in order.
+    pub fn items(&self) -> &[Record]
+        ensures { result.now ≡ self.now }
+    {
+        &self.items
+    }
+
+    /// Adds a record at the end.
+    pub fn push(&mut self, next: Record) -> Result<(), OutOfMemory>
+        ensures ok { OnOk result (self.new ≡ self.old ++ next ∷ []) }
+        ensures err { OnErr result (self.new ≡ self.old) }
+    {
+        self.items.push(next)?;
+        Ok(())
+    }
+}
