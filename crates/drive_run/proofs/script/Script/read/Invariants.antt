@@ -1,0 +1,12 @@
+use Rattle.std.proofs.Common.{◌≡◌, ◌≤◌, ◌++◌, map, length}
+use Rattle.drive_run.specs.Script.{cut, line_of, script_of}
+use Rattle.drive_run.proofs.script.Script.read.Given as goal
+
+abbrev pub invariant-lines : goal.invariant-lines
+invariant-lines l = record {
+  read : l.lines.items ++ map line_of (cut l.rest) ≡ script_of l.bytes;
+  within : length l.lines.items ≤ 1048576;
+}
+
+abbrev pub decreases-lines : goal.decreases-lines
+decreases-lines l = length l.rest
