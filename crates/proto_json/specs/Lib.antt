@@ -1,2 +1,7 @@
 pub mod Said
 pub mod Document
+pub mod Fields
+pub mod Kinds
+pub mod Lists
+pub mod Held
+pub mod Laws

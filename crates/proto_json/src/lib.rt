@@ -1,7 +1,18 @@
 //! JSON messages: what bytes read as, and the fields of an object, after the proto3 JSON mapping.
 //!
 //! `specs/` says what a part of a message says: the list of all its faults, each with its place and its number, and
-//! the value beside them. A reader answers the first fault, or the value where there is none.
+//! the value beside them. A reader answers the first fault, or the value where there is none. A reader of a message
+//! takes the fields of its object in their order, each by its two spellings, and ends the object:
+//!
+//! ```text
+//! let mut fields = Fields::of(value, place)?;
+//! let key = fields.take_text("key", "key")?;
+//! let shadow = fields.take_bool("shadowMode", "shadow_mode")?;
+//! let place = fields.end()?;
+//! ```
+//!
+//! Each take equals the field's definition (`Fields.antt`, `Kinds.antt`), so that the reader equals its message's, which
+//! is the same list of takes; `Laws.antt` has the laws for that.
 //!
 //! Limits: `serde_json` refuses more than 127 arrays and objects inside one another, and reads a name that stands
 //! twice with one spelling as the later one.
@@ -9,6 +20,9 @@
 
 mod bytes;
 mod fault;
+mod fields;
+mod kinds;
 
 pub use bytes::parse;
 pub use fault::FormFault;
+pub use fields::Fields;

@@ -1,0 +1,27 @@
+-- What the values of this crate stand for, and what a take of a field answers.
+use Rattle.std.specs.Prelude.{List, ℕ, Option, Result}
+use Rattle.serde_json.specs.Data.{Data}
+use Rattle.serde_json.specs.View.{view, members_view}
+use Rattle.proto_json.specs.Said.{Said, Answers, reading_of}
+use Rattle.proto_json.specs.Fields.{Object, Name, Found, absent, once, twice, take}
+use Rattle.proto_json.specs.declared.fault.FormFault.{FormFault}
+use Rattle.proto_json.specs.declared.fields.Fields.{Fields}
+use Rattle.proto_json.specs.declared.fields.Standing.{Standing}
+use Rattle.proto_json.specs.declared.fields.Standing.TheVariants as standing
+
+-- the object that a `Fields` holds: its place, and the members that weren't taken
+unfoldable pub object_of : Fields → Object
+object_of f = record { place = f.place; members = members_view f.members.entries }
+
+-- a field by its two spellings
+abbrev pub name_of : List ℕ → List ℕ → Name
+name_of camel plain = record { camel = camel; plain = plain }
+
+abbrev pub found_of : Standing → Found
+found_of standing.Absent = absent
+found_of (standing.Once spelling value) = once spelling.now (view value)
+found_of standing.Twice = twice
+
+-- A take answers what the field says, as a value of this kind, and leaves the object without the field.
+abbrev pub Takes : {R X : Type 0} → (Option R → Option X) → (List ℕ → Data → Said (Option X)) → Name → Object → Result (Option R) FormFault → Object → Type 0
+Takes see kind name before result left = Answers (λ o. (see o, left)) result (reading_of (take kind name before))
