@@ -26,3 +26,6 @@ mod kinds;
 pub use bytes::parse;
 pub use fault::FormFault;
 pub use fields::Fields;
+
+#[cfg(test)]
+mod tests;
