@@ -1,0 +1,5 @@
+pub mod Seen
+pub mod Counting
+pub mod Walks
+pub mod Trees
+pub mod Lawful

@@ -1,0 +1,76 @@
+-- The faults of a configuration's trees, in order: tree by tree, first those of its domain, then its nodes in preorder.
+use Rattle.std.specs.Prelude.{◌≡◌, ℕ, ◌+◌, ◌&&◌, List, [], ◌∷◌, ◌++◌, length, map, Bool, true, false, nat_lt, nat_le, if◌then◌else◌, Result, Ok, Err, ⊤}
+use Rattle.std.specs.List.{list_any}
+use Rattle.std.specs.Option.{option_eq}
+use Rattle.std.specs.Str.{bytes_eq}
+use Rattle.rate_types.specs.declared.refused.Refused.{Refused}
+use Rattle.rate_types.specs.declared.refused.At.{At}
+use Rattle.descriptor_tree.specs.declared.fault.ConfigFault.{ConfigFault}
+use Rattle.descriptor_tree.specs.declared.fault.ConfigFault.TheVariants as fault
+use Rattle.descriptor_tree.specs.Trees.{NodeFields, DomainTree}
+use Rattle.descriptor_tree.specs.Nodes.{Standing, tree_nodes}
+
+abbrev pub is_empty : List ℕ → Bool
+is_empty [] = true
+is_empty (x ∷ xs) = false
+
+-- two nodes of one key, and of one value or likewise none
+abbrev pub is_twin : NodeFields → NodeFields → Bool
+is_twin one other = bytes_eq one.key other.key && option_eq bytes_eq one.value other.value
+
+-- this number where the test holds
+abbrev pub where_true : Bool → ℕ → List ℕ
+where_true test number = if test then number ∷ [] else []
+
+-- The numbers of a node's faults: 12 EmptyKey; 13 TwoNodes, where an earlier sibling is its twin; 16 TooDeep above level
+-- 32; 17 TooManyNodes from the 65,537th node of all trees on.
+abbrev pub node_numbers : Bool → Bool → ℕ → ℕ → List ℕ
+node_numbers keyless twin level number = where_true keyless 12 ++ where_true twin 13 ++ where_true (nat_lt 32 level) 16 ++ where_true (nat_le 65536 number) 17
+
+-- the faults of a node of this number, at its place
+abbrev pub node_faults : ℕ → Standing → List Refused
+node_faults number s = map (λ n. record { at = s.place; number = n }) (node_numbers (is_empty s.node.key) (list_any (λ e. is_twin e s.node) s.earlier) s.level number)
+
+-- the faults of nodes one after the other, the first of this number
+abbrev pub nodes_faults : ℕ → List Standing → List Refused
+nodes_faults number [] = []
+nodes_faults number (s ∷ more) = node_faults number s ++ nodes_faults (number + 1) more
+
+-- The numbers of a tree's own faults: 10 EmptyDomain, and 11 TwoDomains, where an earlier tree has this domain.
+abbrev pub domain_numbers : Bool → Bool → List ℕ
+domain_numbers nameless twin = where_true nameless 10 ++ where_true twin 11
+
+-- the faults of a tree's domain, at the empty place
+abbrev pub domain_faults : List (List ℕ) → DomainTree → List Refused
+domain_faults earlier tree = map (λ n. record { at = []; number = n }) (domain_numbers (is_empty tree.domain) (list_any (λ d. bytes_eq d tree.domain) earlier))
+
+-- a fault with its file
+abbrev pub in_file : ℕ → Refused → At
+in_file file refused = record { file = file; refused = refused }
+
+-- the faults of trees one after the other: `file` is the first one's index, `earlier` are the domains before it, `number`
+-- that of its first node
+abbrev pub trees_faults : ℕ → List (List ℕ) → ℕ → List DomainTree → List At
+trees_faults file earlier number [] = []
+trees_faults file earlier number (tree ∷ more) =
+    map (in_file file) (domain_faults earlier tree ++ nodes_faults number (tree_nodes tree))
+    ++ trees_faults (file + 1) (tree.domain ∷ earlier) (number + length (tree_nodes tree)) more
+
+-- all faults of a configuration's trees
+unfoldable pub config_faults : List DomainTree → List At
+config_faults trees = trees_faults 0 [] 0 trees
+
+-- the first fault, or this value where there is none
+abbrev pub first_or : {X : Type 0} → List At → X → Result X At
+first_or [] x = Ok x
+first_or (fault ∷ more) x = Err fault
+
+-- A call answers the first fault, or the value as `see` sees it; want of memory is free.
+abbrev pub Answers : {X Y : Type 0} → (X → Y) → Result X ConfigFault → Result Y At → Type 0
+Answers see (Ok x) read = read ≡ Ok (see x)
+Answers see (Err (fault.Refused at)) read = read ≡ Err at
+Answers see (Err fault.OutOfMemory) read = ⊤
+
+-- the first fault of these nodes of a file, the first of them of this number, or the number of the next node
+abbrev pub counted : ℕ → ℕ → List Standing → Result ℕ At
+counted file number nodes = first_or (map (in_file file) (nodes_faults number nodes)) (number + length nodes)

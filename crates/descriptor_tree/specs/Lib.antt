@@ -1,0 +1,5 @@
+pub mod Trees
+pub mod Nodes
+pub mod Faults
+pub mod Config
+pub mod Views
