@@ -1,0 +1,35 @@
+-- The reading of configuration files: the first of all their faults, or their trees.
+use Rattle.std.specs.Prelude.{ℕ, ◌+◌, List, [], ◌∷◌, ◌++◌, map, Result}
+use Rattle.std.specs.Option.{option_to_list}
+use Rattle.rate_types.specs.declared.refused.At.{At}
+use Rattle.proto_json.specs.Said as said
+use Rattle.proto_json.specs.declared.fault.FormFault.{FormFault}
+use Rattle.proto_json.specs.declared.fault.FormFault.TheVariants as form
+use Rattle.descriptor_tree.specs.declared.fault.ConfigFault.{ConfigFault}
+use Rattle.descriptor_tree.specs.declared.fault.ConfigFault.TheVariants as config
+use Rattle.descriptor_tree.specs.Trees.{DomainTree}
+use Rattle.descriptor_tree.specs.Faults.{in_file, config_faults, first_or}
+use Rattle.config_json.specs.Trees.{file}
+
+-- the faults of reading the files one after the other, the first of this index
+abbrev pub file_faults : ℕ → List (List ℕ) → List At
+file_faults index [] = []
+file_faults index (bytes ∷ more) = map (in_file index) (said.faults_of (file bytes)) ++ file_faults (index + 1) more
+
+-- the trees that the files spell
+abbrev pub trees_of : List (List ℕ) → List DomainTree
+trees_of [] = []
+trees_of (bytes ∷ more) = option_to_list (said.value_of (file bytes)) ++ trees_of more
+
+-- all faults of the files, in order: those of reading them, then those of their trees
+unfoldable pub faults_of : List (List ℕ) → List At
+faults_of files = file_faults 0 files ++ config_faults (trees_of files)
+
+-- the first of all faults, or the trees where there is none
+unfoldable pub reading_of : List (List ℕ) → Result (List DomainTree) At
+reading_of files = first_or (faults_of files) (trees_of files)
+
+-- a fault of reading a file of this index
+abbrev pub placed : ℕ → FormFault → ConfigFault
+placed index (form.Refused refused) = config.Refused (in_file index refused)
+placed index form.OutOfMemory = config.OutOfMemory

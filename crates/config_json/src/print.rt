@@ -1,0 +1,221 @@
+ghost use Rattle.std.specs.Prelude.{◌≡◌, IfOk, OnOk, Some, true, option_map, codes, ◌∷◌, [], map, string_bytes};
+ghost use Rattle.serde_json.specs.Data.{string, boolean, object};
+ghost use Rattle.serde_json.specs.View.{view, items_view, members_view};
+ghost use Rattle.descriptor_tree.specs.Trees.{node_view, forest_view, fields_of, tree_view};
+ghost use Rattle.config_json.specs.Printed as printed;
+ghost use Rattle.config_json.specs.Put.{put_there};
+
+use descriptor_tree::{Forest, Node, Policy, Texts, Tree};
+use rate_types::{OutOfMemory, Text, Unit};
+use serde_json::{Map, Number, Value};
+use std::alloc::Global;
+
+// Puts a member among others, where its value is there.
+fn put(
+    alloc: Global,
+    members: &mut Map<String, Value>,
+    name: &str,
+    value: Option<Value>,
+) -> Result<(), OutOfMemory>
+    ensures { OnOk result (members_view members.new.entries
+        ≡ put_there name.now (option_map view value) (members_view members.old.entries)) }
+{
+    match value {
+        Some(value) => {
+            let name = String::from_str(alloc, name)?;
+            members.insert(name, value)?;
+            Ok(())
+        }
+        None => Ok(()),
+    }
+}
+
+fn text(alloc: Global, text: &str) -> Result<Value, OutOfMemory>
+    ensures { IfOk result (λ v. view v ≡ string text.now) }
+{
+    Ok(Value::String(String::from_str(alloc, text)?))
+}
+
+// A text that isn't empty.
+fn text_there(alloc: Global, value: &str) -> Result<Option<Value>, OutOfMemory>
+    ensures { IfOk result (λ o. option_map view o ≡ printed.text_there value.now) }
+{
+    if value.is_empty() {
+        return Ok(None);
+    }
+    let value = text(alloc, value)?;
+    Ok(Some(value))
+}
+
+// A text where there is one.
+fn text_of(alloc: Global, value: &Option<Text>) -> Result<Option<Value>, OutOfMemory>
+    ensures { IfOk result (λ o. option_map view o ≡ option_map string value.now) }
+{
+    match value {
+        Some(value) => {
+            let value = text(alloc, value.as_str())?;
+            Ok(Some(value))
+        }
+        None => Ok(None),
+    }
+}
+
+// A number that isn't 0.
+fn number_there(value: u32) -> Option<Value>
+    ensures { option_map view result ≡ printed.number_there value }
+{
+    if value == 0 {
+        None
+    } else {
+        Some(Value::Number(Number::from(value)))
+    }
+}
+
+fn true_there(value: bool) -> Option<Value>
+    ensures { option_map view result ≡ printed.true_there value }
+{
+    if value { Some(Value::Bool(true)) } else { None }
+}
+
+pub fn list_there(items: Vec<Value>) -> Option<Value>
+    ensures { option_map view result ≡ printed.list_there (items_view items.items) }
+{
+    if items.is_empty() {
+        None
+    } else {
+        Some(Value::Array(items))
+    }
+}
+
+fn unit_text(alloc: Global, unit: Unit) -> Result<Value, OutOfMemory>
+    ensures { IfOk result (λ v. view v ≡ printed.unit_json unit) }
+{
+    match unit {
+        Unit::Second => text(alloc, "SECOND"),
+        Unit::Minute => text(alloc, "MINUTE"),
+        Unit::Hour => text(alloc, "HOUR"),
+        Unit::Day => text(alloc, "DAY"),
+    }
+}
+
+// An object `{"name":n}`.
+#[tactic(auto, using(crate::proofs::Printing::put_name))]
+fn named(alloc: Global, name: &str) -> Result<Value, OutOfMemory>
+    ensures { IfOk result (λ v. view v
+        ≡ object (printed.members_there ((codes "name", Some (string name.now)) ∷ []))) }
+{
+    let mut members = Map::new(alloc);
+    let name = text(alloc, name)?;
+    put(alloc, &mut members, "name", Some(name))?;
+    Ok(Value::Object(members))
+}
+
+// The names of the rules that a rule replaces, where there are any.
+fn replaces(alloc: Global, names: &Texts) -> Result<Option<Value>, OutOfMemory>
+    ensures { IfOk result (λ o. option_map view o ≡ printed.list_there (printed.names_json names.now)) }
+{
+    let names = names.items();
+    let mut items = Vec::new(alloc);
+    'names: for index in 0..names.len() {
+        let item = named(alloc, names[index].as_str())?;
+        items.push(item)?;
+    }
+    Ok(list_there(items))
+}
+
+// A rule with a limit.
+#[tactic(auto, using(crate::proofs::Printing::put_limited))]
+fn limited(
+    alloc: Global,
+    name: Option<Value>,
+    replaces: Option<Value>,
+    limit: u32,
+    unit: Value,
+) -> Result<Value, OutOfMemory>
+    ensures { IfOk result (λ v. view v ≡ object (printed.members_there (
+        (codes "name", option_map view name)
+        ∷ (codes "replaces", option_map view replaces)
+        ∷ (codes "requestsPerUnit", printed.number_there limit)
+        ∷ (codes "unit", Some (view unit))
+        ∷ []))) }
+{
+    let mut members = Map::new(alloc);
+    put(alloc, &mut members, "unit", Some(unit))?;
+    put(alloc, &mut members, "requestsPerUnit", number_there(limit))?;
+    put(alloc, &mut members, "replaces", replaces)?;
+    put(alloc, &mut members, "name", name)?;
+    Ok(Value::Object(members))
+}
+
+// A rule without a limit.
+#[tactic(auto, using(crate::proofs::Printing::put_unlimited))]
+fn unlimited(
+    alloc: Global,
+    name: Option<Value>,
+    replaces: Option<Value>,
+) -> Result<Value, OutOfMemory>
+    ensures { IfOk result (λ v. view v ≡ object (printed.members_there (
+        (codes "name", option_map view name)
+        ∷ (codes "replaces", option_map view replaces)
+        ∷ (codes "unlimited", Some (boolean true))
+        ∷ []))) }
+{
+    let mut members = Map::new(alloc);
+    put(alloc, &mut members, "unlimited", Some(Value::Bool(true)))?;
+    put(alloc, &mut members, "replaces", replaces)?;
+    put(alloc, &mut members, "name", name)?;
+    Ok(Value::Object(members))
+}
+
+// A node's rule, where it has one.
+fn rule_there(alloc: Global, node: &Node) -> Result<Option<Value>, OutOfMemory>
+    ensures { IfOk result
+        (λ o. option_map view o ≡ printed.rule_there (fields_of (node_view node.now))) }
+{
+    let Some(policy) = node.policy else {
+        return Ok(None);
+    };
+    let name = text_of(alloc, &node.name)?;
+    let replaces = replaces(alloc, &node.replaces)?;
+    let rule = match policy {
+        Policy::Limited { limit, unit } => {
+            let unit = unit_text(alloc, unit)?;
+            limited(alloc, name, replaces, limit, unit)?
+        }
+        Policy::Unlimited => unlimited(alloc, name, replaces)?,
+    };
+    Ok(Some(rule))
+}
+
+/// A node's object, with the list of the nodes below it.
+#[tactic(auto, using(crate::proofs::Printing::put_node))]
+pub fn node_value(alloc: Global, node: &Node, below: Option<Value>) -> Result<Value, OutOfMemory>
+    ensures { IfOk result (λ v. view v ≡ object (printed.members_there
+        (printed.node_members (fields_of (node_view node.now)) (option_map view below)))) }
+{
+    let key = text_there(alloc, node.key.as_str())?;
+    let rule = rule_there(alloc, node)?;
+    let value = text_of(alloc, &node.value)?;
+    let mut members = Map::new(alloc);
+    put(alloc, &mut members, "value", value)?;
+    put(alloc, &mut members, "shadowMode", true_there(node.shadow))?;
+    put(alloc, &mut members, "rateLimit", rule)?;
+    put(alloc, &mut members, "key", key)?;
+    put(alloc, &mut members, "descriptors", below)?;
+    Ok(Value::Object(members))
+}
+
+/// A file's object, with the list of its nodes.
+#[tactic(auto, using(crate::proofs::Printing::put_file))]
+pub fn tree_value(alloc: Global, below: Option<Value>, domain: &str) -> Result<Value, OutOfMemory>
+    ensures { IfOk result (λ v. view v ≡ object (printed.members_there (
+        (codes "descriptors", option_map view below)
+        ∷ (codes "domain", printed.text_there domain.now)
+        ∷ []))) }
+{
+    let domain = text_there(alloc, domain)?;
+    let mut members = Map::new(alloc);
+    put(alloc, &mut members, "domain", domain)?;
+    put(alloc, &mut members, "descriptors", below)?;
+    Ok(Value::Object(members))
+}
