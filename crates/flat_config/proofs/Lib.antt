@@ -1,0 +1,2 @@
+pub mod LevelWalk
+pub mod TreesWalk
