@@ -6,3 +6,8 @@ pub mod Formed
 pub mod Files
 pub mod Printing
 pub mod Plain
+pub mod Chains
+pub mod Back
+pub mod BackRules
+pub mod BackTrees
+pub mod BackConfig

@@ -1,5 +1,5 @@
 -- Values that are built member by member.
-use Rattle.std.proofs.Common.{◌≡◌, ℕ, ◌+◌, ◌==◌, List, [], ◌∷◌, ◌++◌, map, length, take, ◌<◌, add-one, get_or, false, Option, Some, None, codes, Less, nat_cmp, true≢false, refl, sym, ap, subst, ◌∙◌}
+use Rattle.std.proofs.Common.{◌≡◌, ℕ, ◌+◌, ◌≤◌, ◌==◌, List, [], ◌∷◌, ◌++◌, map, length, take, ◌<◌, add-one, get_or, false, Option, Some, None, codes, Less, nat_cmp, true≢false, refl, sym, ap, subst, ◌∙◌}
 use Rattle.std.specs.Cmp.Lexicographic.{slice_cmp}
 use Rattle.serde_json.specs.Data.{Data, array, string, object, Items, no_items, item, Members, no_members, member}
 use Rattle.serde_json.specs.View.{view, items_view}
@@ -9,6 +9,9 @@ use Rattle.descriptor_tree.specs.declared.node.Node.{Node}
 use Rattle.descriptor_tree.specs.declared.tree.Tree.{Tree}
 use Rattle.std.proofs.Math.Seq.{take-suc}
 use Rattle.std.proofs.lemmas.List.{map_push}
+use Rattle.std.specs.List.{All}
+use Rattle.std.proofs.lemmas.List.Elements.{All-push}
+use Rattle.config_json.specs.Bounds.{IsBoundedBranch, AreBounded}
 use Rattle.config_json.specs.Put.{put_there}
 use Rattle.config_json.specs.Printed.{and_member, members_there, list_there, names_json, branch_json, branches_json}
 
@@ -118,3 +121,19 @@ texts_push texts text trees i tree print so_far here within at =
     ap (λ ts. ts ++ text ∷ []) so_far ∙ ap (λ x. map print (map tree_view (take i trees)) ++ x ∷ []) here
     ∙ sym (ap (map print) (map_push tree_view (take i trees) tree) ∙ map_push print (map tree_view (take i trees)) (tree_view tree))
     ∙ ap (λ (ts : List Tree). map print (map tree_view ts)) (sym more)
+
+bounded_last : (bs : List Branch) (b : Branch) → AreBounded (branches_of bs) → IsBoundedBranch b → AreBounded (branches_of (bs ++ b ∷ []))
+bounded_last [] b front last = (last, tt)
+bounded_last (x ∷ bs) b front last = (front.0, bounded_last bs b front.1 last)
+
+-- nodes within their bounds, and one more
+pub bounded_push : (nodes : List Node) (i : ℕ) (node : Node) → AreBounded (branches_of (map node_view (take i nodes))) → IsBoundedBranch (node_view node) → i < length nodes → node ≡ get_or nodes i node → AreBounded (branches_of (map node_view (take (i + 1) nodes)))
+bounded_push nodes i node so_far here within at =
+    let more : take (i + 1) nodes ≡ take i nodes ++ node ∷ [] = rw (add-one i) (take-suc nodes i node within ∙ ap (λ (x : Node). take i nodes ++ x ∷ []) (sym at)) in
+    subst (λ (ns : List Node). AreBounded (branches_of (map node_view ns))) (sym more)
+    (subst (λ (bs : List Branch). AreBounded (branches_of bs)) (sym (map_push node_view (take i nodes) node)) (bounded_last (map node_view (take i nodes)) (node_view node) so_far here))
+
+pub short_push : (names : List (List ℕ)) (i : ℕ) (name : List ℕ) → All (λ n. length n ≤ 1024) (take i names) → length name ≤ 1024 → i < length names → name ≡ get_or names i name → All (λ n. length n ≤ 1024) (take (i + 1) names)
+short_push names i name so_far here within at =
+    let more : take (i + 1) names ≡ take i names ++ name ∷ [] = rw (add-one i) (take-suc names i name within ∙ ap (λ (x : List ℕ). take i names ++ x ∷ []) (sym at)) in
+    subst (λ (ns : List (List ℕ)). All (λ n. length n ≤ 1024) ns) (sym more) (All-push (λ n. length n ≤ 1024) (take i names) name so_far here)

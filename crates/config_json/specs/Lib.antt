@@ -5,3 +5,4 @@ pub mod Trees
 pub mod Reading
 pub mod Printed
 pub mod Put
+pub mod Bounds

@@ -3,7 +3,7 @@
 //! A file is the JSON of an envoyproxy/ratelimit configuration. `read_config` answers what the files spell, or their
 //! first fault with its file, its place and its number (`specs/Reading.antt`); `specs/Trees.antt` and `specs/Rules.antt`
 //! say what each object of a file says, field by field, both spellings of each. `print_config` prints a configuration,
-//! one text a tree, in one canonical form (`specs/Printed.antt`).
+//! one text a tree, in one canonical form (`specs/Printed.antt`); reading these texts gives the same configuration.
 //!
 //! Limits: those of `proto_json` and of a lawful configuration; a rule replaces at most 32 others.
 #![tactic(auto)]

@@ -1,8 +1,10 @@
-ghost use Rattle.std.specs.Prelude.{◌≡◌, IfOk, OnOk, Some, true, option_map, codes, ◌∷◌, [], map, string_bytes};
+ghost use Rattle.std.specs.Prelude.{◌≡◌, IfOk, OnOk, Some, true, option_map, codes, ◌∷◌, [], map, string_bytes, ◌≤◌, length};
 ghost use Rattle.serde_json.specs.Data.{string, boolean, object};
 ghost use Rattle.serde_json.specs.View.{view, items_view, members_view};
 ghost use Rattle.descriptor_tree.specs.Trees.{node_view, forest_view, fields_of, tree_view};
 ghost use Rattle.config_json.specs.Printed as printed;
+ghost use Rattle.std.specs.List.{All};
+ghost use Rattle.config_json.specs.Bounds.{IsShort, IsSmall, IsBounded};
 ghost use Rattle.config_json.specs.Put.{put_there};
 
 use descriptor_tree::{Forest, Node, Policy, Texts, Tree};
@@ -49,7 +51,8 @@ fn text_there(alloc: Global, value: &str) -> Result<Option<Value>, OutOfMemory>
 
 // A text where there is one.
 fn text_of(alloc: Global, value: &Option<Text>) -> Result<Option<Value>, OutOfMemory>
-    ensures { IfOk result (λ o. option_map view o ≡ option_map string value.now) }
+    ensures value { IfOk result (λ o. option_map view o ≡ option_map string value.now) }
+    ensures short { OnOk result (IsShort value.now) }
 {
     match value {
         Some(value) => {
@@ -112,7 +115,9 @@ fn named(alloc: Global, name: &str) -> Result<Value, OutOfMemory>
 
 // The names of the rules that a rule replaces, where there are any.
 fn replaces(alloc: Global, names: &Texts) -> Result<Option<Value>, OutOfMemory>
-    ensures { IfOk result (λ o. option_map view o ≡ printed.list_there (printed.names_json names.now)) }
+    ensures value { IfOk result (λ o. option_map view o
+        ≡ printed.list_there (printed.names_json names.now)) }
+    ensures short { OnOk result (All (λ n. length n ≤ 1024) names.now) }
 {
     let names = names.items();
     let mut items = Vec::new(alloc);
@@ -169,14 +174,18 @@ fn unlimited(
 
 // A node's rule, where it has one.
 fn rule_there(alloc: Global, node: &Node) -> Result<Option<Value>, OutOfMemory>
-    ensures { IfOk result
+    ensures value { IfOk result
         (λ o. option_map view o ≡ printed.rule_there (fields_of (node_view node.now))) }
+    ensures name { OnOk result (IsShort (fields_of (node_view node.now)).name) }
+    ensures replaces { OnOk result
+        (All (λ n. length n ≤ 1024) (fields_of (node_view node.now)).replaces) }
+    ensures limit { OnOk result (IsSmall (fields_of (node_view node.now)).policy) }
 {
+    let name = text_of(alloc, &node.name)?;
+    let replaces = replaces(alloc, &node.replaces)?;
     let Some(policy) = node.policy else {
         return Ok(None);
     };
-    let name = text_of(alloc, &node.name)?;
-    let replaces = replaces(alloc, &node.replaces)?;
     let rule = match policy {
         Policy::Limited { limit, unit } => {
             let unit = unit_text(alloc, unit)?;
@@ -190,8 +199,9 @@ fn rule_there(alloc: Global, node: &Node) -> Result<Option<Value>, OutOfMemory>
 /// A node's object, with the list of the nodes below it.
 #[tactic(auto, using(crate::proofs::Printing::put_node))]
 pub fn node_value(alloc: Global, node: &Node, below: Option<Value>) -> Result<Value, OutOfMemory>
-    ensures { IfOk result (λ v. view v ≡ object (printed.members_there
+    ensures value { IfOk result (λ v. view v ≡ object (printed.members_there
         (printed.node_members (fields_of (node_view node.now)) (option_map view below)))) }
+    ensures bounded { OnOk result (IsBounded (fields_of (node_view node.now))) }
 {
     let key = text_there(alloc, node.key.as_str())?;
     let rule = rule_there(alloc, node)?;

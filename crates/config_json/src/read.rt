@@ -1,12 +1,10 @@
-ghost use Rattle.std.specs.Prelude.{◌≡◌};
-ghost use Rattle.descriptor_tree.specs.Faults.{Answers};
+ghost use Rattle.std.specs.Prelude.{◌≡◌, map, IfOk, [], OnOk};
+ghost use Rattle.descriptor_tree.specs.Faults.{Answers, first_or};
 ghost use Rattle.descriptor_tree.specs.Views.{config_view};
 ghost use Rattle.config_json.specs.Reading.{reading_of};
-ghost use Rattle.std.specs.Prelude.{map, IfOk, [], OnOk};
 ghost use Rattle.std.specs.List.{All};
 ghost use Rattle.descriptor_tree.specs.Trees.{tree_view};
 ghost use Rattle.descriptor_tree.specs.Config.{AreWellFormed};
-ghost use Rattle.descriptor_tree.specs.Faults.{first_or};
 ghost use Rattle.config_json.specs.Reading as reading;
 ghost use Rattle.rate_types.specs.declared.refused.At.{At};
 

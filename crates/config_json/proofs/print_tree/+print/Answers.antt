@@ -3,7 +3,7 @@ use Rattle.descriptor_tree.specs.declared.node.Node.{Node}
 use Rattle.descriptor_tree.specs.Trees.{Branches, branches_of, node_view, forest_view}
 use Rattle.serde_json.specs.View.{items_view}
 use Rattle.config_json.proofs.Plain.{weight, weights, weight_at}
-use Rattle.config_json.proofs.Printing.{nodes_push}
+use Rattle.config_json.proofs.Printing.{nodes_push, bounded_push}
 use Rattle.config_json.proofs.print_tree.+print.Goals as goal
 
 pub print_forest-print_node-requires : goal.print_forest-print_node-requires
@@ -15,6 +15,8 @@ print_forest-print_node-requires t c =
     (omega arith, tt)
 
 pub print_forest-nodes-preserved : goal.print_forest-nodes-preserved
-print_forest-nodes-preserved t c =
-    ap items_view c.in_ok-push.ensures.items
-    ∙ nodes_push c.nodes.items.items c.in_ok-item.item c.items-nodes.result.now c.nodes.index c.index-nodes-index.result c.nodes.invariant c.in_ok-item.ensures c.nodes-test.true c.index-nodes-index.is
+print_forest-nodes-preserved t c = (
+  ap items_view c.in_ok-push.ensures.items
+      ∙ nodes_push c.nodes.items.items c.in_ok-item.item c.items-nodes.result.now c.nodes.index c.index-nodes-index.result c.nodes.invariant.0 c.in_ok-item.ensures.value c.nodes-test.true c.index-nodes-index.is,
+  bounded_push c.items-nodes.result.now c.nodes.index c.index-nodes-index.result c.nodes.invariant.1 c.in_ok-item.ensures.bounded c.nodes-test.true c.index-nodes-index.is,
+)
