@@ -5,7 +5,7 @@ use Rattle.counter_cells.specs.Sums.{one_if}
 use Rattle.counter_cells.specs.Gates.{shows, gate_word, claim_shown, bit_shown}
 use Rattle.counter_cells.specs.Places.{gate_at, gate_cell}
 use Rattle.counter_cells.specs.Views.{good_on, stray_on, cell_or}
-use Rattle.counter_cells.specs.Steps.{unpinned, good_pin, pinned, fresh_pass, new_passes}
+use Rattle.counter_cells.specs.Steps.{unpinned, good_pin, stray_pin, pinned, fresh_pass, new_passes}
 use Rattle.counter_cells.specs.Seats.{IsPass}
 use Rattle.counter_cells.proofs.Sums.{cond_yes}
 use Rattle.counter_cells.proofs.Views.{drop_length_one}
@@ -27,7 +27,7 @@ bare_is k place word bare v w is same bit claim shown =
 pub strays : (claim k word : ℕ) (v w : View) → w ≡ pinned claim k word v → shows claim word ≡ false → 1 ≤ stray_on k w
 strays claim k word v w is shut =
     let y = cond_yes k k 1 0 refl in
-    subst (λ (x : View). 1 ≤ stray_on k x) (sym (is ∙ ap (λ b. cond b (good_pin k claim v) (record v { stray = k ∷ v.stray })) shut)) (omega arith)
+    subst (λ (x : View). 1 ≤ stray_on k x) (sym (is ∙ ap (λ b. cond b (good_pin k claim v) (stray_pin k word v)) shut)) (omega arith)
 
 -- the passes still to be made are the next one and the others
 pub next_pass : (p d start : ℕ) → d < p → new_passes (p - d) start ≡ fresh_pass (p - d - 1) start ∷ new_passes (p - (d + 1)) start

@@ -13,7 +13,7 @@ use Rattle.std.specs.List.{AllByRecursion}
 use Rattle.counter_cells.specs.Sums.{total, one_if, times}
 use Rattle.counter_cells.specs.Gates.{gate_word, shows}
 use Rattle.counter_cells.specs.Views.{is_pair, good_on, good_at, pins_on, pins_of, unused_on, small_on, pair_at, pair_of}
-use Rattle.counter_cells.specs.Steps.{without, any_on, drop_pin, drop_stray, pinned, unpinned, unstrayed}
+use Rattle.counter_cells.specs.Steps.{without, any_on, drop_pin, drop_stray, good_pin, stray_pin, pinned, unpinned, unstrayed}
 use Rattle.counter_cells.specs.Lawful.{Register}
 use Rattle.counter_cells.proofs.Kept.{hits_below, ViewFits, ViewLawful, Rule}
 use Rattle.counter_cells.proofs.Sums.{total_set, total_same, total_le, each_set, cond_yes, cond_no}
@@ -94,21 +94,21 @@ module _ (a : Setup) (t : Register) (gate gate' count : ℕ → ℕ) (views : Li
       pick (yes d) f s m = let g : gate' j ≡ gate j + 2 = ap gate' d ∙ here ∙ sym (ap (λ i. gate i + 2) d) in let y = cond_yes k j 1 0 (sym d) in omega arith
       pick (no n) f s m = let g = else j n in let y = cond_no k j 1 0 (λ q. n (sym q)) in omega arith
 
-  pub stray_keeps : Rule a t gate' count (set views id (record v { stray = k ∷ v.stray }))
+  pub stray_keeps : Rule a t gate' count (set views id (stray_pin k (gate k) v))
   stray_keeps =
       let f = r.each id v at in
-      gate_keeps a t gate count views r gate' id v (record v { stray = k ∷ v.stray }) at refl refl (refl, refl, refl)
-      (word_more (record v { stray = k ∷ v.stray }) (λ j. omega arith))
+      gate_keeps a t gate count views r gate' id v (stray_pin k (gate k) v) at refl refl (refl, refl, refl)
+      (word_more (stray_pin k (gate k) v) (λ j. omega arith))
       (λ j. omega arith)
       (λ j u e off ev. refl)
       (record { pins = (omega arith, omega arith); good = f.good; under = f.under; once = f.once; past = f.past; charges = f.charges; looks = f.looks; idle = f.idle; claimer = f.claimer; caps = λ i u e o. let p = f.caps i u e o in record { charges = p.charges; looks = p.looks } })
 
-  pub pin_keeps : (c : ℕ) → st.is_open ≡ true → st.claim ≡ c → Rule a t gate' count (set views id (record v { good = (k, c) ∷ v.good; pairs = (k, c) ∷ v.pairs }))
+  pub pin_keeps : (c : ℕ) → st.is_open ≡ true → st.claim ≡ c → Rule a t gate' count (set views id (good_pin k c v))
   pin_keeps c opn claim =
       let f = r.each id v at in
       let ever = is_ever a t gate count views r k st cell opn in
-      gate_keeps a t gate count views r gate' id v (record v { good = (k, c) ∷ v.good; pairs = (k, c) ∷ v.pairs }) at refl refl (refl, refl, refl)
-      (word_more (record v { good = (k, c) ∷ v.good; pairs = (k, c) ∷ v.pairs }) (λ j. omega arith))
+      gate_keeps a t gate count views r gate' id v (good_pin k c v) at refl refl (refl, refl, refl)
+      (word_more (good_pin k c v) (λ j. omega arith))
       (λ j. omega arith)
       (λ j u e off ev. let y = cond_no c u.claim 1 0 (λ s. true≢false (sym opn ∙ shut j u e ev (claim ∙ s) off)) in omega arith)
       (record {
@@ -140,7 +140,7 @@ module _ (a : Setup) (t : Register) (gate gate' count : ℕ → ℕ) (views : Li
   pub pinned_keeps : (c : ℕ) → Rule a t gate' count (set views id (pinned c k (gate k) v))
   pinned_keeps c = pick (shows c (gate k)) refl
     where
-      pick : (b : Bool) → shows c (gate k) ≡ b → Rule a t gate' count (set views id (cond b (record v { good = (k, c) ∷ v.good; pairs = (k, c) ∷ v.pairs }) (record v { stray = k ∷ v.stray })))
+      pick : (b : Bool) → shows c (gate k) ≡ b → Rule a t gate' count (set views id (cond b (good_pin k c v) (stray_pin k (gate k) v)))
       pick true is =
           let b = both_true (gate k % 2 == 1) (gate k / 131072 == c) is in
           let x = b.0 in

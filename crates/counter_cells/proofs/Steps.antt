@@ -19,7 +19,7 @@ use Rattle.counter_cells.specs.Sums.{total, one_if, times}
 use Rattle.counter_cells.specs.Gates.{shows, gate_word, pins_shown}
 use Rattle.counter_cells.specs.Places.{gate_at, count_at, count_cell, gate_cell, gate_of, count_of}
 use Rattle.counter_cells.specs.Views.{most_hits, good_on, pins_of, small_on, pins_on, no_cell, cell_or, Capped, claim_on}
-use Rattle.counter_cells.specs.Steps.{charged, looked, pinned, unpinned, unstrayed, ticked, taken, claimed_by, held_by, reset_by, opened_by}
+use Rattle.counter_cells.specs.Steps.{charged, looked, good_pin, stray_pin, pinned, unpinned, unstrayed, ticked, taken, claimed_by, held_by, reset_by, opened_by}
 use Rattle.counter_cells.specs.Claiming.{Peeked, Reclaimed}
 use Rattle.counter_cells.specs.Lawful.{Register, ClockIsGreatestOffer}
 use Rattle.counter_cells.proofs.Kept.{Rule, Holds}
@@ -143,7 +143,7 @@ module _ (a : Setup) (slots id k : ℕ) (me : Me ℕ View) (within : k < a.cells
       let after = on_gate a t ws k new (set s.views id (pinned c k n me.0)) hold.1 hold.2 [] rule clock in
       (pinned c k n me.0, keeps, tt, (t, after.0, after.1, after.2, after.3), (ap (λ (i : ℕ). pinned c i n me.0) gate_cell_is, refl))
     where
-      quiet : (b : Bool) → let w = cond b (record me.0 { good = (k, c) ∷ me.0.good; pairs = (k, c) ∷ me.0.pairs }) (record me.0 { stray = k ∷ me.0.stray }) in (w.ticks ≡ me.0.ticks) × (w.numbers ≡ me.0.numbers) × (w.moment ≡ me.0.moment) × (w.unmade ≡ me.0.unmade) × (w.claimer ≡ me.0.claimer)
+      quiet : (b : Bool) → let w = cond b (good_pin k c me.0) (stray_pin k (gate_of s.words k) me.0) in (w.ticks ≡ me.0.ticks) × (w.numbers ≡ me.0.numbers) × (w.moment ≡ me.0.moment) × (w.unmade ≡ me.0.unmade) × (w.claimer ≡ me.0.claimer)
       quiet true = (refl, refl, refl, refl, refl)
       quiet false = (refl, refl, refl, refl, refl)
 

@@ -4,12 +4,12 @@ use Rattle.counter_cells.specs.declared.view.Tick.{Tick}
 use Rattle.counter_cells.specs.declared.view.Cell.{Cell}
 use Rattle.counter_cells.specs.declared.view.View.{View}
 use Rattle.counter_cells.specs.declared.setup.Setup.{Setup}
-use Rattle.counter_cells.specs.Gates.{shows}
+use Rattle.counter_cells.specs.Gates.{claim_shown, bit_shown, shows}
 use Rattle.counter_cells.specs.Views.{claim_on, no_cell, cell_or}
 
 -- a view that knows nothing
 abbrev pub nobody : View
-nobody = record { numbers = []; ticks = []; moment = 0; good = []; stray = []; unused = []; charges = []; looks = []; pairs = []; claimer = false; unmade = 0; cells = []; drawn = []; held = [] }
+nobody = record { numbers = []; ticks = []; moment = 0; good = []; stray = []; others = []; unused = []; charges = []; looks = []; pairs = []; claimer = false; unmade = 0; cells = []; drawn = []; held = [] }
 
 -- the first seat: the claimer, with no cell taken, from which all passes are split off
 abbrev pub first_claimer : Setup → View
@@ -49,9 +49,17 @@ ticked moment now v = record v { moment = moment; ticks = v.ticks ++ tick_of mom
 abbrev pub good_pin : ℕ → ℕ → View → View
 good_pin cell claim v = record v { good = (cell, claim) ∷ v.good; pairs = (cell, claim) ∷ v.pairs }
 
+-- a pin that missed: it found the cell's gate closed or under another claim
+abbrev pub missed : ℕ → ℕ → Bool → View → View
+missed cell claim is_open v = record v { others = v.others ++ (record { cell = cell; claim = claim; is_open = is_open }) ∷ [] }
+
+-- a pin that missed, by the word that it found, and isn't given back yet
+abbrev pub stray_pin : ℕ → ℕ → View → View
+stray_pin cell word v = record (missed cell (claim_shown word) (bit_shown word == 1) v) { stray = cell ∷ v.stray }
+
 -- a pin that asked for the claim and found the word: it is good where the gate was open under the claim, else stray
 abbrev pub pinned : ℕ → ℕ → ℕ → View → View
-pinned claim cell word v = if shows claim word then good_pin cell claim v else record v { stray = cell ∷ v.stray }
+pinned claim cell word v = if shows claim word then good_pin cell claim v else stray_pin cell word v
 
 -- without the newest pin on the cell
 abbrev pub drop_pin : ℕ → List (ℕ × ℕ) → List (ℕ × ℕ)
@@ -112,4 +120,4 @@ last_moment moment (x ∷ xs) = last_moment x.moment xs
 
 -- a pass taken in at closing
 abbrev pub joined : View → View → View
-joined v w = record v { numbers = v.numbers ++ w.numbers; ticks = v.ticks ++ w.ticks; moment = last_moment v.moment w.ticks; unused = []; charges = v.charges ++ w.charges; looks = v.looks ++ w.looks; pairs = v.pairs ++ w.pairs }
+joined v w = record v { numbers = v.numbers ++ w.numbers; ticks = v.ticks ++ w.ticks; moment = last_moment v.moment w.ticks; others = v.others ++ w.others; unused = []; charges = v.charges ++ w.charges; looks = v.looks ++ w.looks; pairs = v.pairs ++ w.pairs }

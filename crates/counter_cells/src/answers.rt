@@ -10,7 +10,7 @@ pub struct Spot {
 pub enum Pin {
     /// The gate is open under the claim, and stays so until the pin is given back.
     Pinned,
-    /// The gate showed this. No pin is held.
+    /// The pin found the gate so: closed, or with another claim. No pin is held.
     Other { claim: u64, is_open: bool },
 }
 

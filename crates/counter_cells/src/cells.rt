@@ -2,7 +2,7 @@ ghost use Rattle.std.specs.Prelude.{◌≡◌, ℕ, ◌*◌, ◌≤◌, ◌<◌,
 ghost use Rattle.counter_cells.specs.Sums.{times};
 ghost use Rattle.counter_cells.specs.Places.{words_of};
 ghost use Rattle.counter_cells.specs.Views.{most_hits, good_on, small_on, claim_on, cell_or, Capped};
-ghost use Rattle.counter_cells.specs.Steps.{ticked, pinned, good_pin, unpinned, looked, charged, taken, claimed_by, held_by, reset_by, opened_by};
+ghost use Rattle.counter_cells.specs.Steps.{ticked, pinned, good_pin, missed, unpinned, looked, charged, taken, claimed_by, held_by, reset_by, opened_by};
 ghost use Rattle.counter_cells.specs.declared.answers.Pin.TheVariants.{Pinned};
 ghost use Rattle.counter_cells.specs.declared.answers.Reclaim.TheVariants.{Claimed};
 ghost use Rattle.counter_cells.specs.Answers.{MatchPin, MatchReclaim, IsOther};
@@ -71,12 +71,12 @@ impl<N: CellNaming> Cells<N> {
     }
 
     /// Pins the cell, where its gate is open under the claim: then it stays so until the pin is given back.
-    /// `Other` comes exactly where the gate found is closed or has another claim, and shows that gate.
+    /// `Other` comes exactly where the addition found the gate closed or with another claim, and shows the gate found.
     /// No pin is held then.
     pub fn pin(&self, pass: &mut CellPass<N>, spot: Spot) -> Pin
         requires cell { spot.cell < N.setup.cells }
         requires room { length pass.old.good < 32 }
-        ensures pin { MatchPin result (pass.new ≡ good_pin spot.cell spot.claim pass.old) (λ claim is_open. (pass.new ≡ pass.old) × IsOther spot.claim claim is_open) }
+        ensures pin { MatchPin result (pass.new ≡ good_pin spot.cell spot.claim pass.old) (λ claim is_open. (pass.new ≡ missed spot.cell claim is_open pass.old) × IsOther spot.claim claim is_open) }
         ensures held { result ≡ Pinned → 1 ≤ good_on spot.cell pass.new }
     {
         let word = self.take_pin::<Brand>(&mut pass.seat, spot);

@@ -37,7 +37,7 @@ pub use naming::CellNaming;
 pub use opened::OpenedCells;
 pub use pass::CellPass;
 pub use setup::Setup;
-pub use view::{Cell, Charge, Tick, View};
+pub use view::{Cell, Charge, OtherGate, Tick, View};
 
 #[cfg(test)]
 mod tests;

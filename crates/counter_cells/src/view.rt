@@ -21,6 +21,16 @@ pub struct Charge {
     pub hits: u64,
 }
 
+/// A gate that a pin found closed or with another claim than it asked for.
+pub struct OtherGate {
+    /// The gate's cell.
+    pub cell: u64,
+    /// The claim found.
+    pub claim: u64,
+    /// Whether it was open.
+    pub is_open: bool,
+}
+
 /// What the claimer knows of a cell.
 pub struct Cell {
     /// It was taken at some time.
@@ -45,6 +55,8 @@ pub struct View {
     pub good: LinkedList<(u64, u64)>,
     /// The cells of the pins that found another claim or a closed gate, and aren't given back yet.
     pub stray: LinkedList<u64>,
+    /// What the pins found that were not good, in order.
+    pub others: LinkedList<OtherGate>,
     /// The unused looks, each as a cell and the count seen.
     pub unused: LinkedList<(u64, u64)>,
     /// The charges, in order.
