@@ -1,22 +1,18 @@
--- What the claimer does keeps the rule.
-use Rattle.std.proofs.Common.{◌≡◌, ◌≢◌, ◌⊎◌, ℕ, zero, suc, ◌+◌, ◌^◌, ◌≤◌, ◌<◌, ◌==◌, ◌&&◌, List, [], ◌∷◌, length, set, Bool, true, false, true≢false, cond, refl, sym, ap, ◌∙◌, subst, arith, ⊎_elim, inl, inr}
-use Rattle.std.proofs.lemmas.Bool.Decides.{nat_tests}
+-- What the claimer does to a cell keeps the rule, where the cell then fits.
+use Rattle.std.proofs.Common.{◌≡◌, ◌≢◌, ℕ, zero, suc, ◌+◌, ◌^◌, ◌≤◌, ◌<◌, ◌==◌, ◌&&◌, List, [], ◌∷◌, length, set, Bool, true, false, true≢false, refl, sym, ap, ◌∙◌, subst, arith, ⊎_elim}
 use native.Mathlib.Decide.{ℕ_discrete, dec_lt}
 use mathlib.Core.Option.{some, some-injective, some-ne-none}
 use lib.ListN.{get_elem?}
 use Rattle.atomic_table.proofs.Lists.{at_set, set_here, set_else}
-use Rattle.counter_cells.specs.declared.view.Charge.{Charge}
 use Rattle.counter_cells.specs.declared.view.Cell.{Cell}
 use Rattle.counter_cells.specs.declared.view.View.{View}
 use Rattle.counter_cells.specs.declared.setup.Setup.{Setup}
-use Rattle.std.specs.List.{AllByRecursion}
 use Rattle.counter_cells.specs.Sums.{total, one_if, times}
 use Rattle.counter_cells.specs.Gates.{gate_word}
 use Rattle.counter_cells.specs.Views.{is_pair, good_on, good_at, pins_on, small_on, pair_of, charges_of, looks_of, Capped, claim_on}
-use Rattle.counter_cells.specs.Steps.{taken}
 use Rattle.counter_cells.specs.Lawful.{Register}
 use Rattle.counter_cells.proofs.Kept.{hits_of, charges_at, RegisterFits, ViewFits, ViewLawful, Rule, cell_fits}
-use Rattle.counter_cells.proofs.Sums.{total_same, total_none, total_one, total_two, each_set, cond_yes}
+use Rattle.counter_cells.proofs.Sums.{total_same, total_two, each_set}
 use Rattle.counter_cells.proofs.Looking.{lawful_same}
 use Rattle.counter_cells.proofs.Views.{claimed}
 
@@ -29,27 +25,6 @@ pair_on k c (p ∷ ps) = keep (p.0 == k) (p.1 == c) (pair_on k c ps)
     keep true true r = omega arith
     keep true false r = omega arith
     keep false d r = omega arith
-
--- some cell has a pair of the claim
-find_pair : (c : ℕ) (ps : List (ℕ × ℕ)) → 1 ≤ total (λ p. one_if (p.1 == c)) ps → (k : ℕ) × (1 ≤ total (λ p. one_if (is_pair k c p)) ps)
-find_pair c [] h = absurd (omega arith)
-find_pair c (p ∷ ps) h = keep (p.1 == c) refl h (find_pair c ps)
-  where
-    keep : (b : Bool) → (p.1 == c) ≡ b → 1 ≤ one_if (p.1 == c) + total (λ q. one_if (q.1 == c)) ps → (1 ≤ total (λ q. one_if (q.1 == c)) ps → (k : ℕ) × (1 ≤ total (λ q. one_if (is_pair k c q)) ps)) → (k : ℕ) × (1 ≤ one_if (is_pair k c p) + total (λ q. one_if (is_pair k c q)) ps)
-    keep true is h' r = (p.0, (let x : (p.0 == p.0) ≡ true = grind (arith, nat_tests) in rw (x, is) (omega arith)))
-    keep false is h' r = let y = ap one_if is in let s = r (omega arith) in (s.0, (let z = s.1 in omega arith))
-
-no_hits : (c : ℕ) (xs : List Charge) → total (λ (x : Charge). one_if (x.claim == c)) xs ≡ 0 → total (λ (x : Charge). cond (x.claim == c) x.hits 0) xs ≡ 0
-no_hits c [] h = refl
-no_hits c (x ∷ xs) h = keep (x.claim == c) h (no_hits c xs)
-  where
-    keep : (b : Bool) → one_if b + total (λ (y : Charge). one_if (y.claim == c)) xs ≡ 0 → (total (λ (y : Charge). one_if (y.claim == c)) xs ≡ 0 → total (λ (y : Charge). cond (y.claim == c) y.hits 0) xs ≡ 0) → cond b x.hits 0 + total (λ (y : Charge). cond (y.claim == c) y.hits 0) xs ≡ 0
-    keep true h' r = absurd (omega arith)
-    keep false h' r = let s = r (omega arith) in omega arith
-
-no_caps : {A : Type 0} (f : A → ℕ) (P : A → Type 0) (c : ℕ) (xs : List A) → total (λ x. one_if (f x == c)) xs ≡ 0 → AllByRecursion (λ x. f x ≡ c → P x) xs
-no_caps f P c [] h = tt
-no_caps f P c (x ∷ xs) h = ((λ e. absurd (let y = cond_yes (f x) c 1 0 e in omega arith)), no_caps f P c xs (omega arith))
 
 module _ (a : Setup) (t : Register) (gate gate' count count' : ℕ → ℕ) (views : List View) (r : Rule a t gate count views) (id k : ℕ) (v : View) (at : get_elem? views id ≡ some v) (role : v.claimer ≡ true) (st st' : Cell) (cell : get_elem? t.cells k ≡ some st) (drawn' : List ℕ) (held' : List (ℕ × ℕ)) where
   abbrev T' : Register
@@ -145,15 +120,9 @@ bare_closed a t gate count views r k st cell off j x e = pick (dec_lt 0 (good_on
     pick (yes d) = let g = (r.each j x e).good k (claim_on k x.good) (claimed k x.good (omega arith)) in absurd (true≢false (sym g.2 ∙ ap (λ (s : Cell). s.is_open) (some-injective _ _ (sym g.1 ∙ cell)) ∙ off))
     pick (no n) = omega arith
 
-pub bare_none : (views : List View) (k : ℕ) → total (pins_on k) views ≡ 0 → (j : ℕ) (x : View) → get_elem? views j ≡ some x → good_on k x ≡ 0
-bare_none views k z j x e = let o = total_one (pins_on k) views j x e in omega arith
-
-module _ (a : Setup) (t : Register) (gate gate' count count' : ℕ → ℕ) (views : List View) (r : Rule a t gate count views) (id k : ℕ) (v : View) (at : get_elem? views id ≡ some v) (role : v.claimer ≡ true) (st : Cell) (cell : get_elem? t.cells k ≡ some st) where
-  -- a cell in the new list is the new one at k, or an old one
-  either_cell : (st' : Cell) (j : ℕ) (u : Cell) → get_elem? (set t.cells k st') j ≡ some u → ((j ≡ k) × (st' ≡ u)) ⊎ ((j ≢ k) × (get_elem? t.cells j ≡ some u))
-  either_cell st' j u e = at_set t.cells k j st' u e
-
-  truth_same : (st' : Cell) → st'.ever ≡ st.ever → st'.claim ≡ st.claim → RegisterFits (record { cells = set t.cells k st'; drawn = t.drawn })
+module _ (a : Setup) (t : Register) (gate count : ℕ → ℕ) (views : List View) (r : Rule a t gate count views) (k : ℕ) (st : Cell) (cell : get_elem? t.cells k ≡ some st) where
+  -- the register where a cell keeps its claim
+  pub truth_same : (st' : Cell) → st'.ever ≡ st.ever → st'.claim ≡ st.claim → RegisterFits (record { cells = set t.cells k st'; drawn = t.drawn })
   truth_same st' ev cl =
       let old = λ (j : ℕ) (u : Cell) (e : get_elem? (set t.cells k st') j ≡ some u). was j u e in
       record {
@@ -166,98 +135,4 @@ module _ (a : Setup) (t : Register) (gate gate' count count' : ℕ → ℕ) (vie
       was j u e = ⊎_elim
           (λ (q : (j ≡ k) × (st' ≡ u)). (st, ap (λ i. get_elem? t.cells i) q.0 ∙ cell, sym ev ∙ ap (λ (s : Cell). s.ever) q.1, sym cl ∙ ap (λ (s : Cell). s.claim) q.1))
           (λ (q : (j ≢ k) × (get_elem? t.cells j ≡ some u)). (u, q.1, refl, refl))
-          (either_cell st' j u e)
-
-  truth_new : (c : ℕ) → c < 2 ^ 40 → times c t.drawn ≡ 0 → RegisterFits (record { cells = set t.cells k (taken c); drawn = c ∷ t.drawn })
-  truth_new c low fresh = record {
-    apart = λ i j s u e d es eu same. split i j s u es eu same (either_cell (taken c) i s e) (either_cell (taken c) j u d);
-    drawn = λ i s e es. ⊎_elim
-        (λ (q : (i ≡ k) × (taken c ≡ s)). let y = cond_yes c s.claim 1 0 (ap (λ (z : Cell). z.claim) q.1) in omega arith)
-        (λ (q : (i ≢ k) × (get_elem? t.cells i ≡ some s)). let o = r.truth.drawn i s q.1 es in omega arith)
-        (either_cell (taken c) i s e);
-    small = λ i s e. ⊎_elim
-        (λ (q : (i ≡ k) × (taken c ≡ s)). subst (λ n. n < 2 ^ 40) (ap (λ (z : Cell). z.claim) q.1) low)
-        (λ (q : (i ≢ k) × (get_elem? t.cells i ≡ some s)). r.truth.small i s q.1)
-        (either_cell (taken c) i s e);
-  }
-    where
-      new_old : (j : ℕ) (u : Cell) → get_elem? t.cells j ≡ some u → u.ever ≡ true → c ≡ u.claim → ⊥
-      new_old j u e ev same = let o = r.truth.drawn j u e ev in let z : times u.claim t.drawn ≡ 0 = subst (λ n. times n t.drawn ≡ 0) same fresh in omega arith
-
-      split : (i j : ℕ) (s u : Cell) → s.ever ≡ true → u.ever ≡ true → s.claim ≡ u.claim → ((i ≡ k) × (taken c ≡ s)) ⊎ ((i ≢ k) × (get_elem? t.cells i ≡ some s)) → ((j ≡ k) × (taken c ≡ u)) ⊎ ((j ≢ k) × (get_elem? t.cells j ≡ some u)) → i ≡ j
-      split i j s u es eu same (inl x) (inl y) = x.0 ∙ sym y.0
-      split i j s u es eu same (inl x) (inr y) = absurd (new_old j u y.1 eu (ap (λ (z : Cell). z.claim) x.1 ∙ same))
-      split i j s u es eu same (inr x) (inl y) = absurd (new_old i s x.1 es (ap (λ (z : Cell). z.claim) y.1 ∙ sym same))
-      split i j s u es eu same (inr x) (inr y) = r.truth.apart i j s u x.1 y.1 es eu same
-
-  drawn_is : v.drawn ≡ t.drawn
-  drawn_is = ((r.each id v at).claimer role).1
-
-  pub reset_keeps : st.ever ≡ true → st.is_open ≡ false → count' k ≡ 0 → ((j : ℕ) → (j ≡ k → ⊥) → count' j ≡ count j)
-      → Rule a (record { cells = set t.cells k (record st { reset = true }); drawn = t.drawn }) gate count' (set views id (record v { cells = set v.cells k (record st { reset = true }); drawn = t.drawn; held = v.held }))
-  reset_keeps ev off nil counts =
-      let W : View = record v { cells = set v.cells k (record st { reset = true }); drawn = t.drawn; held = v.held } in
-      let f = r.cells k st cell in
-      claim_keeps a t gate gate count count' views r id k v at role st (record st { reset = true }) cell t.drawn v.held
-      (bare_closed a t gate count views r k st cell off) ev (truth_same (record st { reset = true }) refl refl) (λ c o. o)
-      (record {
-        word = f.word ∙ ap (λ m. gate_word st.claim (one_if st.is_open) m) (sym (total_same (pins_on k) views id v W at refl));
-        never = f.never;
-        sum = λ o. absurd (true≢false (sym o ∙ off));
-        fresh = λ o e. let s = f.fresh o e in (total_same (charges_of st.claim) views id v W at refl ∙ s.0, total_same (looks_of st.claim) views id v W at refl ∙ s.1, total_same (pair_of st.claim) views id v W at refl ∙ s.2);
-        zeroed = λ o e m. nil;
-        room = let m = f.room in let s = total_same (small_on k) views id v W at refl in omega arith;
-      })
-      (λ j n. refl) counts (λ o. absurd (true≢false (sym o ∙ off)))
-
-  pub open_keeps : st.ever ≡ true → st.is_open ≡ false → st.reset ≡ true → gate' k ≡ gate k + 1 → ((j : ℕ) → (j ≡ k → ⊥) → gate' j ≡ gate j)
-      → Rule a (record { cells = set t.cells k (record st { is_open = true }); drawn = t.drawn }) gate' count (set views id (record v { cells = set v.cells k (record st { is_open = true }); drawn = t.drawn; held = v.held }))
-  open_keeps ev off done word gates =
-      let W : View = record v { cells = set v.cells k (record st { is_open = true }); drawn = t.drawn; held = v.held } in
-      let f = r.cells k st cell in
-      let s = f.fresh off ev in
-      let z = f.zeroed off ev done in
-      let hits = total_none (hits_of st.claim) views (λ j x e. no_hits st.claim x.charges (let o = total_one (charges_of st.claim) views j x e in omega arith)) in
-      claim_keeps a t gate gate' count count views r id k v at role st (record st { is_open = true }) cell t.drawn v.held
-      (bare_closed a t gate count views r k st cell off) ev (truth_same (record st { is_open = true }) refl refl) (λ c o. o)
-      (record {
-        word = (let w = f.word in let b : one_if st.is_open ≡ 0 = ap one_if off in let p = total_same (pins_on k) views id v W at refl in omega arith);
-        never = λ e. absurd (true≢false (sym ev ∙ e));
-        sum = λ o. z ∙ sym hits ∙ sym (total_same (hits_of st.claim) views id v W at refl);
-        fresh = λ o. absurd (true≢false o);
-        zeroed = λ o. absurd (true≢false o);
-        room = let m = f.room in let s = total_same (small_on k) views id v W at refl in omega arith;
-      })
-      gates (λ j n. refl)
-      (λ o j x e. record {
-        charges = no_caps (λ (y : Charge). y.claim) (λ y. y.before + y.hits ≤ count k) st.claim x.charges (let o = total_one (charges_of st.claim) views j x e in omega arith);
-        looks = no_caps (λ (y : ℕ × ℕ). y.0) (λ y. y.1 ≤ count k) st.claim x.looks (let o = total_one (looks_of st.claim) views j x e in omega arith);
-      })
-
-  pub reclaim_keeps : (c : ℕ) → c < 2 ^ 40 → times c t.drawn ≡ 0 → total (pins_on k) views ≡ 0 → gate' k ≡ gate_word c 0 0 → ((j : ℕ) → (j ≡ k → ⊥) → gate' j ≡ gate j)
-      → Rule a (record { cells = set t.cells k (taken c); drawn = c ∷ t.drawn }) gate' count (set views id (record v { cells = set v.cells k (taken c); drawn = c ∷ t.drawn; held = v.held }))
-  reclaim_keeps c low new none word gates =
-      let W : View = record v { cells = set v.cells k (taken c); drawn = c ∷ t.drawn; held = v.held } in
-      let f = r.cells k st cell in
-      claim_keeps a t gate gate' count count views r id k v at role st (taken c) cell (c ∷ t.drawn) v.held
-      (bare_none views k none) refl (truth_new c low new) (λ d o. omega arith)
-      (record {
-        word = word ∙ ap (λ m. gate_word c 0 m) (sym none ∙ sym (total_same (pins_on k) views id v W at refl));
-        never = λ e. absurd (true≢false e);
-        sum = λ o. absurd (true≢false (sym o));
-        fresh = λ o e. (
-          total_same (charges_of c) views id v W at refl ∙ total_none (charges_of c) views (λ j x e. nil (charges_of c x) ((r.each j x e).charges c)),
-          total_same (looks_of c) views id v W at refl ∙ total_none (looks_of c) views (λ j x e. nil (looks_of c x) ((r.each j x e).looks c)),
-          total_same (pair_of c) views id v W at refl ∙ total_none (pair_of c) views (λ j x e. nil (pair_of c x) (λ o. let p = find_pair c x.pairs o in ((r.each j x e).past p.0 c p.1).0)),
-        );
-        zeroed = λ o e m. absurd (true≢false (sym m));
-        room = let m = f.room in let s = total_same (small_on k) views id v W at refl in omega arith;
-      })
-      gates (λ j n. refl) (λ o. absurd (true≢false (sym o)))
-    where
-      nil : (n : ℕ) → (1 ≤ n → 1 ≤ times c t.drawn) → n ≡ 0
-      nil n f = pick (dec_lt 0 n)
-        where
-          pick : Dec (0 < n) → n ≡ 0
-          pick (yes d) = let o = f (omega arith) in absurd (omega arith)
-          pick (no d) = omega arith
+          (at_set t.cells k j st' u e)

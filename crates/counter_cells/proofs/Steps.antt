@@ -11,7 +11,9 @@ use Rattle.std.proofs.lemmas.Bool.{eq-eqb, ne_eqb}
 use native.Mathlib.Decide.{ℕ_discrete}
 use prog.Atomic.{either}
 use Rattle.std.specs.Prelude.{bit_or}
-use Rattle.counter_cells.proofs.Claiming.{open_keeps, reset_keeps, reclaim_keeps}
+use Rattle.counter_cells.proofs.Reclaiming.{reclaim_keeps}
+use Rattle.counter_cells.proofs.Resetting.{reset_keeps}
+use Rattle.counter_cells.proofs.Opening.{open_keeps}
 use Rattle.counter_cells.specs.declared.view.Cell.{Cell}
 use Rattle.counter_cells.specs.declared.view.View.{View}
 use Rattle.counter_cells.specs.declared.setup.Setup.{Setup}
@@ -27,7 +29,9 @@ use Rattle.counter_cells.proofs.Views.{claimed, small_le}
 use Rattle.counter_cells.proofs.Charging.{charge_keeps}
 use Rattle.counter_cells.proofs.Looking.{look_keeps, one_le}
 use Rattle.counter_cells.proofs.Sums.{total_one, total_same}
-use Rattle.counter_cells.proofs.Pinning.{pinned_keeps, unpin_keeps, unstray_keeps, few_pins, open_shown, gate_keeps}
+use Rattle.counter_cells.proofs.Gates.{few_pins, open_shown, gate_keeps}
+use Rattle.counter_cells.proofs.Pinning.{pinned_keeps}
+use Rattle.counter_cells.proofs.Unpinning.{unpin_keeps, unstray_keeps}
 use Rattle.counter_cells.proofs.Ticking.{clock_same, tick_clock}
 
 pub there : {A : Type 0} (l : List A) (i : ℕ) → i < length l → (a : A) × (get_elem? l i ≡ some a)

@@ -7,7 +7,7 @@ use Rattle.counter_cells.specs.Views.{pins_of}
 use Rattle.counter_cells.specs.Steps.{joined, nobody}
 use Rattle.counter_cells.proofs.Sums.{at_mid}
 use Rattle.counter_cells.proofs.Regrouping.{joins_as}
-use Rattle.counter_cells.proofs.Parting.{joins}
+use Rattle.counter_cells.proofs.Joining.{joins}
 use Rattle.counter_cells.proofs.Closing.{joined_snoc, joined_keeps}
 use Rattle.counter_cells.proofs.closed.take_in.Goals as goal
 

@@ -5,7 +5,7 @@ use Rattle.counter_cells.specs.declared.view.View.{View}
 use Rattle.counter_cells.specs.declared.setup.Setup.{Setup}
 use Rattle.counter_cells.specs.Steps.{one_less, new_pass}
 use Rattle.counter_cells.proofs.Regrouping.{splits_as}
-use Rattle.counter_cells.proofs.Parting.{splits}
+use Rattle.counter_cells.proofs.Splitting.{splits}
 use Rattle.counter_cells.proofs.opened.split.Goals as goal
 
 pub split_seat-seat-requires : goal.split_seat-seat-requires

@@ -1,5 +1,5 @@
 use Rattle.std.proofs.Common.{◌∙◌}
-use Rattle.counter_cells.proofs.Opening.{begins}
+use Rattle.counter_cells.proofs.Making.{begins}
 use Rattle.counter_cells.proofs.opened.OpenedCells.make.Goals as goal
 
 pub of_words-requires : goal.of_words-requires

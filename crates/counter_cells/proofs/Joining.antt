@@ -1,138 +1,26 @@
--- A pass split off, and views taken in.
-use Rattle.std.proofs.Common.{◌≡◌, ◌⊎◌, ℕ, ◌+◌, ◌-◌, ◌≤◌, ◌<◌, ◌==◌, ◌&&◌, List, [], ◌∷◌, ◌++◌, length, set, true, false, true≢false, cond, refl, sym, ap, ◌∙◌, subst, arith, ⊎_elim, inl, inr, append_assoc, length-append}
+-- A pass taken in keeps the rule.
+use Rattle.std.proofs.Common.{◌≡◌, ◌⊎◌, ℕ, ◌+◌, ◌≤◌, ◌<◌, ◌==◌, ◌&&◌, List, [], ◌∷◌, ◌++◌, length, set, false, true≢false, cond, refl, sym, ap, ◌∙◌, subst, arith, ⊎_elim, inl, inr, append_assoc, length-append}
 use Rattle.std.proofs.lemmas.List.{append-nil}
 use Rattle.std.specs.Prelude.{ltb, slice_index, IfSome}
-use native.Mathlib.Decide.{ℕ_discrete, dec_lt}
+use native.Mathlib.Decide.{dec_lt}
 use mathlib.Core.Option.{some}
 use lib.ListN.{get_elem?}
-use Rattle.atomic_table.specs.Table.{Splits, Joins}
-use Rattle.atomic_table.proofs.Lists.{at_snoc, set_else}
+use Rattle.atomic_table.specs.Table.{Joins}
+use Rattle.atomic_table.proofs.Lists.{set_else}
 use Rattle.counter_cells.specs.declared.view.Tick.{Tick}
 use Rattle.counter_cells.specs.declared.view.Charge.{Charge}
 use Rattle.counter_cells.specs.declared.view.View.{View}
 use Rattle.counter_cells.specs.declared.setup.Setup.{Setup}
 use Rattle.counter_cells.specs.Sums.{total, one_if, times}
-use Rattle.counter_cells.specs.Gates.{gate_word}
 use Rattle.counter_cells.specs.Places.{gate_of, count_of}
 use Rattle.counter_cells.specs.Views.{offered, good_on, pins_on, pins_of, small_on, pair_at, charges_of, looks_of}
-use Rattle.counter_cells.specs.Steps.{last_moment, nobody, one_less, new_pass, joined}
-use Rattle.counter_cells.specs.Lawful.{Register, offers, own_offers, other_offers, Sourced, TicksFit, ClockIsGreatestOffer}
+use Rattle.counter_cells.specs.Steps.{last_moment, nobody, joined}
+use Rattle.counter_cells.specs.Lawful.{offers, own_offers, other_offers, Sourced, TicksFit, ClockIsGreatestOffer}
 use Rattle.counter_cells.proofs.Kept.{hits_below, ViewFits, ViewLawful, Rule, Holds}
-use Rattle.counter_cells.proofs.Sums.{each_append, total_set, total_push, total_append, each_set, each_map, cond_yes, cond_no, below_yes, below_no}
+use Rattle.counter_cells.proofs.Sums.{each_append, total_set, total_append, each_set, each_map, below_no}
 use Rattle.counter_cells.proofs.Ticking.{sourced_more}
-use Rattle.counter_cells.proofs.Pinning.{pins_le}
-
-each_snoc : {A : Type 0} (P : A → Type 0) (views : List A) (w : A) → ((j : ℕ) (u : A) → get_elem? views j ≡ some u → P u) → P w → (j : ℕ) (u : A) → get_elem? (views ++ w ∷ []) j ≡ some u → P u
-each_snoc P views w others mine j u e = ⊎_elim (λ x. others j u x) (λ (x : w ≡ u). subst P x mine) (at_snoc views w u j e)
-
--- the sums after a change of views from which every sum comes out the same
-module _ (a : Setup) (t : Register) (gate count : ℕ → ℕ) (views views' : List View) (r : Rule a t gate count views)
-    (pins : (j : ℕ) → total (pins_on j) views' ≡ total (pins_on j) views)
-    (small : (j : ℕ) → total (small_on j) views' ≤ total (small_on j) views)
-    (charges : (f : Charge → ℕ) → total (λ (x : View). total f x.charges) views' ≡ total (λ (x : View). total f x.charges) views)
-    (looks : (f : (ℕ × ℕ) → ℕ) → total (λ (x : View). total f x.looks) views' ≡ total (λ (x : View). total f x.looks) views)
-    (pairs : (f : (ℕ × ℕ) → ℕ) → total (λ (x : View). total f x.pairs) views' ≡ total (λ (x : View). total f x.pairs) views) where
-  pub lawful_as : (x : View) → ViewLawful views x → ViewLawful views' x
-  lawful_as x l = record {
-    charges = each_map (λ (y : Charge). (1 ≤ y.hits) × (y.before ≡ total (hits_below y.claim y.before) views)) (λ (y : Charge). (1 ≤ y.hits) × (y.before ≡ total (hits_below y.claim y.before) views')) x.charges
-        (λ y q. (q.0, q.1 ∙ sym (charges (λ (z : Charge). cond (z.claim == y.claim) (cond (ltb z.before y.before) z.hits 0) 0)))) l.charges;
-    looks = each_map (λ (y : ℕ × ℕ). y.1 ≡ total (hits_below y.0 y.1) views) (λ (y : ℕ × ℕ). y.1 ≡ total (hits_below y.0 y.1) views') x.looks
-        (λ y q. q ∙ sym (charges (λ (z : Charge). cond (z.claim == y.0) (cond (ltb z.before y.1) z.hits 0) 0))) l.looks;
-  }
-
-  pub rule_as : ((j : ℕ) (v : View) → get_elem? views' j ≡ some v → ViewFits t count v × ViewLawful views' v) → total (λ v. one_if v.claimer) views' ≡ total (λ v. one_if v.claimer) views → total (λ v. length v.numbers + v.unmade) views' ≡ total (λ v. length v.numbers + v.unmade) views → Rule a t gate count views'
-  rule_as fits cl pa = record {
-    truth = r.truth;
-    cells = λ j u e.
-        let f = r.cells j u e in
-        record {
-          word = f.word ∙ ap (λ m. gate_word u.claim (one_if u.is_open) m) (sym (pins j));
-          never = f.never;
-          sum = λ o. f.sum o ∙ sym (charges (λ (x : Charge). cond (x.claim == u.claim) x.hits 0));
-          fresh = λ off ev. let s = f.fresh off ev in (charges (λ (x : Charge). one_if (x.claim == u.claim)) ∙ s.0, looks (λ (p : ℕ × ℕ). one_if (p.0 == u.claim)) ∙ s.1, pairs (λ (p : ℕ × ℕ). one_if (p.1 == u.claim)) ∙ s.2);
-          zeroed = f.zeroed;
-          room = let m = f.room in let s = small j in omega arith;
-        };
-    each = λ j v e. (fits j v e).0;
-    once = λ c b. let s = charges (λ (x : Charge). cond (x.claim == c) (one_if (x.before == b)) 0) in let o = r.once c b in omega arith;
-    lawful = λ j v e. (fits j v e).1;
-    claimer = cl ∙ r.claimer;
-    parts = pa ∙ r.parts;
-    few = r.few;
-  }
-
-module _ (a : Setup) (id : ℕ) (v : View) where
-  pub splits : 1 ≤ v.unmade → v.claimer ≡ true → v.moment ≡ a.start → Splits (Holds a) id v (one_less v) (new_pass v)
-  splits some_left role moment s hold at =
-      (hold.0, hold.1, hold.2, rule, clock)
-    where
-      sum : (f : View → ℕ) → f (one_less v) + f (new_pass v) ≡ f v → total f (set s.views id (one_less v) ++ new_pass v ∷ []) ≡ total f s.views
-      sum f same = omega (arith, total_push f (set s.views id (one_less v)) (new_pass v), total_set f s.views id v (one_less v) at)
-
-      mine : ViewFits hold.0 (count_of s.words) (one_less v)
-      mine =
-          let f = hold.3.each id v at in
-          record { pins = f.pins; good = f.good; under = f.under; once = f.once; past = f.past; charges = f.charges; looks = f.looks; idle = f.idle; claimer = f.claimer; caps = λ i u d o. let p = f.caps i u d o in record { charges = p.charges; looks = p.looks } }
-
-      new : ViewFits hold.0 (count_of s.words) (new_pass v)
-      new = record {
-        pins = (omega arith, omega arith);
-        good = λ k c o. absurd (omega arith);
-        under = λ k o. absurd (omega arith);
-        once = λ k. (omega arith, omega arith);
-        past = λ k c o. absurd (omega arith);
-        charges = λ c o. absurd (omega arith);
-        looks = λ c o. absurd (omega arith);
-        idle = λ _ z. absurd (omega arith);
-        claimer = λ e. absurd (true≢false (sym e));
-        caps = λ i u d o. record { charges = tt; looks = tt };
-      }
-
-      law : (x : View) → ViewLawful s.views x → ViewLawful (set s.views id (one_less v) ++ new_pass v ∷ []) x
-      law = lawful_as a hold.0 (gate_of s.words) (count_of s.words) s.views (set s.views id (one_less v) ++ new_pass v ∷ []) hold.3 (λ j. sum (pins_on j) (omega arith)) (λ j. let x = sum (small_on j) (omega arith) in omega arith) (λ f. sum (λ (x : View). total f x.charges) (omega arith)) (λ f. sum (λ (x : View). total f x.looks) (omega arith)) (λ f. sum (λ (x : View). total f x.pairs) (omega arith))
-
-      rule : Rule a hold.0 (gate_of s.words) (count_of s.words) (set s.views id (one_less v) ++ new_pass v ∷ [])
-      rule = rule_as a hold.0 (gate_of s.words) (count_of s.words) s.views (set s.views id (one_less v) ++ new_pass v ∷ []) hold.3 (λ j. sum (pins_on j) (omega arith)) (λ j. let x = sum (small_on j) (omega arith) in omega arith) (λ f. sum (λ (x : View). total f x.charges) (omega arith)) (λ f. sum (λ (x : View). total f x.looks) (omega arith)) (λ f. sum (λ (x : View). total f x.pairs) (omega arith))
-          (each_snoc (λ x. ViewFits hold.0 (count_of s.words) x × ViewLawful (set s.views id (one_less v) ++ new_pass v ∷ []) x) (set s.views id (one_less v)) (new_pass v)
-          (each_set (λ x. ViewFits hold.0 (count_of s.words) x × ViewLawful (set s.views id (one_less v) ++ new_pass v ∷ []) x) s.views id (one_less v)
-          (λ j x _ e. (hold.3.each j x e, law x (hold.3.lawful j x e)))
-          (mine, (let l = law v (hold.3.lawful id v at) in record { charges = l.charges; looks = l.looks })))
-          (new, record { charges = tt; looks = tt }))
-          (sum (λ x. one_if x.claimer) (omega arith))
-          (sum (λ x. length x.numbers + x.unmade) (omega arith))
-
-      below : (i u : ℕ) → 1 ≤ u → one_if (ltb i (u - 1)) + one_if ((u - 1) == i) ≡ one_if (ltb i u)
-      below i u one = pick (dec_lt i (u - 1)) (ℕ_discrete (u - 1) i)
-        where
-          pick : Dec (i < u - 1) → Dec (u - 1 ≡ i) → one_if (ltb i (u - 1)) + one_if ((u - 1) == i) ≡ one_if (ltb i u)
-          pick (yes d) e = let x = below_yes i (u - 1) 1 0 d in let y = cond_no (u - 1) i 1 0 (λ q. absurd (omega arith)) in let z = below_yes i u 1 0 (omega arith) in omega arith
-          pick (no n) (yes e) = let x = below_no i (u - 1) 1 0 (omega arith) in let y = cond_yes (u - 1) i 1 0 e in let z = below_yes i u 1 0 (omega arith) in omega arith
-          pick (no n) (no m) = let x = below_no i (u - 1) 1 0 (omega arith) in let y = cond_no (u - 1) i 1 0 m in let z = below_no i u 1 0 (omega arith) in omega arith
-
-      clock : ClockIsGreatestOffer a (slice_index s.words 0) (set s.views id (one_less v) ++ new_pass v ∷ [])
-      clock =
-          let c = hold.4 in
-          record {
-            least = c.least;
-            most = c.most;
-            top = ⊎_elim inl (λ o. inr (let x = sum (offers (slice_index s.words 0)) (omega arith) in omega arith)) c.top;
-            each = each_snoc (TicksFit a.start (slice_index s.words 0) (λ i m. total (other_offers i m) (set s.views id (one_less v) ++ new_pass v ∷ []))) (set s.views id (one_less v)) (new_pass v)
-                (each_set (TicksFit a.start (slice_index s.words 0) (λ i m. total (other_offers i m) (set s.views id (one_less v) ++ new_pass v ∷ []))) s.views id (one_less v) (λ j x _ e. old j x e)
-                (let f = old id v at in record { moment = f.moment; last = f.last; offers = f.offers; numbers = f.numbers; sourced = f.sourced }))
-                (record { moment = (let l = c.least in omega arith); last = λ _. moment; offers = tt; numbers = tt; sourced = tt });
-            numbers = λ i. let o = c.numbers i in let b = below i v.unmade some_left in let q = below_no i 0 1 0 (omega arith) in let x = sum (λ (x : View). times i x.numbers + one_if (ltb i x.unmade)) (omega arith) in omega arith;
-          }
-        where
-          old : (j : ℕ) (u : View) → get_elem? s.views j ≡ some u → TicksFit a.start (slice_index s.words 0) (λ i m. total (other_offers i m) (set s.views id (one_less v) ++ new_pass v ∷ [])) u
-          old j u e =
-              let f = hold.4.each j u e in
-              record {
-                moment = f.moment;
-                last = f.last;
-                offers = f.offers;
-                numbers = f.numbers;
-                sourced = sourced_more a.start (λ i m. total (other_offers i m) s.views) (λ i m. total (other_offers i m) (set s.views id (one_less v) ++ new_pass v ∷ [])) [] u.ticks (λ i m. let x = sum (other_offers i m) (omega arith) in omega arith) f.sourced;
-              }
+use Rattle.counter_cells.proofs.SameSums.{lawful_as, rule_as}
+use Rattle.counter_cells.proofs.Gates.{pins_le}
 
 own_append : (i m : ℕ) (xs ys : List Tick) → own_offers i m (xs ++ ys) ≡ own_offers i m xs + own_offers i m ys
 own_append i m xs ys = total_append (λ (x : Tick). cond (x.number == i) (offered m x) 0) xs ys
