@@ -12,3 +12,6 @@ mod trees;
 
 pub use fault::FlatFault;
 pub use trees::flatten;
+
+#[cfg(test)]
+mod tests;
