@@ -1,0 +1,32 @@
+use Rattle.std.proofs.Common.{◌≡◌, ◌++◌, ◌∷◌, [], ℕ, ◌+◌, List, String, map, take, drop, string_bytes, sym, ap, ◌∙◌, arith}
+use Rattle.std.specs.declared.alloc.Global.{Global}
+use Rattle.std.proofs.lemmas.List.{take_more, map-append}
+use Rattle.ratelimit_cli.proofs.Pieces.{appends_more, adds_more, concat_push, front_of, cut_list}
+use Rattle.ratelimit_cli.proofs.output.write_lines.Goals as goal
+
+abbrev texts_of : List (String Global) → List (List ℕ)
+texts_of ts = map (λ t. string_bytes t) ts
+
+pushed : (ts : List (String Global)) (t : String Global) → texts_of (ts ++ t ∷ []) ≡ texts_of ts ++ string_bytes t ∷ []
+pushed ts t = map-append (λ (t : String Global). string_bytes t) ts (t ∷ [])
+
+pub lines-preserved : goal.lines-preserved
+lines-preserved g c =
+    let inv = c.lines.invariant in
+    let taken : take (c.lines.line-index + 1) c.args.lines.now ≡ take c.lines.line-index c.args.lines.now ++ c.line-item.result ∷ [] =
+    take_more c.args.lines.now c.lines.line-index c.line-item.result (omega arith) ∙ ap (λ l. take c.lines.line-index c.args.lines.now ++ l ∷ []) (sym c.line-item.is) in
+    let list : texts_of (take (c.lines.line-index + 1) c.args.lines.now) ≡ texts_of (take c.lines.line-index c.args.lines.now) ++ c.as_bytes.result.now ∷ [] =
+    ap texts_of taken ∙ pushed (take c.lines.line-index c.args.lines.now) c.line-item.result ∙ ap (λ b. texts_of (take c.lines.line-index c.args.lines.now) ++ b ∷ []) (sym c.as_bytes.ensures.value) in
+    record {
+      bytes = rw (list, concat_push) (appends_more _ _ _ _ _ inv.bytes c.in-Ok.ensures.bytes);
+      each = rw list (adds_more _ _ _ _ _ inv.each c.in-Ok.ensures.piece);
+      later = omega (arith, inv.later, c.in-Ok.ensures.cause.later);
+    }
+
+pub returns-in_default-clause-part : goal.returns-in_default-clause-part
+returns-in_default-clause-part g c =
+    let cut : texts_of c.args.lines.now ≡ texts_of (take c.lines.line-index c.args.lines.now) ++ c.as_bytes.result.now ∷ texts_of (drop (c.lines.line-index + 1) c.args.lines.now) =
+    ap texts_of (cut_list c.args.lines.now c.lines.line-index c.line-item.result (omega arith) ∙ ap (λ t. take c.lines.line-index c.args.lines.now ++ t ∷ drop (c.lines.line-index + 1) c.args.lines.now) (sym c.line-item.is))
+    ∙ map-append (λ (t : String Global). string_bytes t) (take c.lines.line-index c.args.lines.now) (c.line-item.result ∷ drop (c.lines.line-index + 1) c.args.lines.now)
+    ∙ ap (λ b. texts_of (take c.lines.line-index c.args.lines.now) ++ b ∷ texts_of (drop (c.lines.line-index + 1) c.args.lines.now)) (sym c.as_bytes.ensures.value) in
+    rw cut (front_of _ _ _ (texts_of (take c.lines.line-index c.args.lines.now)) c.as_bytes.result.now (texts_of (drop (c.lines.line-index + 1) c.args.lines.now)) c.lines.invariant.bytes c.in_default.ensures.part)

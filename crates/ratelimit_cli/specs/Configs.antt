@@ -1,0 +1,20 @@
+-- The configuration that files spell, as flat trees.
+use Rattle.std.specs.Prelude.{ℕ, List, [], Result, Ok, Err}
+use Rattle.rate_types.specs.declared.refused.At.{At}
+use Rattle.descriptor_tree.specs.Trees.{DomainTree}
+use Rattle.rule_lookup.specs.declared.flat.FlatConfig.{FlatConfig}
+use Rattle.config_json.specs.Reading.{reading_of}
+use Rattle.flat_config.specs.Flat.{flat_of}
+
+-- a tree that isn't flat yet is refused with 9 NotBuilt at its empty place
+abbrev pub or_not_built : Result (List FlatConfig) ℕ → Result (List FlatConfig) At
+or_not_built (Ok configs) = Ok configs
+or_not_built (Err tree) = Err (record { file = tree; refused = record { at = []; number = 9 } })
+
+abbrev pub flat_or_first : Result (List DomainTree) At → Result (List FlatConfig) At
+flat_or_first (Ok trees) = or_not_built (flat_of trees)
+flat_or_first (Err at) = Err at
+
+-- The configuration of these files, or their first refusal.
+abbrev pub configuration_of : List (List ℕ) → Result (List FlatConfig) At
+configuration_of files = flat_or_first (reading_of files)

@@ -1,0 +1,5 @@
+pub mod Output
+pub mod Words
+pub mod Configs
+pub mod Exits
+pub mod Parts

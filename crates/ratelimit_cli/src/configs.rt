@@ -1,0 +1,70 @@
+// From the names of files to a configuration.
+ghost use Rattle.std.specs.Prelude.{◌≡◌, Ok, IfOk, IfErr};
+ghost use Rattle.ratelimit_cli.specs.Configs.{configuration_of, flat_or_first};
+ghost use Rattle.descriptor_tree.specs.Views.{config_view};
+ghost use Rattle.ratelimit_cli.specs.Exits.{AreFilesOf};
+ghost use Rattle.ratelimit_cli.specs.Parts.{IsOfFiles, IsOfConfig};
+
+use crate::Exit;
+use config_json::read_config;
+use descriptor_tree::{Config, ConfigFault};
+use flat_config::{FlatFault, flatten};
+use rate_io::{FileFault, Files};
+use rate_types::{At, Blob, Blobs, Place, Refused, Word};
+use rls_core::FlatConfigs;
+use std::alloc::Global;
+
+pub const MOST_BYTES: u64 = 67_108_864;
+
+/// The bytes of the files of these names, in order. The first that can't be read ends it.
+pub fn read_files<F: Files>(alloc: Global, files: &mut F, names: &[Word]) -> Result<Blobs, Exit>
+    ensures contents { IfOk result (λ b. AreFilesOf (F.content files.old) names.now b) }
+    ensures fault { IfErr result (IsOfFiles (F.content files.old) names.now (F.faults files.old) (F.faults files.new)) }
+{
+    let mut blobs = Vec::new(alloc);
+    'names: for index in 0..names.len() {
+        let bytes = match files.read(alloc, names[index].as_str(), MOST_BYTES) {
+            Ok(bytes) => bytes,
+            Err(FileFault::Failed) => return Err(Exit::FileFault(index as u64)),
+            Err(FileFault::TooLong { .. }) => return Err(Exit::TooLong),
+            Err(FileFault::OutOfMemory) => return Err(Exit::OutOfMemory),
+        };
+        if blobs.push(Blob::of(bytes)).is_err() {
+            return Err(Exit::OutOfMemory);
+        }
+    }
+    Ok(Blobs::of(blobs))
+}
+
+// The flat trees of a configuration. The first tree that isn't flat is refused with 9 at the empty place.
+fn flat_trees(alloc: Global, config: &Config) -> Result<FlatConfigs, Exit>
+    ensures trees { IfOk result (λ c. flat_or_first (Ok (config_view config.now)) ≡ Ok c) }
+    ensures fault { IfErr result (IsOfConfig (flat_or_first (Ok (config_view config.now)))) }
+{
+    match flatten(alloc, config) {
+        Ok(trees) => Ok(trees),
+        Err(FlatFault::NotFlat { tree }) => Err(Exit::ConfigRefused(At {
+            file: tree,
+            refused: Refused {
+                at: Place::empty(alloc),
+                number: 9,
+            },
+        })),
+        Err(FlatFault::OutOfMemory) => Err(Exit::OutOfMemory),
+    }
+}
+
+/// The configuration that these files spell, as flat trees.
+pub fn configuration(alloc: Global, files: &Blobs) -> Result<FlatConfigs, Exit>
+    ensures spells { IfOk result (λ c. configuration_of files.now ≡ Ok c) }
+    ensures fault { IfErr result (IsOfConfig (configuration_of files.now)) }
+{
+    match read_config(alloc, files) {
+        Ok(config) => match flat_trees(alloc, &config) {
+            Ok(trees) => Ok(trees),
+            Err(exit) => Err(exit),
+        },
+        Err(ConfigFault::Refused(at)) => Err(Exit::ConfigRefused(at)),
+        Err(ConfigFault::OutOfMemory) => Err(Exit::OutOfMemory),
+    }
+}

@@ -1,0 +1,21 @@
+use rate_types::At;
+
+/// How the program ended.
+#[derive(Drop)]
+pub enum Exit {
+    /// The run was written whole.
+    Done,
+    /// The words aren't a command.
+    Usage,
+    /// A configuration file is refused: its index, from 0, the place and the number of its first fault.
+    ConfigRefused(At),
+    /// A file or the input has more than 67,108,864 bytes, or the script has more than 1,048,576 lines.
+    TooLong,
+    /// The input couldn't be read.
+    ReadFault,
+    /// The output couldn't be written.
+    WriteFault,
+    /// The file of this index, from 0, couldn't be read.
+    FileFault(u64),
+    OutOfMemory,
+}

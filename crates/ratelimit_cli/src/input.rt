@@ -1,0 +1,34 @@
+// From a source to a script.
+ghost use Rattle.std.specs.Prelude.{◌≡◌, ◌≤◌, true, length, IfOk, IfErr, OnOk};
+ghost use Rattle.std.specs.Io.KnownBytes.{IsAtEnd};
+ghost use Rattle.rate_io.specs.Content.{Told};
+ghost use Rattle.drive_run.specs.Script.{script_of};
+ghost use Rattle.ratelimit_cli.specs.Parts.{IsOfInput};
+
+use crate::Exit;
+use crate::configs::MOST_BYTES;
+use drive_run::{Script, ScriptFault};
+use rate_io::{FileFault, Source, read_up_to};
+use std::alloc::Global;
+
+/// The script that a source has left.
+pub fn read_input<S: Source>(alloc: Global, source: &mut S) -> Result<Script, Exit>
+    ensures script { IfOk result (λ s. Told (S.left source.old) (λ bytes. s ≡ script_of bytes)) }
+    ensures bytes { OnOk result (Told (S.left source.old) (λ bytes. length bytes ≤ 67108864)) }
+    ensures lines { IfOk result (λ s. length s ≤ 1048576) }
+    ensures end { OnOk result (IsAtEnd (S.left source.new)) }
+    ensures ended { OnOk result (S.ended source.new ≡ true) }
+    ensures fault { IfErr result (IsOfInput (S.left source.old) (S.faults source.old) (S.faults source.new)) }
+{
+    let bytes = match read_up_to(alloc, source, MOST_BYTES) {
+        Ok(bytes) => bytes,
+        Err(FileFault::Failed) => return Err(Exit::ReadFault),
+        Err(FileFault::TooLong { .. }) => return Err(Exit::TooLong),
+        Err(FileFault::OutOfMemory) => return Err(Exit::OutOfMemory),
+    };
+    match Script::read(alloc, &bytes) {
+        Ok(script) => Ok(script),
+        Err(ScriptFault::TooManyLines { .. }) => Err(Exit::TooLong),
+        Err(ScriptFault::OutOfMemory) => Err(Exit::OutOfMemory),
+    }
+}

@@ -1,0 +1,62 @@
+// From records and totals to a sink.
+ghost use Rattle.std.specs.Prelude.{◌≡◌, ◌++◌, map, IfOk, OnOk, OnErr, string_bytes};
+ghost use Rattle.std.specs.List.{concat};
+ghost use Rattle.rate_io.specs.Causes.{HasCause};
+ghost use Rattle.rate_io.specs.Content.{Appends};
+ghost use Rattle.reply_text.specs.Texts.{record_text_of, total_text_of};
+ghost use Rattle.ratelimit_cli.specs.Output.{AddsPieces, AppendsFront, lines_of, with_line_feed};
+
+use rate_io::{Failed, Sink};
+use rate_types::OutOfMemory;
+use reply_text::{Record, record_text, total_text};
+use rls_core::Total;
+use std::alloc::Global;
+
+fn record_line(alloc: Global, rec: &Record) -> Result<String, OutOfMemory>
+    ensures { IfOk result (λ t. string_bytes t ≡ with_line_feed (record_text_of rec.now)) }
+{
+    let mut text = record_text(alloc, rec)?;
+    text.push('\n')?;
+    Ok(text)
+}
+
+fn total_line(alloc: Global, total: &Total) -> Result<String, OutOfMemory>
+    ensures { IfOk result (λ t. string_bytes t ≡ with_line_feed (total_text_of total.now)) }
+{
+    let mut text = total_text(alloc, total)?;
+    text.push('\n')?;
+    Ok(text)
+}
+
+/// The lines of records and then of totals, each with its line feed.
+pub fn all_lines(
+    alloc: Global,
+    records: &[Record],
+    totals: &[Total],
+) -> Result<Vec<String>, OutOfMemory>
+    ensures { IfOk result (λ v. map (λ t. string_bytes t) v.items ≡ lines_of records.now totals.now) }
+{
+    let mut lines = Vec::new(alloc);
+    'records: for rec in records {
+        lines.push(record_line(alloc, rec)?)?;
+    }
+    'totals: for total in totals {
+        lines.push(total_line(alloc, total)?)?;
+    }
+    Ok(lines)
+}
+
+/// Writes each line by one call.
+pub fn write_lines<K: Sink>(sink: &mut K, lines: &[String]) -> Result<(), Failed>
+    ensures bytes { OnOk result (Appends (K.written sink.old) (K.written sink.new) (concat (map (λ t. string_bytes t) lines.now))) }
+    ensures each { OnOk result (AddsPieces (K.pieces sink.old) (K.pieces sink.new) (map (λ t. string_bytes t) lines.now)) }
+    ensures part { OnErr result (AppendsFront (K.written sink.old) (K.written sink.new) (concat (map (λ t. string_bytes t) lines.now))) }
+    ensures cause { HasCause (K.faults sink.old) (K.faults sink.new) result }
+{
+    'lines: for line in lines {
+        let Ok(()) = sink.write(line.as_bytes()) else {
+            return Err(Failed);
+        };
+    }
+    Ok(())
+}

@@ -1,0 +1,84 @@
+ghost use Rattle.std.specs.Prelude.{◌≡◌};
+ghost use Rattle.ratelimit_cli.specs.Exits.{Explains};
+ghost use Rattle.ratelimit_cli.specs.Parts.{IsOfOutput};
+
+use crate::Exit;
+use crate::configs::{configuration, read_files};
+use crate::input::read_input;
+use crate::output::{all_lines, write_lines};
+use crate::words::command_of;
+use drive_run::{Script, drive_script};
+use rate_io::{Files, Sink, Source};
+use rate_types::{Names, Seconds};
+use rls_core::FlatConfigs;
+use std::alloc::Global;
+
+const CELLS: u32 = 262_144;
+
+// Runs a script by a configuration, and writes the texts of its records and totals.
+fn run_and_write<K: Sink>(alloc: Global, config: FlatConfigs, script: Script, sink: &mut K) -> Exit
+    ensures { IsOfOutput config script (record {
+      written = K.written sink.old;
+      after = K.written sink.new;
+      pieces = K.pieces sink.old;
+      more = K.pieces sink.new;
+      before_faults = K.faults sink.old;
+      after_faults = K.faults sink.new;
+    }) result }
+{
+    let Ok(driven) = drive_script(alloc, script, config, CELLS, Seconds::capped(0)) else {
+        return Exit::OutOfMemory;
+    };
+    let Ok(lines) = all_lines(alloc, driven.records.items(), driven.totals.items()) else {
+        return Exit::OutOfMemory;
+    };
+    match write_lines(sink, &lines) {
+        Ok(()) => Exit::Done,
+        Err(_) => Exit::WriteFault,
+    }
+}
+
+/// Runs the command that the words name: `drive CONFIG..` reads configuration files and a script from the source, and
+/// writes one record per line of the script and then one total per counter whose window is open at its end.
+///
+/// The order of work is: the words, the files in order, the first refusal of a file, the input, its number of lines, the
+/// run, the output. Each exit comes where its cause is the first.
+pub fn ratelimit<F: Files, S: Source, K: Sink>(
+    alloc: Global,
+    words: &Names,
+    files: &mut F,
+    source: &mut S,
+    sink: &mut K,
+) -> Exit
+    ensures { Explains result (record {
+      words = words.now;
+      content = F.content files.old;
+      left = S.left source.old;
+      rest = S.left source.new;
+      ended = S.ended source.new;
+      written = K.written sink.old;
+      after = K.written sink.new;
+      pieces = K.pieces sink.old;
+      more = K.pieces sink.new;
+      file_faults = (F.faults files.old, F.faults files.new);
+      source_faults = (S.faults source.old, S.faults source.new);
+      sink_faults = (K.faults sink.old, K.faults sink.new);
+    }) }
+{
+    let Some(names) = command_of(words.items()) else {
+        return Exit::Usage;
+    };
+    let blobs = match read_files(alloc, files, names) {
+        Ok(blobs) => blobs,
+        Err(exit) => return exit,
+    };
+    let config = match configuration(alloc, &blobs) {
+        Ok(config) => config,
+        Err(exit) => return exit,
+    };
+    let script = match read_input(alloc, source) {
+        Ok(script) => script,
+        Err(exit) => return exit,
+    };
+    run_and_write(alloc, config, script, sink)
+}
