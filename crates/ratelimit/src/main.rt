@@ -1,0 +1,60 @@
+//! The program: the real files, input and output, the text of the exit on standard error, and the exit status.
+#![tactic(auto)]
+
+use rate_io::{HostFiles, ReaderSource, WriterSink};
+use rate_types::{Names, Word};
+use ratelimit_cli::{Exit, ratelimit};
+use std::alloc::Global;
+use std::process::ExitCode;
+use std::{env, io};
+
+fn words_of(rt: &HostRuntime, alloc: Global) -> io::Result<Names> {
+    let mut words = Vec::new(alloc);
+    for word in env::args(rt)?.skip(1) {
+        words.push(Word::of(word))?;
+    }
+    Ok(Names::of(words))
+}
+
+// Writes the text of an exit to standard error, and answers its status.
+fn report(rt: &HostRuntime, exit: &Exit) -> io::Result<u8> {
+    match exit {
+        Exit::Done => return Ok(0),
+        Exit::Usage => eprintln!(rt; "ratelimit: usage")?,
+        Exit::ConfigRefused(at) => {
+            let file = at.file;
+            let number = at.refused.number;
+            let place = at.refused.at.as_str();
+            eprintln!(rt; "ratelimit: config {file}: refused {number} at {place}")?;
+        }
+        Exit::TooLong => eprintln!(rt; "ratelimit: input too long")?,
+        Exit::ReadFault => eprintln!(rt; "ratelimit: read failed")?,
+        Exit::WriteFault => eprintln!(rt; "ratelimit: write failed")?,
+        Exit::FileFault(index) => eprintln!(rt; "ratelimit: file {index}: read failed")?,
+        Exit::OutOfMemory => eprintln!(rt; "ratelimit: out of memory")?,
+    }
+    Ok(status_of(exit))
+}
+
+fn status_of(exit: &Exit) -> u8 {
+    match exit {
+        Exit::Done => 0,
+        Exit::Usage => 1,
+        Exit::ConfigRefused(_) => 2,
+        Exit::TooLong => 3,
+        Exit::ReadFault => 4,
+        Exit::WriteFault => 5,
+        Exit::FileFault(_) => 6,
+        Exit::OutOfMemory => 7,
+    }
+}
+
+fn main(rt: HostRuntime) -> io::Result<ExitCode> {
+    let alloc = rt.alloc();
+    let words = words_of(&rt, alloc)?;
+    let mut files = HostFiles::new(rt.clone()?);
+    let mut source = ReaderSource::new(rt.stdin());
+    let mut sink = WriterSink::new(rt.stdout());
+    let exit = ratelimit(alloc, &words, &mut files, &mut source, &mut sink);
+    Ok(ExitCode::from(report(&rt, &exit)?))
+}
