@@ -1,0 +1,191 @@
+#!/usr/bin/env bash
+# Runs the real program with real files, pipes and closed descriptors, and compares exit status, output and error text.
+# Usage: tests/edge.sh [PROGRAM]
+# Prints `ok NAME` or `FAILED NAME: ...` for each case, and ends with 1 if any failed.
+set -u
+here=$(cd "$(dirname "${BASH_SOURCE[0]}")" && pwd)
+top=$(cd "$here/.." && pwd)
+program=${1:-$top/crates/ratelimit/out/ratelimit}
+
+if [ $# -eq 0 ] && [ ! -x "$program" ]; then
+    # Without words the root script builds the program, which then ends with usage.
+    "$top/ratelimit" </dev/null >/dev/null
+fi
+if [ ! -x "$program" ]; then
+    printf 'FAILED program: there is none at %s\n' "$program"
+    exit 1
+fi
+
+work=$(mktemp -d) || exit 1
+trap 'rm -rf "$work"' EXIT
+out=$work/out
+err=$work/err
+none=$work/none
+: >"$none"
+config=$top/examples/minute.json
+script=$top/examples/script.jsonl
+minute=$here/minute.out
+failed=0
+
+# Runs the program with these words. A run that doesn't end is stopped after a minute, with status 124.
+run() {
+    timeout 60 "$program" "$@"
+}
+
+# judge NAME STATUS EXPECTED OUTPUT STANDS [TEXT]
+# Compares the last run: it ended with STATUS and should have ended with EXPECTED; the file $out should equal OUTPUT; the
+# error text is empty after status 0, else it isn't and has TEXT in it. `-` as OUTPUT: the output can't be seen.
+judge() {
+    local name=$1 status=$2 expected=$3 output=$4 text=${5:-} faults=
+    if [ "$status" != "$expected" ]; then
+        faults="$faults; status $status, not $expected"
+    fi
+    if [ "$output" != - ] && ! cmp -s "$out" "$output"; then
+        faults="$faults; the output differs from $(basename "$output")"
+    fi
+    if [ "$expected" = 0 ] && [ -s "$err" ]; then
+        faults="$faults; there is an error text"
+    fi
+    if [ "$expected" != 0 ] && [ ! -s "$err" ]; then
+        faults="$faults; there is no error text"
+    fi
+    if [ -n "$text" ] && ! grep -qF -- "$text" "$err"; then
+        faults="$faults; the error text lacks '$text'"
+    fi
+    if [ -z "$faults" ]; then
+        printf 'ok %s\n' "$name"
+    else
+        printf 'FAILED %s: %s\n' "$name" "${faults#; }"
+        failed=1
+    fi
+}
+
+# Words. Nothing is written.
+
+run </dev/null >"$out" 2>"$err"
+judge no-words $? 1 "$none"
+
+run serve "$config" <"$script" >"$out" 2>"$err"
+judge unknown-command $? 1 "$none"
+
+run drive <"$script" >"$out" 2>"$err"
+judge drive-without-file $? 1 "$none"
+
+run drive -x <"$script" >"$out" 2>"$err"
+judge option-only $? 1 "$none"
+
+run drive "$config" -x <"$script" >"$out" 2>"$err"
+judge option-after-file $? 1 "$none"
+
+# Files. Nothing is written.
+
+run drive "$work/missing" <"$script" >"$out" 2>"$err"
+judge missing-file $? 6 "$none" 'file 0'
+
+run drive "$config" "$work/missing" <"$script" >"$out" 2>"$err"
+judge second-file-missing $? 6 "$none" 'file 1'
+
+run drive '' <"$script" >"$out" 2>"$err"
+judge empty-file-name $? 6 "$none" 'file 0'
+
+run drive "$work" <"$script" >"$out" 2>"$err"
+judge folder-as-file $? 6 "$none" 'file 0'
+
+run drive "$config" "$config" <"$script" >"$out" 2>"$err"
+judge same-domain-twice $? 2 "$none" 'config 1: refused 11 at'
+
+run drive /dev/null <"$script" >"$out" 2>"$err"
+judge empty-file $? 2 "$none" 'config 0: refused 1 at'
+
+printf '{"domain":"shop",' >"$work/bad.json"
+run drive "$work/bad.json" <"$script" >"$out" 2>"$err"
+judge bad-json $? 2 "$none" 'config 0: refused 1 at'
+
+run drive "$config" "$work/bad.json" <"$script" >"$out" 2>"$err"
+judge second-file-bad-json $? 2 "$none" 'config 1: refused 1 at'
+
+# All files are read before the first is parsed.
+run drive "$work/bad.json" "$work/missing" <"$script" >"$out" 2>"$err"
+judge missing-file-after-bad-json $? 6 "$none" 'file 1'
+
+printf '{"domain":"d","descriptors":[{"key":"a","rateLimit":{"unit":"DAY","requestsPerUnit":1}},{"key":""}]}' \
+    >"$work/key.json"
+run drive "$work/key.json" <"$script" >"$out" 2>"$err"
+judge empty-key $? 2 "$none" 'config 0: refused 12 at /descriptors/1'
+
+# Runs that succeed.
+
+run drive "$config" <"$script" >"$out" 2>"$err"
+judge example $? 0 "$minute"
+
+run drive <(cat "$config") <"$script" >"$out" 2>"$err"
+judge file-is-a-pipe $? 0 "$minute"
+
+{ head -c 100 "$script"; sleep 0.5; tail -c +101 "$script"; } | run drive "$config" >"$out" 2>"$err"
+judge script-in-two-writes $? 0 "$minute"
+
+head -c -1 "$script" | run drive "$config" >"$out" 2>"$err"
+judge last-line-without-line-feed $? 0 "$minute"
+
+run drive "$config" </dev/null >"$out" 2>"$err"
+judge empty-script $? 0 "$none"
+
+: >"$err"
+run drive "$config" <"$script" >"$out" 2>&-
+judge error-output-closed $? 0 "$minute"
+
+# Standard input and output.
+
+run drive "$config" <&- >"$out" 2>"$err"
+judge input-closed $? 4 "$none"
+
+run drive "$config" <"$work" >"$out" 2>"$err"
+judge input-is-a-folder $? 4 "$none"
+
+run drive "$config" <"$script" 2>"$err" >&-
+judge output-closed $? 5 -
+
+run drive "$config" <"$script" 2>"$err" >/dev/full
+judge output-full $? 5 -
+
+# With nothing to write, the closed output isn't noticed.
+run drive "$config" </dev/null 2>"$err" >&-
+judge output-closed-and-empty-script $? 0 -
+
+# The output is far larger than a pipe holds, so the reader is gone before all is written.
+yes "$(cat "$script")" | head -n 14000 >"$work/long.jsonl"
+run drive "$config" <"$work/long.jsonl" 2>"$err" | head -c 1 >"$out"
+status=${PIPESTATUS[0]}
+printf '{' >"$work/first"
+judge reader-leaves-early "$status" 5 "$work/first"
+
+# The greatest sizes, and one above each. The large files are sparse: all bytes are zero, which is one line and no JSON.
+
+printf '{"line":1,"moment":0,"refused":{"at":"","number":1},"version":0,"worker":0}\n' >"$work/one"
+
+truncate -s 67108864 "$work/large"
+run drive "$work/large" <"$script" >"$out" 2>"$err"
+judge largest-file $? 2 "$none" 'config 0: refused 1 at'
+
+run drive "$config" <"$work/large" >"$out" 2>"$err"
+judge largest-script $? 0 "$work/one"
+
+truncate -s 67108865 "$work/large"
+run drive "$work/large" <"$script" >"$out" 2>"$err"
+judge too-large-file $? 3 "$none"
+
+run drive "$config" <"$work/large" >"$out" 2>"$err"
+judge too-large-script $? 3 "$none"
+
+# Of the largest number of lines only the last record is compared: its number tells that all were written.
+yes '' | head -n 1048576 >"$work/lines"
+run drive "$config" <"$work/lines" 2>"$err" | tail -n 1 >"$out"
+status=${PIPESTATUS[0]}
+printf '{"line":1048576,"moment":0,"refused":{"at":"","number":1},"version":0,"worker":0}\n' >"$work/last"
+judge most-lines "$status" 0 "$work/last"
+
+yes '' | head -n 1048577 >"$work/lines"
+run drive "$config" <"$work/lines" >"$out" 2>"$err"
+judge too-many-lines $? 3 "$none"
+
+exit "$failed"
