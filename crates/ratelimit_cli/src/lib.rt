@@ -13,3 +13,6 @@ mod words;
 
 pub use exit::Exit;
 pub use top::ratelimit;
+
+#[cfg(test)]
+mod tests;

@@ -1,0 +1,265 @@
+use crate::configs::configuration;
+use crate::output::all_lines;
+use crate::{Exit, ratelimit};
+use drive_run::{Script, drive_script};
+use rate_io::{MemFile, MemFiles, MemSink, MemSource};
+use rate_types::{Blob, Blobs, Names, Seconds, Word};
+use std::alloc::Global;
+use std::str;
+use std::test::Fail;
+
+// A limit of 2 a minute for each value of k.
+const A: &str =
+    r#"{"domain":"d","descriptors":[{"key":"k","rateLimit":{"unit":"MINUTE","requestsPerUnit":2}}]}"#;
+
+// The same with a limit of 0.
+const A0: &str =
+    r#"{"domain":"d","descriptors":[{"key":"k","rateLimit":{"unit":"MINUTE","requestsPerUnit":0}}]}"#;
+
+const CHECK_A: &str =
+    r#"{"check":{"domain":"d","descriptors":[{"entries":[{"key":"k","value":"a"}]}]}}"#;
+
+const CHECK_B: &str =
+    r#"{"check":{"domain":"d","descriptors":[{"entries":[{"key":"k","value":"b"}]}]}}"#;
+
+// A file without a rule.
+const DOMAIN: &str = r#"{"domain":"d"}"#;
+
+// A file with a node below a node.
+const NESTED: &str = r#"{"domain":"e","descriptors":[{"key":"k","descriptors":[{"key":"l"}]}]}"#;
+
+// A file with an empty key.
+const KEYLESS: &str = r#"{"domain":"d","descriptors":[{"key":""}]}"#;
+
+// The numbers of the calls that fail, from 1; with 0 none does.
+#[derive(Clone, Copy)]
+struct Failing {
+    file: u64,
+    read: u64,
+    write: u64,
+}
+
+const NONE: Failing = Failing {
+    file: 0,
+    read: 0,
+    write: 0,
+};
+
+fn word(alloc: Global, text: &str) -> Result<Word, Fail> {
+    Ok(Word::of(String::from_str(alloc, text)?))
+}
+
+fn blob(alloc: Global, text: &str) -> Result<Blob, Fail> {
+    Ok(Blob::of(Vec::from_slice(alloc, text.as_bytes())?))
+}
+
+fn numbers(alloc: Global, number: u64) -> Result<Vec<u64>, Fail> {
+    let mut numbers = Vec::new(alloc);
+    numbers.push(number)?;
+    Ok(numbers)
+}
+
+// The lines, each with a line feed.
+fn joined(alloc: Global, lines: &[&str]) -> Result<String, Fail> {
+    let mut text = String::new(alloc);
+    for line in lines {
+        text.push_str(line)?;
+        text.push('\n')?;
+    }
+    Ok(text)
+}
+
+fn exit_text(alloc: Global, exit: &Exit) -> Result<String, Fail> {
+    let name = match exit {
+        Exit::Done => "done",
+        Exit::Usage => "usage",
+        Exit::ConfigRefused(at) => {
+            return Ok(format!(in alloc;
+                "file {}: {} at {}",
+                at.file,
+                at.refused.number,
+                at.refused.at.as_str()
+            )?);
+        }
+        Exit::TooLong => "too long",
+        Exit::ReadFault => "read fault",
+        Exit::WriteFault => "write fault",
+        Exit::FileFault(index) => return Ok(format!(in alloc; "file {}: fault", index)?),
+        Exit::OutOfMemory => "out of memory",
+    };
+    Ok(String::from_str(alloc, name)?)
+}
+
+// The exit and then the output of a run of these words over files with the names a, b and so on.
+fn said(
+    alloc: Global,
+    words: &[&str],
+    contents: &[&str],
+    script: &str,
+    failing: Failing,
+) -> Result<String, Fail> {
+    let mut names = Vec::new(alloc);
+    for text in words {
+        names.push(word(alloc, text)?)?;
+    }
+    let mut files = Vec::new(alloc);
+    for (name, content) in ["a", "b"].iter().zip(contents) {
+        files.push(MemFile {
+            name: word(alloc, name)?,
+            content: blob(alloc, content)?,
+        })?;
+    }
+    let bytes = Vec::from_slice(alloc, script.as_bytes())?;
+    let mut files = MemFiles::new(files, numbers(alloc, failing.file)?);
+    let mut source = MemSource::new(bytes, numbers(alloc, failing.read)?);
+    let mut sink = MemSink::new(alloc, numbers(alloc, failing.write)?);
+    let exit = ratelimit(alloc, &Names::of(names), &mut files, &mut source, &mut sink);
+    let mut text = exit_text(alloc, &exit)?;
+    text.push('\n')?;
+    text.push_str(str::from_utf8(sink.bytes()).unwrap_or("no UTF-8"))?;
+    Ok(text)
+}
+
+#[test]
+fn scripts_are_answered(rt: HostRuntime) -> Result<(), Fail> {
+    let alloc = rt.alloc();
+    let rows: [(&str, &[&str], &[&str]); 7] = [
+        (A, &[], &[]),
+        (
+            A,
+            &[r#"{"tick":65}"#, CHECK_A, CHECK_A, CHECK_A, CHECK_A],
+            &[
+                r#"{"line":1,"moment":65,"ticked":65,"version":0,"worker":0}"#,
+                r#"{"counts":[{"before":0}],"line":2,"moment":65,"reply":{"overallCode":"OK","statuses":[{"code":"OK","currentLimit":{"requestsPerUnit":2,"unit":"MINUTE"},"durationUntilReset":"55s","limitRemaining":1}]},"version":0,"worker":0}"#,
+                r#"{"counts":[{"before":1}],"line":3,"moment":65,"reply":{"overallCode":"OK","statuses":[{"code":"OK","currentLimit":{"requestsPerUnit":2,"unit":"MINUTE"},"durationUntilReset":"55s"}]},"version":0,"worker":0}"#,
+                r#"{"counts":[{"before":2}],"line":4,"moment":65,"reply":{"overallCode":"OVER_LIMIT","statuses":[{"code":"OVER_LIMIT","currentLimit":{"requestsPerUnit":2,"unit":"MINUTE"},"durationUntilReset":"55s"}]},"version":0,"worker":0}"#,
+                r#"{"counts":[{"seen":3}],"line":5,"moment":65,"reply":{"overallCode":"OVER_LIMIT","statuses":[{"code":"OVER_LIMIT","currentLimit":{"requestsPerUnit":2,"unit":"MINUTE"},"durationUntilReset":"55s"}]},"version":0,"worker":0}"#,
+                r#"{"charged":3,"counter":{"domain":"d","entries":[{"key":"k","value":"a"}],"start":60,"unit":"MINUTE"}}"#,
+            ],
+        ),
+        (
+            A,
+            &[r#"{"tick":59}"#, CHECK_A, r#"{"tick":60}"#, CHECK_A],
+            &[
+                r#"{"line":1,"moment":59,"ticked":59,"version":0,"worker":0}"#,
+                r#"{"counts":[{"before":0}],"line":2,"moment":59,"reply":{"overallCode":"OK","statuses":[{"code":"OK","currentLimit":{"requestsPerUnit":2,"unit":"MINUTE"},"durationUntilReset":"1s","limitRemaining":1}]},"version":0,"worker":0}"#,
+                r#"{"line":3,"moment":60,"ticked":60,"version":0,"worker":0}"#,
+                r#"{"counts":[{"before":0}],"line":4,"moment":60,"reply":{"overallCode":"OK","statuses":[{"code":"OK","currentLimit":{"requestsPerUnit":2,"unit":"MINUTE"},"durationUntilReset":"60s","limitRemaining":1}]},"version":0,"worker":0}"#,
+                r#"{"charged":1,"counter":{"domain":"d","entries":[{"key":"k","value":"a"}],"start":60,"unit":"MINUTE"}}"#,
+            ],
+        ),
+        (
+            A,
+            &[r#"{"tick":100}"#, r#"{"tick":50}"#],
+            &[
+                r#"{"line":1,"moment":100,"ticked":100,"version":0,"worker":0}"#,
+                r#"{"line":2,"moment":100,"ticked":50,"version":0,"worker":0}"#,
+            ],
+        ),
+        (
+            A0,
+            &[CHECK_A],
+            &[
+                r#"{"counts":[{"before":0}],"line":1,"moment":0,"reply":{"overallCode":"OVER_LIMIT","statuses":[{"code":"OVER_LIMIT","currentLimit":{"unit":"MINUTE"},"durationUntilReset":"60s"}]},"version":0,"worker":0}"#,
+                r#"{"charged":1,"counter":{"domain":"d","entries":[{"key":"k","value":"a"}],"start":0,"unit":"MINUTE"}}"#,
+            ],
+        ),
+        (
+            A,
+            &[""],
+            &[r#"{"line":1,"moment":0,"refused":{"at":"","number":1},"version":0,"worker":0}"#],
+        ),
+        (
+            A,
+            &[r#"{"tick":1.5}"#],
+            &[r#"{"line":1,"moment":0,"refused":{"at":"","number":9},"version":0,"worker":0}"#],
+        ),
+    ];
+    for (config, script, want) in rows {
+        let script = joined(alloc, script)?;
+        let mut text = String::from_str(alloc, "done\n")?;
+        text.push_str(joined(alloc, want)?.as_str())?;
+        let files = [config];
+        assert_eq!(rt;
+            said(alloc, &["drive", "a"], &files, script.as_str(), NONE)?.as_str(),
+            text.as_str()
+        );
+    }
+    Ok(())
+}
+
+#[test]
+fn each_exit_has_its_cause(rt: HostRuntime) -> Result<(), Fail> {
+    let alloc = rt.alloc();
+    let file = Failing { file: 2, ..NONE };
+    let read = Failing { read: 1, ..NONE };
+    let rows: [(&[&str], &[&str], Failing, &str); 9] = [
+        (&[], &[A], NONE, "usage\n"),
+        (&["drive"], &[A], NONE, "usage\n"),
+        (&["drive", "-a"], &[A], NONE, "usage\n"),
+        (&["drive", "b"], &[A], NONE, "file 0: fault\n"),
+        (&["drive", "a", "b"], &[A, DOMAIN], file, "file 1: fault\n"),
+        (&["drive", "a", "b"], &[A, DOMAIN], NONE, "file 1: 11 at \n"),
+        (
+            &["drive", "a", "b"],
+            &[DOMAIN, NESTED],
+            NONE,
+            "file 1: 9 at \n",
+        ),
+        (
+            &["drive", "a"],
+            &[KEYLESS],
+            read,
+            "file 0: 12 at /descriptors/0\n",
+        ),
+        (&["drive", "a"], &[A], read, "read fault\n"),
+    ];
+    for (words, files, failing, want) in rows {
+        assert_eq!(rt; said(alloc, words, files, "", failing)?.as_str(), want);
+    }
+    Ok(())
+}
+
+#[test]
+fn a_failed_write_leaves_the_lines_before_it(rt: HostRuntime) -> Result<(), Fail> {
+    let alloc = rt.alloc();
+    let failing = Failing { write: 3, ..NONE };
+    let script = joined(alloc, &[r#"{"tick":1}"#, r#"{"tick":2}"#, r#"{"tick":3}"#])?;
+    let want = joined(
+        alloc,
+        &[
+            "write fault",
+            r#"{"line":1,"moment":1,"ticked":1,"version":0,"worker":0}"#,
+            r#"{"line":2,"moment":2,"ticked":2,"version":0,"worker":0}"#,
+        ],
+    )?;
+    assert_eq!(rt;
+        said(alloc, &["drive", "a"], &[A], script.as_str(), failing)?.as_str(),
+        want.as_str()
+    );
+    Ok(())
+}
+
+#[test]
+fn a_counter_without_a_cell_is_refused(rt: HostRuntime) -> Result<(), Fail> {
+    let alloc = rt.alloc();
+    let mut files = Vec::new(alloc);
+    files.push(blob(alloc, A)?)?;
+    let script = joined(alloc, &[CHECK_A, CHECK_B])?;
+    let Ok(config) = configuration(alloc, &Blobs::of(files)) else {
+        assert!(rt; false, "the file is refused");
+        return Ok(());
+    };
+    let Ok(script) = Script::read(alloc, script.as_bytes()) else {
+        assert!(rt; false, "the script is refused");
+        return Ok(());
+    };
+    let driven = drive_script(alloc, script, config, 1, Seconds::capped(0))?;
+    let lines = all_lines(alloc, driven.records.items(), driven.totals.items())?;
+    assert_eq!(rt; lines.len(), 3);
+    assert_eq!(rt;
+        lines[1].as_str(),
+        "{\"line\":2,\"moment\":0,\"refused\":{\"held\":0,\"live\":1,\"name\":\"CountersFull\",\"wanted\":1},\"version\":0,\"worker\":0}\n"
+    );
+    Ok(())
+}
