@@ -16,10 +16,10 @@ fn words_of(rt: &HostRuntime, alloc: Global) -> io::Result<Names> {
     Ok(Names::of(words))
 }
 
-// Writes the text of an exit to standard error, and answers its status.
-fn report(rt: &HostRuntime, exit: &Exit) -> io::Result<u8> {
+// Writes the text of an exit to standard error.
+fn write_text(rt: &HostRuntime, exit: &Exit) -> io::Result<()> {
     match exit {
-        Exit::Done => return Ok(0),
+        Exit::Done => {}
         Exit::Usage => eprintln!(rt; "ratelimit: usage")?,
         Exit::ConfigRefused(at) => {
             let file = at.file;
@@ -33,7 +33,7 @@ fn report(rt: &HostRuntime, exit: &Exit) -> io::Result<u8> {
         Exit::FileFault(index) => eprintln!(rt; "ratelimit: file {index}: read failed")?,
         Exit::OutOfMemory => eprintln!(rt; "ratelimit: out of memory")?,
     }
-    Ok(status_of(exit))
+    Ok(())
 }
 
 fn status_of(exit: &Exit) -> u8 {
@@ -56,5 +56,7 @@ fn main(rt: HostRuntime) -> io::Result<ExitCode> {
     let mut source = ReaderSource::new(rt.stdin());
     let mut sink = WriterSink::new(rt.stdout());
     let exit = ratelimit(alloc, &words, &mut files, &mut source, &mut sink);
-    Ok(ExitCode::from(report(&rt, &exit)?))
+    // The status stands whether or not its text can be written.
+    let _written = write_text(&rt, &exit);
+    Ok(ExitCode::from(status_of(&exit)))
 }
