@@ -7,9 +7,9 @@ here=$(cd "$(dirname "${BASH_SOURCE[0]}")" && pwd)
 top=$(cd "$here/.." && pwd)
 program=${1:-$top/crates/ratelimit/out/ratelimit}
 
-if [ $# -eq 0 ] && [ ! -x "$program" ]; then
-    # Without words the root script builds the program, which then ends with usage.
-    "$top/ratelimit" </dev/null >/dev/null
+if [ $# -eq 0 ]; then
+    # The root script builds the program where it is missing or older than its sources; without words it ends with usage.
+    "$top/ratelimit" </dev/null >/dev/null 2>&1
 fi
 if [ ! -x "$program" ]; then
     printf 'FAILED program: there is none at %s\n' "$program"
@@ -133,6 +133,16 @@ judge empty-script $? 0 "$none"
 : >"$err"
 run drive "$config" <"$script" >"$out" 2>&-
 judge error-output-closed $? 0 "$minute"
+
+# An error text that can't be written leaves the status.
+run drive "$work/missing" <"$none" >"$out" 2>/dev/full
+status=$?
+if [ "$status" = 6 ]; then
+    printf 'ok status-without-text\n'
+else
+    printf 'FAILED status-without-text: status %s, not 6\n' "$status"
+    failed=1
+fi
 
 # Standard input and output.
 
