@@ -1,0 +1,4 @@
+pub mod Meters
+pub mod Simulation
+pub mod Allowing
+pub mod Quiet

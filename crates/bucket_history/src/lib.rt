@@ -1,0 +1,23 @@
+//! What happens to one quota bucket, and what has to be kept of it.
+//!
+//! `specs/` defines over a bucket's whole history which phase it is in (`History`), which requests are allowed
+//! (`Strategies`), when it reports and what (`Reports`), and how many requests an effect can allow (`Allowance`).
+//! The code keeps a few numbers of that history, `Running`. The promise: each step of these numbers is the event on
+//! the history (`proofs/Simulation.antt`), and a turn before the moment that `Running::due` tells changes nothing
+//! (`proofs/Quiet.antt`), so that a bucket wants no work until then. Moments are milliseconds, at most
+//! 1,000,000,000,000. Buckets by name, settings and streams are the crates above.
+#![tactic(auto)]
+
+mod due;
+mod meter;
+mod moments;
+mod rules;
+mod running;
+mod standing;
+mod strategy;
+
+pub use meter::{Meter, Verdict};
+pub use rules::{AtExpiry, BucketRules};
+pub use running::{Asked, Running, Turn, Usage};
+pub use standing::Standing;
+pub use strategy::Strategy;
