@@ -1,0 +1,9 @@
+pub mod Orders
+pub mod Sending
+pub mod Pasts
+pub mod Phases
+pub mod Streams
+pub mod Calls
+pub mod Tables
+pub mod Shelves
+pub mod Held

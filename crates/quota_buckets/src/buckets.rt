@@ -1,0 +1,238 @@
+ghost use Rattle.std.specs.Prelude.{◌≡◌, ◌<◌, ◌↔◌, ◌++◌, ◌∷◌, [], ℕ, Err, None, IfOk, OnOk, OnErr, false, find, option_map};
+ghost use Rattle.bucket_history.specs.Machine.{asked, nothing_kept};
+ghost use Rattle.quota_buckets.specs.Sending.{report_from};
+ghost use Rattle.quota_buckets.specs.Tables.{is_kept_as, first_kept};
+
+use crate::answers::{AdvanceFault, Assigned, Decided, NoBucket};
+use crate::call::Call;
+use crate::phase::Phase;
+use crate::report::{Report, Reports};
+use crate::slot::Bucket;
+use crate::table::Table;
+use bucket_history::{BucketRules, Running, Strategy, Usage};
+use past_log::Log;
+use quota_settings::{Attributes, BucketId, Settings};
+use rate_types::{Millis, OutOfMemory};
+use std::alloc::Global;
+use std::marker::Model;
+
+/// The buckets of one stream to the quota server. Contracts see the stream so far, each bucket with its history.
+#[derive(Drop)]
+pub struct Buckets {
+    alloc: Global,
+    settings: Settings,
+    up: bool,
+    table: Table,
+    /// The calls so far, for proofs alone.
+    calls: Log<Call, Attributes>,
+}
+
+impl Model for Buckets {
+    ghost use Rattle.quota_buckets.specs.Streams.{Stream};
+
+    ghost Value = { Stream };
+
+    ghost use Rattle.quota_buckets.specs.Calls.{stream_of};
+    ghost use Rattle.quota_buckets.specs.Held.{IsHeld};
+
+    ghost view = { λ b. stream_of b.settings b.calls.items };
+
+    ghost invariant = { λ b. IsHeld b.settings b.up b.table (stream_of b.settings b.calls.items) };
+}
+
+impl Buckets {
+    ghost use Rattle.quota_buckets.specs.Streams.{new_stream, turned_to, reports_due, connected, asked_again, answer, assigned_in, assignment_result, abandoned_in, requested, decision, found_id, phase_in, KeepAllowance};
+    ghost use Rattle.quota_buckets.specs.declared.phase.Phase.TheVariants.{None as NoPhase};
+
+    /// No bucket, time 0, the stream up. It takes no memory.
+    pub fn make(alloc: Global, settings: Settings) -> Buckets
+        ensures { result ≡ new_stream settings }
+    {
+        Buckets {
+            alloc,
+            settings,
+            up: true,
+            table: Table::new(alloc, Millis::new(0).unwrap()),
+            calls: Log::new(),
+        }
+    }
+
+    /// Brings the stream to a moment, and gives the reports that it sends on the way, in their order. A moment before the
+    /// present time is refused with TimeBack.
+    pub fn advance(&mut self, at: Millis) -> Result<Reports, AdvanceFault>
+        ensures time_back { (last : ℕ) → (result ≡ Err (AdvanceFault.TimeBack last)) ↔ ((at < self.old.time) × (last ≡ self.old.time)) }
+        ensures err { OnErr result (self.new ≡ self.old) }
+        ensures turned { OnOk result (self.new ≡ turned_to at self.old) }
+        ensures reports { IfOk result (λ sent. sent ≡ reports_due at self.old) }
+    {
+        let last = self.table.time();
+        if at.get() < last.get() {
+            return Err(AdvanceFault::TimeBack { last });
+        }
+        let Ok(reports) = self.table.advance(self.alloc, at, self.up) else {
+            return Err(AdvanceFault::OutOfMemory);
+        };
+        let nobody = Attributes::sorted(Vec::new(self.alloc));
+        self.calls = self.calls.and(&Call::Advance(at), &nobody);
+        Ok(reports)
+    }
+
+    /// Says whether the stream is there.
+    pub fn set_up(&mut self, up: bool)
+        ensures { self.new ≡ connected up self.old }
+    {
+        self.up = up;
+        let nobody = Attributes::sorted(Vec::new(self.alloc));
+        self.calls = self.calls.and(&Call::SetUp(up), &nobody);
+    }
+
+    /// The name of the bucket of a request; None exactly where no settings fit its attributes.
+    pub fn find(&self, attributes: &Attributes) -> Result<Option<BucketId>, OutOfMemory>
+        ensures { IfOk result (λ id. id ≡ found_id attributes.now self.now) }
+    {
+        let Some(settings) = self.settings.covering(attributes) else {
+            return Ok(None);
+        };
+        let id = settings.id_of(self.alloc, attributes)?;
+        Ok(Some(id))
+    }
+
+    /// Decides and counts a request, whose bucket is made where it isn't there. A request that no settings fit is allowed
+    /// and has no bucket. A bucket that is made sends its first report at once, while the stream is up.
+    pub fn request(&mut self, attributes: &Attributes) -> Result<Decided, OutOfMemory>
+        ensures err { OnErr result (self.new ≡ self.old) }
+        ensures counted { OnOk result (self.new ≡ requested attributes.now self.old) }
+        ensures decision { IfOk result (λ decided. decided ≡ decision attributes.now self.old) }
+    {
+        let Some(settings) = self.settings.covering(attributes) else {
+            return Ok(Decided {
+                bucket: None,
+                allowed: true,
+                report: None,
+            });
+        };
+        let id = settings.id_of(self.alloc, attributes)?;
+        let rules = settings.rules();
+        if let Some(allowed) = self.table.ask(&id, self.up) {
+            self.calls = self.calls.and(&Call::Request, attributes);
+            return Ok(Decided {
+                bucket: Some(id),
+                allowed,
+                report: None,
+            });
+        }
+        let first = ask_first(self.alloc, &mut self.table, &id, &rules, self.up)?;
+        self.calls = self.calls.and(&Call::Request, attributes);
+        Ok(Decided {
+            bucket: Some(id),
+            allowed: first.allowed,
+            report: first.report,
+        })
+    }
+
+    /// Decides and counts a request of a bucket; None exactly where there is no such bucket. No effect of a bucket has
+    /// then allowed more than its strategy's number.
+    pub fn decide(&mut self, id: &BucketId) -> Option<bool>
+        ensures counted { self.new ≡ asked_again id.now self.old }
+        ensures answer { result ≡ answer id.now self.old }
+        ensures none { (result ≡ None) ↔ (phase_in id.now self.old ≡ NoPhase) }
+        ensures allowance { KeepAllowance self.new }
+    {
+        let allowed = self.table.ask(id, self.up);
+        self.calls = self.calls.and(&Call::Decide, id.pairs());
+        allowed
+    }
+
+    /// Gives a bucket an assignment from now on, for its lifetime or for ever. NoBucket comes exactly where there is no
+    /// such bucket.
+    pub fn assign(
+        &mut self,
+        id: &BucketId,
+        lifetime: Option<Millis>,
+        strategy: Strategy,
+    ) -> Result<Assigned, NoBucket>
+        ensures assigned { self.new ≡ assigned_in id.now lifetime strategy self.old }
+        ensures answer { result ≡ assignment_result id.now strategy self.old }
+        ensures none { (result ≡ Err (record {})) ↔ (phase_in id.now self.old ≡ NoPhase) }
+    {
+        let call = Call::assign(&lifetime, &strategy);
+        let assigned = self.table.assign(id, lifetime, strategy);
+        self.calls = self.calls.and(&call, id.pairs());
+        assigned.ok_or(NoBucket)
+    }
+
+    /// Erases a bucket. NoBucket comes exactly where there is no such bucket.
+    pub fn abandon(&mut self, id: &BucketId) -> Result<(), NoBucket>
+        ensures abandoned { self.new ≡ abandoned_in id.now self.old }
+        ensures none { (result ≡ Err (record {})) ↔ (phase_in id.now self.old ≡ NoPhase) }
+    {
+        let was_there = self.table.abandon(id);
+        self.calls = self.calls.and(&Call::Abandon, id.pairs());
+        was_found(was_there)
+    }
+
+    /// The phase of a bucket. Whatever was called before, no effect of a bucket has allowed more than its strategy's number.
+    pub fn phase(&self, id: &BucketId) -> Phase
+        ensures phase { result ≡ phase_in id.now self.now }
+        ensures allowance { KeepAllowance self.now }
+    {
+        self.table.phase(id)
+    }
+}
+
+/// The answer to the request that makes a bucket, and its first report.
+#[derive(Drop)]
+struct First {
+    allowed: bool,
+    report: Option<Report>,
+}
+
+/// Makes a bucket with its first request.
+fn ask_first(
+    alloc: Global,
+    table: &mut Table,
+    id: &BucketId,
+    rules: &BucketRules,
+    up: bool,
+) -> Result<First, OutOfMemory>
+    requires { find (is_kept_as id.now) table.old.kept ≡ None }
+    ensures made { OnOk result (table.new ≡ record table.old { kept = table.old.kept ++ first_kept id.now rules.now table.old.time up ∷ [] }) }
+    ensures allowed { IfOk result (λ first. first.allowed ≡ (asked rules.now table.old.time up (nothing_kept table.old.time)).allowed) }
+    ensures report { IfOk result (λ first. first.report
+        ≡ option_map (report_from id.now) (asked rules.now table.old.time up (nothing_kept table.old.time)).report) }
+    ensures err { OnErr result (table.new ≡ table.old) }
+{
+    let at = table.time();
+    let asked = Running::new(at).asked(rules, at, up);
+    let report = report_of(alloc, id, asked.report)?;
+    let bucket = Bucket::of(id.copy(alloc)?, *rules, asked.running);
+    table.add(alloc, id.copy(alloc)?, bucket)?;
+    Ok(First {
+        allowed: asked.allowed,
+        report,
+    })
+}
+
+/// The report of a bucket, if there is one.
+fn report_of(
+    alloc: Global,
+    id: &BucketId,
+    usage: Option<Usage>,
+) -> Result<Option<Report>, OutOfMemory>
+    ensures { IfOk result (λ report. report ≡ option_map (report_from id.now) usage) }
+{
+    match usage {
+        Some(usage) => {
+            let id = id.copy(alloc)?;
+            Ok(Some(Report::of(id, usage)))
+        }
+        None => Ok(None),
+    }
+}
+
+/// NoBucket where a bucket wasn't there.
+fn was_found(was_there: bool) -> Result<(), NoBucket>
+    ensures { (result ≡ Err (record {})) ↔ (was_there ≡ false) }
+{
+    if was_there { Ok(()) } else { Err(NoBucket) }
+}

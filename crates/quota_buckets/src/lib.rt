@@ -1,0 +1,30 @@
+//! The client side of Envoy's Rate Limit Quota Service: the quota buckets of one stream to the quota server.
+//!
+//! A request belongs to the bucket that the settings name, is decided there by the strategy in effect, and is counted
+//! for the bucket's next report. Contracts see `Buckets` as the stream so far: its time, whether it is up, and each
+//! bucket that is there with all that happened to it (`specs/Streams.antt`). The promise: each call changes this history
+//! by its one event and answers what the history says; decisions, phases and reports are recounted from the whole
+//! history in `bucket_history`, and the code keeps running values that are proved to be those of it. No effect of a
+//! bucket ever allows more than its strategy's number, whatever else happens (`KeepAllowance`).
+//!
+//! `advance` costs as much as falls due, times a logarithm; `find`, `decide` and `request` look a bucket up by its name.
+//! `decide`, `assign`, `abandon`, `set_up` and `phase` take no memory. The slot of an erased bucket is kept.
+#![tactic(auto)]
+
+mod answers;
+mod buckets;
+mod call;
+mod phase;
+mod report;
+mod shelf;
+mod slot;
+mod table;
+
+pub use answers::{AdvanceFault, Assigned, Decided, NoBucket};
+pub use bucket_history::{AtExpiry, BucketRules, Strategy};
+pub use buckets::Buckets;
+pub use phase::Phase;
+pub use quota_settings::{
+    Attributes, BucketId, BucketSettings, Pair, Part, PartSource, Parts, Settings,
+};
+pub use report::{Report, Reports};
