@@ -1,5 +1,5 @@
 ghost use Rattle.std.proofs.Common.{rules};
-ghost use Rattle.std.specs.Prelude.{◌≡◌, ◌<◌, ◌==◌, IfOk, IfSome, position, length};
+ghost use Rattle.std.specs.Prelude.{◌≡◌, ◌<◌, ◌≤◌, ◌==◌, Ok, IfOk, IfSome, position, length};
 ghost use Rattle.std.specs.Cmp.{partial_order_from_own_ties};
 ghost use Rattle.std.specs.Cmp.Lexicographic.{lists_ties};
 ghost use Rattle.std.specs.Cmp.Rules.{comparing};
@@ -130,9 +130,12 @@ impl Entries {
         Ok(Entries { items })
     }
 
-    /// The entries in order.
+    /// The entries in order, 1 to 32.
+    #[tactic(auto, unfolding(crate::specs::Entries::entries_of))]
     pub fn items(&self) -> &[Entry]
-        ensures { result.now ≡ self.now }
+        ensures all { result.now ≡ self.now }
+        ensures bounds { (1 ≤ length result.now) × (length result.now ≤ 32) }
+        ensures lawful { entries_of result.now ≡ Ok result.now }
     {
         &self.items
     }

@@ -1,4 +1,4 @@
-ghost use Rattle.std.specs.Prelude.{◌≡◌, IfOk};
+ghost use Rattle.std.specs.Prelude.{◌≡◌, ◌≤◌, IfOk, length};
 ghost use Rattle.rate_types.specs.Requests.{request_of};
 
 use crate::{Entries, OutOfMemory, Text, Unit};
@@ -81,22 +81,28 @@ impl Request {
     }
 
     /// The domain, which isn't empty.
+    #[tactic(auto, unfolding(crate::specs::Requests::request_of))]
     pub fn domain(&self) -> &Text
-        ensures { result.now ≡ self.now.domain }
+        ensures same { result.now ≡ self.now.domain }
+        ensures bounds { 1 ≤ length result.now }
     {
         &self.domain
     }
 
     /// The descriptors in order, 1 to 32.
+    #[tactic(auto, unfolding(crate::specs::Requests::request_of))]
     pub fn descriptors(&self) -> &[Descriptor]
-        ensures { result.now ≡ self.now.descriptors }
+        ensures all { result.now ≡ self.now.descriptors }
+        ensures bounds { (1 ≤ length result.now) × (length result.now ≤ 32) }
     {
         &self.descriptors
     }
 
     /// The hits of each descriptor that has none of its own, at least 1.
+    #[tactic(auto, unfolding(crate::specs::Requests::request_of))]
     pub fn hits(&self) -> u32
-        ensures { result ≡ self.now.hits }
+        ensures same { result ≡ self.now.hits }
+        ensures bounds { 1 ≤ result }
     {
         self.hits
     }
