@@ -12,7 +12,7 @@ pub returns-clause-charges : goal.returns-clause-charges
 returns-clause-charges c =
     let d : Descriptor = c.index-descriptors-0.result in
     let one : c.args.request.now.descriptors ≡ c.index-descriptors-0.result ∷ [] =
-    one_item c.args.request.now.descriptors c.index-descriptors-0.result c.index-descriptors-0.result c.requires (c.index-descriptors-0.is ∙ ap (λ xs. slice_index_or xs 0 c.index-descriptors-0.result) c.descriptors.ensures) in
+    one_item c.args.request.now.descriptors c.index-descriptors-0.result c.index-descriptors-0.result c.requires (c.index-descriptors-0.is ∙ ap (λ xs. slice_index_or xs 0 c.index-descriptors-0.result) c.descriptors.ensures.all) in
     let found : c.lookup-found.result ≡ found_for c.args.self.now.config c.args.request.now c.index-descriptors-0.result = search rules in
     let hits : c.unwrap_or-hits.result ≡ hits_of c.args.request.now c.index-descriptors-0.result = search rules in
     let moment : c.self-2.inside.moment ≡ c.args.self.now.moment = search rules in
@@ -25,6 +25,6 @@ returns-clause-charges c =
 pub returns-clause-room : goal.returns-clause-room
 returns-clause-room c =
     let one : c.args.request.now.descriptors ≡ c.index-descriptors-0.result ∷ [] =
-    one_item c.args.request.now.descriptors c.index-descriptors-0.result c.index-descriptors-0.result c.requires (c.index-descriptors-0.is ∙ ap (λ xs. slice_index_or xs 0 c.index-descriptors-0.result) c.descriptors.ensures) in
+    one_item c.args.request.now.descriptors c.index-descriptors-0.result c.index-descriptors-0.result c.requires (c.index-descriptors-0.is ∙ ap (λ xs. slice_index_or xs 0 c.index-descriptors-0.result) c.descriptors.ensures.all) in
     let found : c.lookup-found.result ≡ found_for c.args.self.now.config c.args.request.now c.index-descriptors-0.result = search rules in
     room_one c.args.self.now.config c.args.request.now c.index-descriptors-0.result one c.args.self.now refl (rw (← found) c.in-Ok.ensures.room)
