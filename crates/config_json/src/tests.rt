@@ -1,3 +1,5 @@
+mod orders;
+
 use crate::{print_config, read_config};
 use descriptor_tree::ConfigFault;
 use rate_types::{Blob, Blobs};

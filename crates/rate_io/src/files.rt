@@ -1,5 +1,5 @@
 ghost use Rattle.std.specs.Prelude.{◌≡◌, ◌≤◌, ◌<◌, Option, List, ℕ, length, IfOk, Err};
-ghost use Rattle.rate_io.specs.Causes.{Rose};
+ghost use Rattle.rate_io.specs.Causes.{Rose, counted};
 ghost use Rattle.rate_io.specs.Content.{Told};
 ghost use Rattle.rate_io.specs.declared.files.FileFault.TheVariants.{TooLong};
 
@@ -20,11 +20,15 @@ pub trait Files {
     /// The content of each name, where it is told.
     ghost content: { Self → List ℕ → Option (List ℕ) };
 
+    /// How many reads were asked of it. The number stops at the last value of a counter of 64 bits.
+    ghost calls: { Self → ℕ };
+
     /// How often it has failed. The count stops at the last value of a counter of 64 bits.
     ghost faults: { Self → ℕ };
 
     /// The content of a file of at most `limit` bytes.
     fn read(&mut self, alloc: Global, name: &str, limit: u64) -> Result<Vec<u8>, FileFault>
+        ensures counts { calls self.new ≡ counted (calls self.old) 1 }
         ensures same { content self.new ≡ content self.old }
         ensures bytes { IfOk result (λ v. Told (content self.old name.now) (λ bytes. v.items ≡ bytes)) }
         ensures within { IfOk result (λ v. length v.items ≤ limit) }

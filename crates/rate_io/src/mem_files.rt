@@ -62,6 +62,8 @@ fn content_within(alloc: Global, bytes: &[u8], limit: u64) -> Result<Vec<u8>, Fi
 impl Files for MemFiles {
     ghost content = { λ s name. option_map (λ f. f.content) (find (λ f. bytes_eq f.name name) s.files.items) };
 
+    ghost calls = { λ s. s.calls };
+
     ghost faults = { λ s. s.faults };
 
     fn read(&mut self, alloc: Global, name: &str, limit: u64) -> Result<Vec<u8>, FileFault> {

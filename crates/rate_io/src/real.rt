@@ -82,22 +82,30 @@ impl<W: Write + Drop> Sink for WriterSink<W> {
 #[derive(Drop)]
 pub struct HostFiles<R: std::rt::Files + Drop> {
     rt: R,
+    calls: u64,
     faults: u64,
 }
 
 impl<R: std::rt::Files + Drop> HostFiles<R> {
     /// The files that this runtime reaches.
     pub fn new(rt: R) -> Self {
-        HostFiles { rt, faults: 0 }
+        HostFiles {
+            rt,
+            calls: 0,
+            faults: 0,
+        }
     }
 }
 
 impl<R: std::rt::Files + Drop> Files for HostFiles<R> {
     ghost content = { λ _ _. None };
 
+    ghost calls = { λ s. s.calls };
+
     ghost faults = { λ s. s.faults };
 
     fn read(&mut self, alloc: Global, name: &str, limit: u64) -> Result<Vec<u8>, FileFault> {
+        self.calls = self.calls.saturating_add(1);
         let Ok(file) = fs::open(&self.rt, name) else {
             self.faults = self.faults.saturating_add(1);
             return Err(FileFault::Failed);

@@ -1,5 +1,6 @@
 -- Facts about told contents, and the bytes of several files.
-use Rattle.std.proofs.Common.{◌≡◌, ℕ, ◌≤◌, List, [], ◌∷◌, ◌++◌, length, Option, Some, None}
+use Rattle.std.proofs.Common.{◌≡◌, ℕ, ◌≤◌, List, [], ◌∷◌, ◌++◌, length, Option, Some, None, ◌+◌, arith}
+use Rattle.rate_io.specs.Causes.{counted}
 use Rattle.rate_io.specs.Content.{Told}
 use Rattle.ratelimit_cli.specs.Exits.{AreFilesOf}
 
@@ -22,3 +23,7 @@ files_push content [] [] name bytes h is within = (is, within, tt)
 files_push content [] (b ∷ files) name bytes h is within = absurd h
 files_push content (n ∷ names) [] name bytes h is within = absurd h
 files_push content (n ∷ names) (b ∷ files) name bytes h is within = (h.0, h.1, files_push content names files name bytes h.2 is within)
+
+-- one more after so many
+pub counted_more : (before more now next : ℕ) → now ≡ counted before more → next ≡ counted now 1 → next ≡ counted before (more + 1)
+counted_more before more now next is then = omega (arith, is, then)

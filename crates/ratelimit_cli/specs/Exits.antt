@@ -1,9 +1,9 @@
 -- What each exit of the program says.
-use Rattle.std.specs.Prelude.{◌≡◌, ℕ, ◌<◌, ◌≤◌, ◌⊎◌, List, [], ◌∷◌, length, Bool, true, Option, None, Some, slice_get, Result, Ok, Err, ⊤}
+use Rattle.std.specs.Prelude.{◌≡◌, ℕ, ◌+◌, ◌<◌, ◌≤◌, ◌⊎◌, List, [], ◌∷◌, length, take, Bool, true, Option, None, Some, slice_get, Result, Ok, Err, ⊤}
 use Rattle.std.specs.List.{concat}
 use Rattle.std.specs.Io.KnownBytes.{IsAtEnd}
 use Rattle.rate_types.specs.declared.refused.At.{At}
-use Rattle.rate_io.specs.Causes.{Rose}
+use Rattle.rate_io.specs.Causes.{Rose, counted}
 use Rattle.rate_io.specs.Content.{Told, Appends}
 use Rattle.rule_lookup.specs.declared.flat.FlatConfig.{FlatConfig}
 use Rattle.rls_core.specs.declared.totals.Total.{Total}
@@ -19,7 +19,7 @@ use Rattle.ratelimit_cli.specs.declared.exit.Exit.{Exit}
 use Rattle.ratelimit_cli.specs.declared.exit.Exit.TheVariants.{Done, Usage, ConfigRefused, TooLong, ReadFault, WriteFault, FileFault, OutOfMemory}
 
 -- What the call found and left: the words, what is told of files, source and sink before and after it, whether a read
--- has answered the end, and the counts of faults before and after.
+-- has answered the end, and the counts of faults, and of the reads asked of the files, before and after.
 pub record World : Type 0 where
   pub words : List (List ℕ)
   pub content : List ℕ → Option (List ℕ)
@@ -30,6 +30,7 @@ pub record World : Type 0 where
   pub after : Option (List ℕ)
   pub pieces : Option (List (List ℕ))
   pub more : Option (List (List ℕ))
+  pub file_calls : ℕ × ℕ
   pub file_faults : ℕ × ℕ
   pub source_faults : ℕ × ℕ
   pub sink_faults : ℕ × ℕ
@@ -48,6 +49,14 @@ pub record FilesSay (w : World) (reading : Result (List FlatConfig) At) : Type 0
   pub files : List (List ℕ)
   pub contents : AreFilesOf w.content names files
   pub spells : configuration_of files ≡ reading
+
+-- The files before the one of this index were read, then its read was asked for and failed, and no other.
+pub record FailsAt (content : List ℕ → Option (List ℕ)) (names : List (List ℕ)) (calls faults : ℕ × ℕ) (index : ℕ) : Type 0 where
+  pub within : index < length names
+  pub files : List (List ℕ)
+  pub earlier : AreFilesOf content (take index names) files
+  pub asked : calls.1 ≡ counted calls.0 (index + 1)
+  pub rose : Rose faults.0 faults.1
 
 -- a file has more than 67,108,864 bytes
 pub record HasLongFile (w : World) : Type 0 where
@@ -95,9 +104,9 @@ pub record DrivesFront (w : World) : Type 0 where
 abbrev pub NothingWritten : World → Type 0
 NothingWritten w = (w.after ≡ w.written) × (w.more ≡ w.pieces)
 
--- the words name this many files, and the one of this index among them
-abbrev pub Names : World → ℕ → Type 0
-Names w index = (names : List (List ℕ)) × (command_of w.words ≡ Some names) × (index < length names)
+-- the words name files, and the one of this index failed
+abbrev pub FileFails : World → ℕ → Type 0
+FileFails w index = (names : List (List ℕ)) × (command_of w.words ≡ Some names) × FailsAt w.content names w.file_calls w.file_faults index
 
 -- the words are a command
 abbrev pub IsCommand : World → Type 0
@@ -106,6 +115,34 @@ IsCommand w = (names : List (List ℕ)) × (command_of w.words ≡ Some names)
 -- the files spell a configuration
 abbrev pub IsConfigured : World → Type 0
 IsConfigured w = (config : List FlatConfig) × FilesSay w (Ok config)
+
+-- the exit of steps that all succeeded, or of the first that failed
+abbrev pub exit_of : Result ⊤ Exit → Exit
+exit_of (Ok done) = Done
+exit_of (Err exit) = exit
+
+-- these are the bytes of the files of these names, all of which are told, each of at most 67,108,864 bytes
+abbrev pub AreToldFiles : (List ℕ → Option (List ℕ)) → List (List ℕ) → List (List ℕ) → Type 0
+AreToldFiles content [] [] = ⊤
+AreToldFiles content (name ∷ names) (bytes ∷ files) = (content name ≡ Some bytes) × (length bytes ≤ 67108864) × AreToldFiles content names files
+AreToldFiles content [] (bytes ∷ files) = ⊥
+AreToldFiles content (name ∷ names) [] = ⊥
+
+-- The words are a command, files and input are told and within the limits, the files spell a configuration, and no count
+-- of faults rose.
+pub record HasNoCause (w : World) : Type 0 where
+  pub names : List (List ℕ)
+  pub command : command_of w.words ≡ Some names
+  pub files : List (List ℕ)
+  pub contents : AreToldFiles w.content names files
+  pub config : List FlatConfig
+  pub spells : configuration_of files ≡ Ok config
+  pub input : List ℕ
+  pub left : w.left ≡ Some input
+  pub fits : IsTooLong input → ⊥
+  pub file_faults : Rose w.file_faults.0 w.file_faults.1 → ⊥
+  pub source_faults : Rose w.source_faults.0 w.source_faults.1 → ⊥
+  pub sink_faults : Rose w.sink_faults.0 w.sink_faults.1 → ⊥
 
 -- When each exit comes, and what stands then. An exit says that all steps before it succeeded, so each comes exactly
 -- where its cause is the first; want of memory alone is free.
@@ -116,5 +153,10 @@ Explains (ConfigRefused at) w = FilesSay w (Err at) × NothingWritten w
 Explains TooLong w = (HasLongFile w ⊎ (IsConfigured w × Told w.left IsTooLong)) × NothingWritten w
 Explains ReadFault w = IsConfigured w × Rose w.source_faults.0 w.source_faults.1 × NothingWritten w
 Explains WriteFault w = DrivesFront w × Rose w.sink_faults.0 w.sink_faults.1
-Explains (FileFault index) w = Names w index × Rose w.file_faults.0 w.file_faults.1 × NothingWritten w
+Explains (FileFault index) w = FileFails w index × NothingWritten w
 Explains OutOfMemory w = IsCommand w × NothingWritten w
+
+-- What the call answers: the exit's cause, and that it is Done, or want of memory, where there is no other cause.
+pub record Answers (exit : Exit) (w : World) : Type 0 where
+  pub cause : Explains exit w
+  pub complete : HasNoCause w → (exit ≡ Done) ⊎ (exit ≡ OutOfMemory)

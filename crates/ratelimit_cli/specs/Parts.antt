@@ -11,7 +11,7 @@ use Rattle.drive_run.specs.declared.line.Line.{Line}
 use Rattle.drive_run.specs.Totals.{AreTotalsOf}
 use Rattle.drive_run.specs.Run.{IsRun}
 use Rattle.ratelimit_cli.specs.Output.{lines_of, AddsPieces, AppendsFront}
-use Rattle.ratelimit_cli.specs.Exits.{IsTooLong}
+use Rattle.ratelimit_cli.specs.Exits.{FailsAt, IsTooLong}
 use Rattle.ratelimit_cli.specs.declared.exit.Exit.{Exit}
 use Rattle.ratelimit_cli.specs.declared.exit.Exit.TheVariants.{Done, Usage, ConfigRefused, TooLong, ReadFault, WriteFault, FileFault, OutOfMemory}
 
@@ -23,15 +23,15 @@ pub record HasLong (content : List ℕ → Option (List ℕ)) (names : List (Lis
   pub long : Told (content name) (λ bytes. 67108864 < length bytes)
 
 -- why the files of these names weren't read
-abbrev pub IsOfFiles : (List ℕ → Option (List ℕ)) → List (List ℕ) → ℕ → ℕ → Exit → Type 0
-IsOfFiles content names before after TooLong = HasLong content names
-IsOfFiles content names before after (FileFault index) = (index < length names) × Rose before after
-IsOfFiles content names before after OutOfMemory = ⊤
-IsOfFiles content names before after Done = ⊥
-IsOfFiles content names before after Usage = ⊥
-IsOfFiles content names before after (ConfigRefused at) = ⊥
-IsOfFiles content names before after ReadFault = ⊥
-IsOfFiles content names before after WriteFault = ⊥
+abbrev pub IsOfFiles : (List ℕ → Option (List ℕ)) → List (List ℕ) → ℕ × ℕ → ℕ × ℕ → Exit → Type 0
+IsOfFiles content names calls faults TooLong = HasLong content names
+IsOfFiles content names calls faults (FileFault index) = FailsAt content names calls faults index
+IsOfFiles content names calls faults OutOfMemory = ⊤
+IsOfFiles content names calls faults Done = ⊥
+IsOfFiles content names calls faults Usage = ⊥
+IsOfFiles content names calls faults (ConfigRefused at) = ⊥
+IsOfFiles content names calls faults ReadFault = ⊥
+IsOfFiles content names calls faults WriteFault = ⊥
 
 -- why the files are no configuration
 abbrev pub IsOfConfig : Result (List FlatConfig) At → Exit → Type 0

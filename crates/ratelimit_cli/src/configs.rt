@@ -19,7 +19,7 @@ pub const MOST_BYTES: u64 = 67_108_864;
 /// The bytes of the files of these names, in order. The first that can't be read ends it.
 pub fn read_files<F: Files>(alloc: Global, files: &mut F, names: &[Word]) -> Result<Blobs, Exit>
     ensures contents { IfOk result (λ b. AreFilesOf (F.content files.old) names.now b) }
-    ensures fault { IfErr result (IsOfFiles (F.content files.old) names.now (F.faults files.old) (F.faults files.new)) }
+    ensures fault { IfErr result (IsOfFiles (F.content files.old) names.now (F.calls files.old, F.calls files.new) (F.faults files.old, F.faults files.new)) }
 {
     let mut blobs = Vec::new(alloc);
     'names: for index in 0..names.len() {

@@ -1,3 +1,5 @@
+mod limits;
+
 use crate::configs::configuration;
 use crate::output::all_lines;
 use crate::{Exit, ratelimit};
@@ -90,7 +92,7 @@ fn exit_text(alloc: Global, exit: &Exit) -> Result<String, Fail> {
     Ok(String::from_str(alloc, name)?)
 }
 
-// The exit and then the output of a run of these words over files with the names a, b and so on.
+// The exit and then the output of a run of these words over files with the names a, b and c.
 fn said(
     alloc: Global,
     words: &[&str],
@@ -103,7 +105,7 @@ fn said(
         names.push(word(alloc, text)?)?;
     }
     let mut files = Vec::new(alloc);
-    for (name, content) in ["a", "b"].iter().zip(contents) {
+    for (name, content) in ["a", "b", "c"].iter().zip(contents) {
         files.push(MemFile {
             name: word(alloc, name)?,
             content: blob(alloc, content)?,
@@ -217,26 +219,6 @@ fn each_exit_has_its_cause(rt: HostRuntime) -> Result<(), Fail> {
     for (words, files, failing, want) in rows {
         assert_eq!(rt; said(alloc, words, files, "", failing)?.as_str(), want);
     }
-    Ok(())
-}
-
-#[test]
-fn a_failed_write_leaves_the_lines_before_it(rt: HostRuntime) -> Result<(), Fail> {
-    let alloc = rt.alloc();
-    let failing = Failing { write: 3, ..NONE };
-    let script = joined(alloc, &[r#"{"tick":1}"#, r#"{"tick":2}"#, r#"{"tick":3}"#])?;
-    let want = joined(
-        alloc,
-        &[
-            "write fault",
-            r#"{"line":1,"moment":1,"ticked":1,"version":0,"worker":0}"#,
-            r#"{"line":2,"moment":2,"ticked":2,"version":0,"worker":0}"#,
-        ],
-    )?;
-    assert_eq!(rt;
-        said(alloc, &["drive", "a"], &[A], script.as_str(), failing)?.as_str(),
-        want.as_str()
-    );
     Ok(())
 }
 

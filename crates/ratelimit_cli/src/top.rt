@@ -1,5 +1,5 @@
 ghost use Rattle.std.specs.Prelude.{◌≡◌};
-ghost use Rattle.ratelimit_cli.specs.Exits.{Explains};
+ghost use Rattle.ratelimit_cli.specs.Exits.{Explains, Answers, exit_of};
 ghost use Rattle.ratelimit_cli.specs.Parts.{IsOfOutput};
 
 use crate::Exit;
@@ -16,7 +16,12 @@ use std::alloc::Global;
 const CELLS: u32 = 262_144;
 
 // Runs a script by a configuration, and writes the texts of its records and totals.
-fn run_and_write<K: Sink>(alloc: Global, config: FlatConfigs, script: Script, sink: &mut K) -> Exit
+fn run_and_write<K: Sink>(
+    alloc: Global,
+    config: FlatConfigs,
+    script: Script,
+    sink: &mut K,
+) -> Result<(), Exit>
     ensures { IsOfOutput config script (record {
       written = K.written sink.old;
       after = K.written sink.new;
@@ -24,18 +29,60 @@ fn run_and_write<K: Sink>(alloc: Global, config: FlatConfigs, script: Script, si
       more = K.pieces sink.new;
       before_faults = K.faults sink.old;
       after_faults = K.faults sink.new;
-    }) result }
+    }) (exit_of result) }
 {
     let Ok(driven) = drive_script(alloc, script, config, CELLS, Seconds::capped(0)) else {
-        return Exit::OutOfMemory;
+        return Err(Exit::OutOfMemory);
     };
     let Ok(lines) = all_lines(alloc, driven.records.items(), driven.totals.items()) else {
-        return Exit::OutOfMemory;
+        return Err(Exit::OutOfMemory);
     };
     match write_lines(sink, &lines) {
-        Ok(()) => Exit::Done,
-        Err(_) => Exit::WriteFault,
+        Ok(()) => Ok(()),
+        Err(_) => Err(Exit::WriteFault),
     }
+}
+
+// The steps in their order, up to the first that fails.
+fn drive<F: Files, S: Source, K: Sink>(
+    alloc: Global,
+    words: &Names,
+    files: &mut F,
+    source: &mut S,
+    sink: &mut K,
+) -> Result<(), Exit>
+    ensures { Explains (exit_of result) (record {
+      words = words.now;
+      content = F.content files.old;
+      left = S.left source.old;
+      rest = S.left source.new;
+      ended = S.ended source.new;
+      written = K.written sink.old;
+      after = K.written sink.new;
+      pieces = K.pieces sink.old;
+      more = K.pieces sink.new;
+      file_calls = (F.calls files.old, F.calls files.new);
+      file_faults = (F.faults files.old, F.faults files.new);
+      source_faults = (S.faults source.old, S.faults source.new);
+      sink_faults = (K.faults sink.old, K.faults sink.new);
+    }) }
+{
+    let Some(names) = command_of(words.items()) else {
+        return Err(Exit::Usage);
+    };
+    let blobs = match read_files(alloc, files, names) {
+        Ok(blobs) => blobs,
+        Err(exit) => return Err(exit),
+    };
+    let config = match configuration(alloc, &blobs) {
+        Ok(config) => config,
+        Err(exit) => return Err(exit),
+    };
+    let script = match read_input(alloc, source) {
+        Ok(script) => script,
+        Err(exit) => return Err(exit),
+    };
+    run_and_write(alloc, config, script, sink)
 }
 
 /// Runs the command that the words name: `drive CONFIG..` reads configuration files and a script from the source, and
@@ -50,7 +97,7 @@ pub fn ratelimit<F: Files, S: Source, K: Sink>(
     source: &mut S,
     sink: &mut K,
 ) -> Exit
-    ensures { Explains result (record {
+    ensures { Answers result (record {
       words = words.now;
       content = F.content files.old;
       left = S.left source.old;
@@ -60,25 +107,14 @@ pub fn ratelimit<F: Files, S: Source, K: Sink>(
       after = K.written sink.new;
       pieces = K.pieces sink.old;
       more = K.pieces sink.new;
+      file_calls = (F.calls files.old, F.calls files.new);
       file_faults = (F.faults files.old, F.faults files.new);
       source_faults = (S.faults source.old, S.faults source.new);
       sink_faults = (K.faults sink.old, K.faults sink.new);
     }) }
 {
-    let Some(names) = command_of(words.items()) else {
-        return Exit::Usage;
-    };
-    let blobs = match read_files(alloc, files, names) {
-        Ok(blobs) => blobs,
-        Err(exit) => return exit,
-    };
-    let config = match configuration(alloc, &blobs) {
-        Ok(config) => config,
-        Err(exit) => return exit,
-    };
-    let script = match read_input(alloc, source) {
-        Ok(script) => script,
-        Err(exit) => return exit,
-    };
-    run_and_write(alloc, config, script, sink)
+    match drive(alloc, words, files, source, sink) {
+        Ok(()) => Exit::Done,
+        Err(exit) => exit,
+    }
 }

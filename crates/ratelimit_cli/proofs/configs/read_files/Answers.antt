@@ -2,7 +2,7 @@ use Rattle.std.proofs.Common.{◌≡◌, ◌<◌, ◌≤◌, ◌+◌, ◌++◌, 
 use Rattle.std.proofs.lemmas.List.{take_more}
 use Rattle.std.proofs.lemmas.Option.{slice_get_read}
 use Rattle.rate_io.specs.Content.{Told}
-use Rattle.ratelimit_cli.proofs.Told.{told_map, files_push}
+use Rattle.ratelimit_cli.proofs.Told.{told_map, files_push, counted_more}
 use Rattle.ratelimit_cli.proofs.configs.read_files.Goals as goal
 
 pub returns-in-Err-TooLong-clause-fault : goal.returns-in-Err-TooLong-clause-fault
@@ -25,5 +25,6 @@ names-preserved g c =
     record {
       same = c.read.ensures.same ∙ inv.same;
       later = omega (arith, inv.later, c.read.ensures.later);
+      asked = counted_more (g.F.Files.calls c.args.files.now) c.names.index (g.F.Files.calls c.names.files) (g.F.Files.calls c.read.new.self) inv.asked c.read.ensures.counts;
       read = rw (taken, pushed) (files_push (g.F.Files.content c.args.files.now) (take c.names.index c.args.names.now) c.names.blobs.items c.index-names-index.result c.of.result inv.read told (rw c.of.ensures c.in-Ok.ensures.within));
     }
