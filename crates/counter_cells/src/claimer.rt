@@ -1,4 +1,4 @@
-ghost use Rattle.std.specs.Prelude.{◌≡◌};
+ghost use Rattle.std.specs.Prelude.{◌≡◌, ◌≤◌, length, true};
 ghost use Rattle.counter_cells.specs.Seats.{IsClaimer, SitsAt};
 
 use crate::naming::CellNaming;
@@ -9,6 +9,7 @@ use std::marker::{Model, PhantomData};
 #[derive(Drop)]
 pub struct CellClaimer<N: CellNaming> {
     pub(crate) seat: Chair,
+    cells: u32,
     of: PhantomData<N>,
 }
 
@@ -17,29 +18,44 @@ impl<N: CellNaming> Model for CellClaimer<N> {
 
     ghost Value = { View };
 
+    ghost use Rattle.std.specs.Prelude.{◌≡◌, ◌≤◌};
     ghost use Rattle.counter_cells.specs.Seats.{IsClaimer, SitsAt};
 
     ghost view = { λ c. c.seat.me.0 };
 
-    ghost invariant = { λ c. SitsAt N.table c.seat × IsClaimer N.setup c.seat.me.0 };
+    ghost invariant = { λ c. SitsAt N.table c.seat × IsClaimer N.setup c.seat.me.0 × (c.cells ≡ N.setup.cells) × (c.cells ≤ 1048576) };
 }
 
 impl<N: CellNaming> CellClaimer<N> {
-    pub(crate) fn new(seat: Chair) -> CellClaimer<N>
-        requires { SitsAt N.table seat × IsClaimer N.setup seat.me.0 }
+    pub(crate) fn new(seat: Chair, cells: u32) -> CellClaimer<N>
+        requires seat { SitsAt N.table seat × IsClaimer N.setup seat.me.0 }
+        requires cells { (cells ≡ N.setup.cells) × (cells ≤ 1048576) }
         ensures { result ≡ seat.me.0 }
     {
         CellClaimer {
             seat,
+            cells,
             of: PhantomData,
         }
+    }
+
+    /// How many cells there are: 1 to 1,048,576.
+    pub fn cells(&self) -> u32
+        ensures cells { (result ≡ N.setup.cells) × (result ≤ 1048576) }
+        ensures view { (length self.now.cells ≡ result) × (self.now.claimer ≡ true) }
+    {
+        self.cells
     }
 
     pub(crate) fn into_seat(self) -> Chair
         ensures seat { SitsAt N.table result × (result.me.0 ≡ self) }
         ensures claimer { IsClaimer N.setup self }
     {
-        let CellClaimer { seat, of: _ } = self;
+        let CellClaimer {
+            seat,
+            cells: _,
+            of: _,
+        } = self;
         seat
     }
 }

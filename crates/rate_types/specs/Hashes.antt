@@ -1,13 +1,14 @@
--- What hashing a text, an entry, entries or a counter's name writes; equal values write the same.
+-- What hashing a text, an entry, entries, a counter's name or a counter writes; equal values write the same.
 use Rattle.std.specs.Prelude.{ℕ, ◌++◌, List}
 use Rattle.std.specs.Cmp.Lexicographic.{bytes_decides}
 use Rattle.std.specs.Hash.{HashWrites, Alike, same_Alike, on_Alike, and-Alike, items_Alike}
 use Rattle.std.specs.Hash as written
 use Rattle.std.specs.Cmp.{unsigned_Decides}
 use Rattle.rate_types.specs.Units.{unit_rank}
-use Rattle.rate_types.specs.Counters.{same_text, same_entry, same_entries, same_name}
+use Rattle.rate_types.specs.Counters.{same_text, same_entry, same_entries, same_name, same_counter}
 use Rattle.rate_types.specs.declared.entries.Entry.{Entry}
 use Rattle.rate_types.specs.declared.counter_name.CounterName.{CounterName}
+use Rattle.rate_types.specs.declared.counter_key.CounterKey.{CounterKey}
 
 abbrev pub text_writes : List ℕ → HashWrites
 text_writes text = written.str text
@@ -21,6 +22,9 @@ entries_writes = written.slice entry_writes
 abbrev pub name_writes : CounterName → HashWrites
 name_writes n = text_writes n.domain ++ (entries_writes n.entries ++ written.u8 (unit_rank n.unit))
 
+abbrev pub key_writes : CounterKey → HashWrites
+key_writes k = name_writes k.name ++ written.u64 k.start
+
 pub text_alike : Alike same_text text_writes
 text_alike = same_Alike text_writes bytes_decides
 
@@ -32,3 +36,6 @@ entries_alike = items_Alike entry_alike
 
 pub name_alike : Alike same_name name_writes
 name_alike = and-Alike (on_Alike (λ n. n.domain) text_alike) (and-Alike (on_Alike (λ n. n.entries) entries_alike) (on_Alike (λ n. unit_rank n.unit) (same_Alike written.u8 unsigned_Decides)))
+
+pub key_alike : Alike same_counter key_writes
+key_alike = and-Alike (on_Alike (λ k. k.name) name_alike) (on_Alike (λ k. k.start) (same_Alike written.u64 unsigned_Decides))

@@ -5,9 +5,11 @@ ghost use Rattle.std.specs.Cmp.Rules.{comparing};
 ghost use Rattle.std.specs.Ordering.{as_partial_cmp};
 ghost use Rattle.rate_types.specs.Counters.{key_cmp, same_counter};
 ghost use Rattle.rate_types.specs.contracts.counter_name.CounterNameOrd.TheImpl.Laws.{matches_eq-law as name_ties};
+ghost use Rattle.rate_types.specs.Hashes.{key_writes, key_alike};
 
 use crate::{CounterName, OutOfMemory, Seconds};
 use std::cmp::Ordering;
+use std::hash::{Hash, Hasher};
 
 /// A counter: a name and the window that starts at `start`, in seconds.
 /// Counters are ordered by these, in this order.
@@ -66,5 +68,16 @@ impl PartialOrd for CounterKey {
 
     fn partial_cmp(&self, other: &CounterKey) -> Option<Ordering> {
         Some(self.cmp(other))
+    }
+}
+
+impl Hash for CounterKey {
+    ghost hash_input = { key_writes };
+
+    ghost respects_eq = { key_alike.fed };
+
+    fn hash<H: Hasher>(&self, state: &mut H) {
+        self.name.hash(state);
+        self.start.get().hash(state);
     }
 }
