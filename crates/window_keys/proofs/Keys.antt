@@ -1,5 +1,5 @@
 -- Different counters have different bytes.
-use Rattle.std.proofs.Common.{◌≡◌, ℕ, zero, suc, ◌+◌, ◌*◌, ◌/◌, ◌%◌, ◌^◌, ◌<◌, ◌≤◌, List, [], ◌∷◌, ◌++◌, length, refl, sym, ap, ◌∙◌, append_assoc, arith}
+use Rattle.std.proofs.Common.{◌≡◌, ℕ, zero, suc, ◌/◌, ◌%◌, ◌^◌, ◌<◌, ◌≤◌, List, [], ◌∷◌, ◌++◌, length, refl, sym, ap, ◌∙◌, append_assoc, arith}
 use Rattle.std.proofs.Math.Nat.{pow-suc, div-div-eq-div-mul, div-one}
 use Rattle.std.specs.Int.{w16, w64, byte_at, bytes_high_first, to_be_bytes}
 use Rattle.std.specs.List.{flat_map}
@@ -7,7 +7,7 @@ use Rattle.rate_types.specs.declared.unit.Unit.{Unit}
 use Rattle.rate_types.specs.declared.unit.Unit.TheVariants.{Second, Minute, Hour, Day}
 use Rattle.rate_types.specs.declared.entries.Entry.{Entry}
 use Rattle.rate_types.specs.Units.{unit_rank}
-use Rattle.window_keys.specs.Key.{two_bytes, eight_bytes, sized, entry_bytes, key_bytes}
+use Rattle.window_keys.specs.Key.{eight_bytes, sized, entry_bytes, key_bytes}
 
 -- lists of one length, each before more
 same_front : (xs ys more rest : List ℕ) → length xs ≡ length ys → xs ++ more ≡ ys ++ rest → (xs ≡ ys) × (more ≡ rest)
@@ -76,7 +76,7 @@ same_entries [] (g ∷ gs) long same = absurd (omega (arith, long))
 same_entries (e ∷ es) [] long same = absurd (omega (arith, long))
 same_entries (e ∷ es) (g ∷ gs) long same =
     let grouped : sized e.key ++ (sized e.value ++ flat_map entry_bytes es) ≡ sized g.key ++ (sized g.value ++ flat_map entry_bytes gs) =
-        sym (append_assoc (sized e.key) (sized e.value) (flat_map entry_bytes es)) ∙ same ∙ append_assoc (sized g.key) (sized g.value) (flat_map entry_bytes gs) in
+    sym (append_assoc (sized e.key) (sized e.value) (flat_map entry_bytes es)) ∙ same ∙ append_assoc (sized g.key) (sized g.value) (flat_map entry_bytes gs) in
     let keys = same_sized e.key g.key (sized e.value ++ flat_map entry_bytes es) (sized g.value ++ flat_map entry_bytes gs) grouped in
     let values = same_sized e.value g.value (flat_map entry_bytes es) (flat_map entry_bytes gs) keys.1 in
     let more : es ≡ gs = same_entries es gs (omega (arith, long)) values.1 in

@@ -1,10 +1,8 @@
-use Rattle.std.proofs.Common.{ℕ, List, ◌≡◌, ◌≤◌, ◌<◌, ◌^◌, [], ◌∷◌, ◌++◌, length, take, ◌∙◌, sym, ap, arith}
+use Rattle.std.proofs.Common.{ℕ, List, ◌≡◌, ◌++◌, length, take, ◌∙◌, ap, arith}
 use Rattle.std.proofs.lemmas.Grind.{common_steps}
 use Rattle.std.specs.Int.{w64, to_be_bytes}
-use Rattle.std.specs.List.{flat_map}
-use Rattle.rate_types.specs.Units.{unit_rank}
 use Rattle.rate_types.specs.declared.entries.Entry.{Entry}
-use Rattle.window_keys.specs.Key.{sized, entry_bytes, key_bytes}
+use Rattle.window_keys.specs.Key.{sized}
 use Rattle.window_keys.proofs.Keys.{same_key, spelled}
 use Rattle.window_keys.proofs.key.write_key.Goals as goal
 
