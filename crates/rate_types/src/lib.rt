@@ -36,3 +36,6 @@ pub use seconds::Seconds;
 pub use text::{Text, TextFault};
 pub use unit::Unit;
 pub use word::{Names, Word};
+
+#[cfg(test)]
+mod tests;
