@@ -25,3 +25,6 @@ pub use sink::Sink;
 pub use source::{Failed, Source};
 pub use sure::{SureSink, SureSource};
 pub use whole::read_up_to;
+
+#[cfg(test)]
+mod tests;

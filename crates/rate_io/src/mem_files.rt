@@ -1,4 +1,4 @@
-ghost use Rattle.std.specs.Prelude.{◌≡◌, ◌≢◌, ◌<◌, ◌≤◌, ℕ, Err, IfOk, length, option_map, find};
+ghost use Rattle.std.specs.Prelude.{◌≡◌, ◌≢◌, ◌<◌, ◌≤◌, ℕ, List, Err, IfOk, length, option_map, find};
 ghost use Rattle.std.specs.Option.{option_copied};
 ghost use Rattle.std.specs.Str.{bytes_eq};
 ghost use Rattle.rate_io.specs.declared.files.FileFault.TheVariants.{TooLong};
@@ -26,7 +26,11 @@ pub struct MemFiles {
 
 impl MemFiles {
     /// These files. It takes no memory.
-    pub fn new(files: Vec<MemFile>, failing: Vec<u64>) -> MemFiles {
+    pub fn new(files: Vec<MemFile>, failing: Vec<u64>) -> MemFiles
+        ensures content { (name : List ℕ) → ⟦<MemFiles as Files>⟧.content result name ≡ option_map (λ f. f.content) (find (λ f. bytes_eq f.name name) files.items) }
+        ensures calls { ⟦<MemFiles as Files>⟧.calls result ≡ 0 }
+        ensures faults { ⟦<MemFiles as Files>⟧.faults result ≡ 0 }
+    {
         MemFiles {
             files,
             calls: 0,

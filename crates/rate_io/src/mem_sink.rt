@@ -17,7 +17,11 @@ pub struct MemSink {
 
 impl MemSink {
     /// A sink that was written nothing. It takes no memory.
-    pub fn new(alloc: Global, failing: Vec<u64>) -> MemSink {
+    pub fn new(alloc: Global, failing: Vec<u64>) -> MemSink
+        ensures written { ⟦<MemSink as Sink>⟧.written result ≡ Some [] }
+        ensures pieces { ⟦<MemSink as Sink>⟧.pieces result ≡ Some [] }
+        ensures faults { ⟦<MemSink as Sink>⟧.faults result ≡ 0 }
+    {
         MemSink {
             alloc,
             bytes: Vec::new(alloc),
@@ -29,12 +33,16 @@ impl MemSink {
     }
 
     /// The bytes that were written.
-    pub fn bytes(&self) -> &[u8] {
+    pub fn bytes(&self) -> &[u8]
+        ensures { ⟦<MemSink as Sink>⟧.written self.now ≡ Some result.now }
+    {
         &self.bytes
     }
 
     /// The pieces that were written, each by one call.
-    pub fn pieces(&self) -> &[Vec<u8>] {
+    pub fn pieces(&self) -> &[Vec<u8>]
+        ensures { ⟦<MemSink as Sink>⟧.pieces self.now ≡ Some (map (λ v. v.items) result.now) }
+    {
         &self.pieces
     }
 
@@ -52,10 +60,7 @@ impl MemSink {
         if self.pieces.push(copy).is_err() {
             return None;
         }
-        if self.bytes.extend_from_slice(piece).is_err() {
-            self.pieces.pop();
-            return None;
-        }
+        self.bytes.extend_from_slice(piece).unwrap();
         Some(())
     }
 }

@@ -1,4 +1,4 @@
-ghost use Rattle.std.specs.Prelude.{◌≡◌};
+ghost use Rattle.std.specs.Prelude.{◌≡◌, Some, false};
 
 use crate::{Failed, Source};
 use std::io::{Cursor, Read};
@@ -15,7 +15,11 @@ pub struct MemSource {
 
 impl MemSource {
     /// A source of these bytes. It takes no memory.
-    pub fn new(bytes: Vec<u8>, failing: Vec<u64>) -> MemSource {
+    pub fn new(bytes: Vec<u8>, failing: Vec<u64>) -> MemSource
+        ensures left { ⟦<MemSource as Source>⟧.left result ≡ Some bytes.items }
+        ensures ended { ⟦<MemSource as Source>⟧.ended result ≡ false }
+        ensures faults { ⟦<MemSource as Source>⟧.faults result ≡ 0 }
+    {
         MemSource {
             bytes: Cursor::new(bytes),
             has_ended: false,

@@ -1,5 +1,5 @@
 // The adapters over the real input, output and files. They tell no content; what std answers is trusted.
-ghost use Rattle.std.specs.Prelude.{None};
+ghost use Rattle.std.specs.Prelude.{◌≡◌, None, false};
 
 use crate::{Failed, FileFault, Files, Sink, Source};
 use std::alloc::Global;
@@ -16,7 +16,11 @@ pub struct ReaderSource<R: Read + Drop> {
 
 impl<R: Read + Drop> ReaderSource<R> {
     /// The source that this reader is.
-    pub fn new(inner: R) -> Self {
+    pub fn new(inner: R) -> Self
+        ensures left { ⟦<ReaderSource<R> as Source>⟧.left result ≡ R.remaining inner }
+        ensures ended { ⟦<ReaderSource<R> as Source>⟧.ended result ≡ false }
+        ensures faults { ⟦<ReaderSource<R> as Source>⟧.faults result ≡ 0 }
+    {
         ReaderSource {
             inner,
             has_ended: false,
@@ -55,7 +59,9 @@ pub struct WriterSink<W: Write + Drop> {
 
 impl<W: Write + Drop> WriterSink<W> {
     /// The sink that this writer is.
-    pub fn new(inner: W) -> Self {
+    pub fn new(inner: W) -> Self
+        ensures { ⟦<WriterSink<W> as Sink>⟧.faults result ≡ 0 }
+    {
         WriterSink { inner, faults: 0 }
     }
 }
@@ -88,7 +94,10 @@ pub struct HostFiles<R: std::rt::Files + Drop> {
 
 impl<R: std::rt::Files + Drop> HostFiles<R> {
     /// The files that this runtime reaches.
-    pub fn new(rt: R) -> Self {
+    pub fn new(rt: R) -> Self
+        ensures calls { ⟦<HostFiles<R> as Files>⟧.calls result ≡ 0 }
+        ensures faults { ⟦<HostFiles<R> as Files>⟧.faults result ≡ 0 }
+    {
         HostFiles {
             rt,
             calls: 0,

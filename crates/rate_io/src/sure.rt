@@ -1,4 +1,4 @@
-ghost use Rattle.std.specs.Prelude.{◌≡◌, Some, None, IfOk, if◌then◌else◌};
+ghost use Rattle.std.specs.Prelude.{◌≡◌, [], Some, None, false, IfOk, if◌then◌else◌};
 
 use crate::{Failed, Sink, Source};
 use rate_types::OutOfMemory;
@@ -14,7 +14,10 @@ pub struct SureSource {
 
 impl SureSource {
     /// A source of these bytes. It takes no memory.
-    pub fn new(bytes: Vec<u8>) -> SureSource {
+    pub fn new(bytes: Vec<u8>) -> SureSource
+        ensures left { ⟦<SureSource as Source>⟧.left result ≡ Some bytes.items }
+        ensures ended { ⟦<SureSource as Source>⟧.ended result ≡ false }
+    {
         SureSource {
             bytes: Cursor::new(bytes),
             has_ended: false,
@@ -48,7 +51,9 @@ pub struct SureSink {
 
 impl SureSink {
     /// A sink that was written nothing. It takes no memory.
-    pub fn new(alloc: Global) -> SureSink {
+    pub fn new(alloc: Global) -> SureSink
+        ensures { ⟦<SureSink as Sink>⟧.written result ≡ Some [] }
+    {
         SureSink {
             bytes: Vec::new(alloc),
             is_whole: true,
