@@ -1,7 +1,7 @@
 -- One more node in the maps of a level.
-use Rattle.std.proofs.Common.{◌≡◌, ℕ, ◌&&◌, Bool, true, false, cond, List, Option, Some, None, BTreeMap, is_eq, refl, sym, ap, ◌∙◌}
+use Rattle.std.proofs.Common.{◌≡◌, ℕ, ◌&&◌, Bool, true, false, cond, List, Some, None, BTreeMap, refl, sym, ap, ◌∙◌}
 use Rattle.std.specs.BTreeMap.{get, Updates}
-use Rattle.rate_types.specs.Counters.{text_cmp, entry_cmp, same_text, same_entry}
+use Rattle.rate_types.specs.Counters.{text_cmp, entry_cmp, same_text}
 use Rattle.rate_types.specs.contracts.entries.EntryOrd.TheImpl.Laws.{matches_eq-law as entry_ties}
 use Rattle.rate_types.specs.contracts.text.TextOrd.TheImpl.Laws.{matches_eq-law as text_ties}
 use Rattle.rate_types.specs.declared.entries.Entry.{Entry}

@@ -1,5 +1,5 @@
 -- What the maps of a level hold: the first node of each key and value, and the first of each key alone.
-use Rattle.std.specs.Prelude.{◌≡◌, ℕ, List, find, option_map, Option, Some, if◌then◌else◌}
+use Rattle.std.specs.Prelude.{◌≡◌, ℕ, List, find, option_map, Some, if◌then◌else◌}
 use Rattle.std.specs.BTreeMap.{BTreeMap, get}
 use Rattle.rate_types.specs.Counters.{text_cmp, entry_cmp}
 use Rattle.rate_types.specs.declared.entries.Entry.{Entry}

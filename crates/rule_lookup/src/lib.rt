@@ -12,3 +12,6 @@ mod level;
 pub use flat::{FlatConfig, FlatConfigs, FlatRule, FlatRules};
 pub use found::Found;
 pub use index::{Index, lookup};
+
+#[cfg(test)]
+mod tests;
