@@ -8,5 +8,7 @@
 
 mod agenda;
 mod level;
+#[cfg(test)]
+mod tests;
 
 pub use agenda::Agenda;

@@ -15,6 +15,8 @@ mod rules;
 mod running;
 mod standing;
 mod strategy;
+#[cfg(test)]
+mod tests;
 
 pub use meter::{Meter, Verdict};
 pub use rules::{AtExpiry, BucketRules};
