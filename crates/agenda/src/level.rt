@@ -18,18 +18,21 @@ impl Model for Level {
 }
 
 impl Level {
+    /// A level of these moments. It takes no memory.
     pub fn of(moments: Vec<u64>) -> Level
         ensures { result ≡ moments.items }
     {
         Level { moments }
     }
 
+    /// Its moments.
     pub fn moments(&self) -> &[u64]
         ensures { result.now ≡ self.now }
     {
         self.moments.as_slice()
     }
 
+    /// Sets the moment of a place.
     pub fn set(&mut self, place: usize, moment: u64)
         requires { place < length self.old }
         ensures { self.new ≡ slice_set self.old place moment }

@@ -19,6 +19,7 @@ pub enum Phase {
 impl Phase {
     ghost use Rattle.quota_buckets.specs.Phases.{phase_of};
 
+    /// The phase as callers see it: without its expiry.
     pub fn of(standing: &Standing) -> Phase
         ensures { result ≡ phase_of standing.now }
     {
