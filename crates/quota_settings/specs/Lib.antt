@@ -1,3 +1,7 @@
 pub mod Pairs
 pub mod Parts
 pub mod Covering
+pub mod FieldNames
+pub mod NamedMembers
+pub mod ReadAttributes
+pub mod ReadStrategy

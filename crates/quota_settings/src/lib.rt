@@ -8,12 +8,17 @@
 
 mod attributes;
 mod bucket_id;
+mod fields;
 mod pair;
 mod part;
+mod read_attributes;
 mod settings;
+mod strategies;
+mod texts;
 
 pub use attributes::Attributes;
 pub use bucket_id::BucketId;
 pub use pair::Pair;
 pub use part::{Part, PartSource, Parts};
 pub use settings::{BucketSettings, Settings};
+pub use strategies::read_strategy;
