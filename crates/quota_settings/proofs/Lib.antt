@@ -1,3 +1,5 @@
 pub mod Naming
 pub mod Members
 pub mod Rising
+pub mod Intervals
+pub mod Items

@@ -5,3 +5,6 @@ pub mod FieldNames
 pub mod NamedMembers
 pub mod ReadAttributes
 pub mod ReadStrategy
+pub mod ReadParts
+pub mod ReadBehaviors
+pub mod ReadSettings

@@ -18,6 +18,10 @@ pair_at = named (kinds.short_text 18) pair_named
 unfoldable pub pairs_in : Object → Said (Option (List Pair))
 pairs_in o = members_in pair_at o.place o.members
 
--- attributes, as a kind of field: an object of texts
+-- attributes: an object of texts
 unfoldable pub attributes : List ℕ → Data → Said (Option (List Pair))
 attributes = kinds.and_read kinds.message (λ place o. pairs_in o)
+
+-- attributes as a kind of field
+abbrev pub attributes_kind : List ℕ → Data → Said (Option (List Pair))
+attributes_kind = kinds.and_read kinds.any attributes

@@ -87,6 +87,6 @@ strategy_in o = do
   place ← ends t.1
   one_of place b.0 n.0 t.0
 
--- a strategy, as a kind of field
-unfoldable pub strategy : List ℕ → Data → Said (Option Strategy)
+-- a strategy as a kind of field
+abbrev pub strategy : List ℕ → Data → Said (Option Strategy)
 strategy = kinds.and_read kinds.message (λ place o. strategy_in o)

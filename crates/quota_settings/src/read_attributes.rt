@@ -1,15 +1,19 @@
 ghost use Rattle.std.specs.Prelude.{◌≡◌, IfOk, Some};
 ghost use Rattle.serde_json.specs.View.{view, members_view};
+ghost use Rattle.proto_json.specs.Fields.{field_place};
+ghost use Rattle.proto_json.specs.Held.{object_of, Takes};
 ghost use Rattle.proto_json.specs.Said.{Answers, reading_of};
+ghost use Rattle.quota_settings.specs.FieldNames as names;
 ghost use Rattle.quota_settings.specs.NamedMembers.{members_in};
 ghost use Rattle.quota_settings.specs.Pairs.{IsSorted};
 ghost use Rattle.quota_settings.specs.ReadAttributes as reading;
 
 use crate::attributes::Attributes;
+use crate::fields::take_match_value;
 use crate::pair::Pair;
 use crate::texts::read_text;
-use proto_json::FormFault;
-use rate_types::{Place, Refused, Text};
+use proto_json::{Fields, FormFault};
+use rate_types::{OutOfMemory, Place, Refused, Text};
 use serde_json::{Map, Value};
 use std::alloc::Global;
 
@@ -48,6 +52,29 @@ fn read_pairs(
         pairs.push(pair)?;
     }
     Ok(pairs)
+}
+
+// The place of the attributes that a bucket's settings match.
+fn match_place(fields: &Fields) -> Result<Place, OutOfMemory>
+    ensures { IfOk result (λ p. p ≡ field_place names.matches (object_of fields.now)) }
+{
+    fields.field_place("match", "match")
+}
+
+/// Takes the attributes that a bucket's settings match.
+#[tactic(auto, using(proto_json::specs::Laws::take_and_read))]
+pub fn take_match(alloc: Global, fields: &mut Fields) -> Result<Option<Attributes>, FormFault>
+    ensures { Takes (λ o. o) reading.attributes_kind names.matches
+        (object_of fields.old) result (object_of fields.new) }
+{
+    let place = match_place(fields)?;
+    match take_match_value(fields)? {
+        Some(value) => {
+            let attributes = Attributes::read(alloc, value, place)?;
+            Ok(Some(attributes))
+        }
+        None => Ok(None),
+    }
 }
 
 impl Attributes {

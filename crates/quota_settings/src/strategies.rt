@@ -7,8 +7,8 @@ ghost use Rattle.quota_settings.specs.FieldNames as names;
 ghost use Rattle.quota_settings.specs.ReadStrategy as reading;
 
 use crate::fields::{
-    take_count, take_fill_interval, take_max_tokens, take_per_unit_fields, take_rule_name,
-    take_time_unit, take_token_fields, take_tokens_per_fill,
+    take_count, take_fallback_fields, take_fill_interval, take_max_tokens, take_per_unit_fields,
+    take_rule_name, take_time_unit, take_token_fields, take_tokens_per_fill,
 };
 use bucket_history::Strategy;
 use proto_json::{Fields, FormFault};
@@ -160,9 +160,9 @@ fn one_of(
     }
 }
 
-/// The strategy of an object's fields.
+// The strategy of an object's fields.
 #[tactic(auto, using(proto_json::specs::Laws::reading_then), unfolding(crate::specs::ReadStrategy::strategy_in))]
-pub fn strategy_of(mut fields: Fields) -> Result<Strategy, FormFault>
+fn strategy_of(mut fields: Fields) -> Result<Strategy, FormFault>
     ensures { Answers (λ s. Some s) result (reading_of (reading.strategy_in (object_of fields))) }
 {
     let blanket = take_blanket_rule(&mut fields)?;
@@ -177,11 +177,26 @@ pub fn strategy_of(mut fields: Fields) -> Result<Strategy, FormFault>
 /// of reading it: 34 TwoOfOne where more than one of its three fields is there, 14 UnitMissing for a limit without a unit,
 /// 44 NoTokens, 45 NoFill or 46 FillZero for a token bucket that has no token, no fill or no interval, and those of every
 /// message. A strategy without any field allows all.
-#[tactic(auto, using(proto_json::specs::Laws::reading_then), unfolding(crate::specs::ReadStrategy::strategy, proto_json::specs::Kinds::and_read))]
+#[tactic(auto, using(proto_json::specs::Laws::reading_then), unfolding(proto_json::specs::Kinds::and_read))]
 pub fn read_strategy(value: Value, place: Place) -> Result<Strategy, FormFault>
     ensures { Answers (λ s. Some s) result (reading_of (reading.strategy place (view value))) }
 {
     let fields = Fields::of(value, place)?;
     let strategy = strategy_of(fields)?;
     Ok(strategy)
+}
+
+/// Takes the strategy of a behaviour.
+#[tactic(auto, using(proto_json::specs::Laws::take_and_read))]
+pub fn take_fallback(fields: &mut Fields) -> Result<Option<Strategy>, FormFault>
+    ensures { Takes (λ o. o) reading.strategy names.fallback_rate_limit
+        (object_of fields.old) result (object_of fields.new) }
+{
+    match take_fallback_fields(fields)? {
+        Some(fallback) => {
+            let strategy = strategy_of(fallback)?;
+            Ok(Some(strategy))
+        }
+        None => Ok(None),
+    }
 }
