@@ -32,3 +32,6 @@ pub use part::{Part, PartSource, Parts};
 pub use settings::{BucketSettings, Settings};
 pub use settings_file::read_settings;
 pub use strategies::read_strategy;
+
+#[cfg(test)]
+mod tests;
