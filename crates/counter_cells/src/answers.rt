@@ -1,5 +1,5 @@
 /// A cell, and the claim under which it is wanted.
-#[derive(Clone, Copy, Debug, PartialEq, Eq)]
+#[derive(Clone, Copy, Debug, PartialEq, Eq, Default)]
 pub struct Spot {
     pub cell: u32,
     pub claim: u64,

@@ -1,0 +1,12 @@
+mod Keys
+mod Lists
+mod Sums
+mod Moves
+mod Counting
+mod Opening
+mod Indexing
+mod Ringing
+mod Wanting
+mod Pinning
+mod Acquiring
+mod Starting

@@ -1,0 +1,139 @@
+-- Pins on the cells of counters.
+use Rattle.std.proofs.Common.{◌≡◌, ◌⊎◌, ℕ, zero, suc, ◌+◌, ◌≤◌, ◌<◌, ◌==◌, ◌&&◌, List, [], ◌∷◌, ◌++◌, length, take, get_or, Bool, true, false, refl, sym, ap, ◌∙◌, subst, arith, inl, inr, append_assoc}
+use Rattle.std.proofs.lemmas.Bool.Decides.{nat_tests}
+use Rattle.std.proofs.lemmas.Grind.{common_steps}
+use Rattle.std.proofs.lemmas.List.{take_more, append-nil}
+use mathlib.Core.Option.{some}
+use lib.ListN.{get_elem?}
+use Rattle.rate_types.specs.declared.counter_key.CounterKey.{CounterKey}
+use Rattle.rate_types.specs.Counters.{same_counter}
+use Rattle.rate_types.specs.Units.{unit_rank, seconds_of}
+use Rattle.window_keys.specs.Window.{window_start}
+use Rattle.window_keys.specs.Counter.{window_end_of}
+use Rattle.counter_cells.specs.Sums.{total, one_if}
+use Rattle.counter_cells.specs.Views.{cell_or}
+use Rattle.counter_cells.specs.Steps.{good_pin, missed}
+use Rattle.counter_cells.specs.declared.view.View.{View}
+use Rattle.counter_cells.specs.declared.view.OtherGate.{OtherGate}
+use Rattle.counter_cells.specs.declared.answers.Spot.{Spot}
+use Rattle.counter_directory.specs.declared.claim.Claim.{Claim}
+use Rattle.counter_directory.specs.Claims.{binds, end_of, IsLawfulClaims}
+use Rattle.counter_directory.specs.Gates.{Gates}
+use Rattle.counter_directory.specs.Wants.{AreOf, Bound, AreShown, Agree, pinned_on}
+use Rattle.counter_directory.specs.Acquired.{PinsAfterMisses}
+use Rattle.counter_directory.proofs.Keys.{same_is}
+use Rattle.counter_directory.proofs.Lists.{at_cut, at_within}
+use Rattle.counter_directory.proofs.Counting.{total_some}
+use Rattle.counter_directory.proofs.Ringing.{end_later}
+
+parts : (a b d : Bool) → 1 ≤ one_if (a && (b && d)) → (a ≡ true) × (b ≡ true) × (d ≡ true)
+parts true true true h = (refl, refl, refl)
+parts true true false h = absurd (omega arith)
+parts true false d h = absurd (omega arith)
+parts false b d h = absurd (omega arith)
+
+same_number : (a b : ℕ) → (a == b) ≡ true → a ≡ b
+same_number a b t = grind (arith, nat_tests)
+
+-- the claim that binds a counter
+found : (q : CounterKey) (k c : ℕ) (claims : List Claim) → 1 ≤ binds q k c claims → (i : ℕ) × (x : Claim) × (get_elem? claims i ≡ some x) × (x.key ≡ q) × (x.cell ≡ k) × (x.claim ≡ c)
+found q k c claims some_one =
+    let s = total_some (λ (x : Claim). one_if (same_counter x.key q && ((x.cell == k) && (x.claim == c)))) claims some_one in
+    let e = parts (same_counter s.1.key q) (s.1.cell == k) (s.1.claim == c) s.3 in
+    (s.0, s.1, s.2, same_is s.1.key q e.0, same_number s.1.cell k e.1, same_number s.1.claim c e.2)
+
+pub cell_bound : (cells most : ℕ) (q : CounterKey) (k c : ℕ) (claims : List Claim) → IsLawfulClaims cells most claims → 1 ≤ binds q k c claims → k < cells
+cell_bound cells most q k c claims law some_one =
+    let s = found q k c claims some_one in
+    let f = law s.0 s.1 s.2 in
+    let l = f.cell in
+    let e = s.4 in
+    omega arith
+
+-- the claimer's view shows the number of a counter whose window isn't over
+pub shown_by : (v : View) (cells last drawn : ℕ) (q : CounterKey) (k c : ℕ) (claims : List Claim) (waiting : List Spot) → Gates v cells last drawn claims waiting → 1 ≤ binds q k c claims → last < window_end_of q → (cell_or v.cells k).claim ≡ c
+shown_by v cells last drawn q k c claims waiting g some_one lt =
+    let s = found q k c claims some_one in
+    let o = g.opened s.0 s.1 s.2 (subst (λ (z : CounterKey). last < window_end_of z) (sym s.3) lt) in
+    ap (λ j. (cell_or v.cells j).claim) (sym s.4) ∙ o.1.2 ∙ s.5
+
+pinned_more : (ss : List Spot) (s : Spot) (v : View) → pinned_on (ss ++ s ∷ []) v ≡ good_pin s.cell s.claim (pinned_on ss v)
+pinned_more [] s v = refl
+pinned_more (x ∷ xs) s v = pinned_more xs s (good_pin x.cell x.claim v)
+
+-- misses beside pins
+missed_through : (ss : List Spot) (more : List OtherGate) (v : View) → record (pinned_on ss v) { others = (pinned_on ss v).others ++ more } ≡ pinned_on ss (record v { others = v.others ++ more })
+missed_through [] more v = refl
+missed_through (s ∷ ss) more v = missed_through ss more (good_pin s.cell s.claim v)
+
+pub no_misses : (v : View) → PinsAfterMisses [] v v
+no_misses v = ([], nil v.others)
+  where
+    nil : (l : List OtherGate) → v ≡ record v { others = v.others ++ [] }
+    nil l = let e : v.others ++ [] ≡ v.others = simp append-nil in ap (λ (o : List OtherGate). record v { others = o }) (sym e)
+
+-- one more miss before a pin
+pub miss_more : (v w x : View) (cell claim : ℕ) (is_open : Bool) → PinsAfterMisses [] v w → x ≡ missed cell claim is_open w → PinsAfterMisses [] v x
+miss_more v w x cell claim is_open p e = let one : List OtherGate = record { cell = cell; claim = claim; is_open = is_open } ∷ [] in
+    (p.0 ++ one, e ∙ ap (λ (u : View). record u { others = u.others ++ one }) p.1 ∙ ap (λ (o : List OtherGate). record v { others = o }) (append_assoc v.others p.0 one))
+
+pub pin_after : (v w x : View) (s : Spot) → PinsAfterMisses [] v w → x ≡ good_pin s.cell s.claim w → PinsAfterMisses (s ∷ []) v x
+pin_after v w x s p e = (p.0, e ∙ ap (good_pin s.cell s.claim) p.1)
+
+pub pins_more : (ss new : List Spot) (s : Spot) (v w x : View) → new ≡ ss ++ s ∷ [] → PinsAfterMisses ss v w → PinsAfterMisses (s ∷ []) w x → PinsAfterMisses new v x
+pins_more ss new s v w x e p q =
+    let a : record w { others = w.others ++ q.0 } ≡ pinned_on ss (record v { others = v.others ++ (p.0 ++ q.0) })
+    = ap (λ (u : View). record u { others = u.others ++ q.0 }) p.1 ∙ missed_through ss q.0 (record v { others = v.others ++ p.0 }) ∙ ap (λ (o : List OtherGate). pinned_on ss (record v { others = o })) (append_assoc v.others p.0 q.0) in
+    (p.0 ++ q.0, q.1 ∙ ap (good_pin s.cell s.claim) a ∙ sym (pinned_more ss s (record v { others = v.others ++ (p.0 ++ q.0) })) ∙ ap (λ (l : List Spot). pinned_on l (record v { others = v.others ++ (p.0 ++ q.0) })) (sym e))
+
+-- how many pins there are then
+good_count : (ss : List Spot) (v : View) → length (pinned_on ss v).good ≡ length ss + length v.good
+good_count [] v = omega arith
+good_count (s ∷ ss) v = let r = good_count ss (good_pin s.cell s.claim v) in omega arith
+
+pub pins_good : (ss : List Spot) (v w : View) → PinsAfterMisses ss v w → length w.good ≡ length ss + length v.good
+pins_good ss v w p = ap (λ (u : View). length u.good) p.1 ∙ good_count ss (record v { others = v.others ++ p.0 })
+
+pub pins_moment : (ss : List Spot) (v w : View) → PinsAfterMisses ss v w → w.moment ≡ v.moment
+pins_moment ss v w p = ap (λ (u : View). u.moment) p.1 ∙ same ss (record v { others = v.others ++ p.0 })
+  where
+    same : (ss : List Spot) (v : View) → (pinned_on ss v).moment ≡ v.moment
+    same [] v = refl
+    same (s ∷ ss) v = same ss (good_pin s.cell s.claim v)
+
+-- what holds of each counter with its spot, held of one more pair
+each_more : (P : CounterKey → Spot → Type 0) (keys : List CounterKey) (spots new : List Spot) (i : ℕ) (d : CounterKey) (s : Spot) → i < length keys → length spots ≡ i → new ≡ spots ++ s ∷ [] → P (get_or keys i d) s
+    → ((j : ℕ) (k : CounterKey) (t : Spot) → get_elem? (take i keys) j ≡ some k → get_elem? spots j ≡ some t → P k t)
+    → (j : ℕ) (k : CounterKey) (t : Spot) → get_elem? (take (i + 1) keys) j ≡ some k → get_elem? new j ≡ some t → P k t
+each_more P keys spots new i d s lt len e here all j k t at there =
+    let a = subst (λ (l : List CounterKey). get_elem? l j ≡ some k) (take_more keys i d lt) at in
+    let b = subst (λ (l : List Spot). get_elem? l j ≡ some t) e there in
+    let n : length (take i keys) ≡ i = grind (arith, common_steps) in
+    pick n (at_cut (take i keys) (get_or keys i d) k j a) (at_cut spots s t j b)
+  where
+    pick : length (take i keys) ≡ i → ((j < length (take i keys)) × (get_elem? (take i keys) j ≡ some k)) ⊎ ((j ≡ length (take i keys)) × (get_or keys i d ≡ k)) → ((j < length spots) × (get_elem? spots j ≡ some t)) ⊎ ((j ≡ length spots) × (s ≡ t)) → P k t
+    pick n (inl x) (inl y) = all j k t x.1 y.1
+    pick n (inl x) (inr y) = let a = x.0 in let b = y.0 in absurd (omega arith)
+    pick n (inr x) (inl y) = let a = x.0 in let b = y.0 in absurd (omega arith)
+    pick n (inr x) (inr y) = subst (λ (u : CounterKey). P u t) x.1 (subst (λ (r : Spot). P (get_or keys i d) r) y.1 here)
+
+pub bound_more : (claims : List Claim) (keys : List CounterKey) (spots new : List Spot) (i : ℕ) (d : CounterKey) (s : Spot) → i < length keys → length spots ≡ i → new ≡ spots ++ s ∷ [] → 1 ≤ binds (get_or keys i d) s.cell s.claim claims → Bound claims (take i keys) spots → Bound claims (take (i + 1) keys) new
+bound_more claims keys spots new i d s = each_more (λ k t. 1 ≤ binds k t.cell t.claim claims) keys spots new i d s
+
+pub shown_more : (v : View) (last : ℕ) (keys : List CounterKey) (spots new : List Spot) (i : ℕ) (d : CounterKey) (s : Spot) → i < length keys → length spots ≡ i → new ≡ spots ++ s ∷ [] → (last < window_end_of (get_or keys i d) → (cell_or v.cells s.cell).claim ≡ s.claim) → AreShown v last (take i keys) spots → AreShown v last (take (i + 1) keys) new
+shown_more v last keys spots new i d s = each_more (λ k t. last < window_end_of k → (cell_or v.cells t.cell).claim ≡ t.claim) keys spots new i d s
+
+-- spots of one cell have one number
+pub agrees : (v : View) (last : ℕ) (keys : List CounterKey) (spots : List Spot) → length spots ≡ length keys → AreOf last keys → AreShown v last keys spots → Agree spots
+agrees v last keys spots len all shown i j s t at there same =
+    sym (one i s at) ∙ ap (λ k. (cell_or v.cells k).claim) same ∙ one j t there
+  where
+    some_at : (l : List CounterKey) (i : ℕ) → i < length l → (k : CounterKey) × (get_elem? l i ≡ some k)
+    some_at [] i h = absurd (omega arith)
+    some_at (x ∷ xs) zero h = (x, refl)
+    some_at (x ∷ xs) (suc i) h = some_at xs i (omega arith)
+
+    one : (i : ℕ) (s : Spot) → get_elem? spots i ≡ some s → (cell_or v.cells s.cell).claim ≡ s.claim
+    one i s at =
+        let k = some_at keys i (let a = at_within spots i s at in omega arith) in
+        shown i k.0 s k.1 at (end_later last k.0 (all i k.0 k.1))

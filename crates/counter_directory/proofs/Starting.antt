@@ -1,0 +1,66 @@
+-- The start.
+use Rattle.std.proofs.Common.{◌≡◌, ◌⊎◌, ℕ, zero, suc, ◌+◌, ◌%◌, ◌≤◌, ◌<◌, ◌==◌, List, [], ◌∷◌, ◌++◌, length, refl, sym, ap, ◌∙◌, subst, arith, ⊎_elim}
+use Rattle.std.specs.Prelude.{ltb, vec_capacity, Option, Some, None}
+use Rattle.std.proofs.lemmas.Bool.{le-ltb}
+use mathlib.Core.Option.{some, some-ne-none}
+use lib.ListN.{get_elem?}
+use Rattle.counter_directory.proofs.Lists.{at_snoc}
+use Rattle.counter_cells.specs.Sums.{total, one_if, times}
+use Rattle.rate_types.specs.declared.counter_key.CounterKey.{CounterKey}
+use Rattle.counter_cells.specs.declared.view.View.{View}
+use Rattle.counter_directory.specs.declared.claim.Claim.{Claim}
+use Rattle.counter_directory.specs.declared.ring.Ring.{Ring}
+use Rattle.counter_cells.specs.declared.answers.Spot.{Spot}
+use Rattle.counter_directory.specs.Claims.{IsLawfulClaims}
+use Rattle.counter_directory.specs.Filed.{Filed, ring_times}
+use Rattle.counter_directory.specs.Gates.{Gates, Indexed}
+use Rattle.counter_directory.specs.Windows.{RingWindows, AreEmpty, AreRoomy, len_of}
+
+none_in : (k : ℕ) (rings : List Ring) → AreEmpty rings → ring_times k rings ≡ 0
+none_in k [] e = refl
+none_in k (r ∷ rs) e = let a : times k r.cells.items ≡ 0 = ap (times k) (e 0 r refl).0 in let b = none_in k rs (λ u s at. e (suc u) s at) in omega arith
+
+pub filed_start : (cells last : ℕ) (claims : List Claim) (rings : List Ring) (over held : List ℕ) (taken : List Spot) → claims ≡ [] → over ≡ [] → held ≡ [] → taken ≡ [] → AreEmpty rings → Filed cells last 0 0 claims rings over held taken
+filed_start cells last claims rings over held taken c o h t e =
+    subst (λ l. Filed cells last 0 0 l rings over held taken) (sym c) (subst (λ l. Filed cells last 0 0 [] rings l held taken) (sym o)
+    (subst (λ l. Filed cells last 0 0 [] rings [] l taken) (sym h) (subst (λ l. Filed cells last 0 0 [] rings [] [] l) (sym t) (record {
+      once = λ k. let a = none_in k rings e in let b : one_if (ltb k 0) ≡ 0 = ap one_if (le-ltb k 0 (omega arith)) in omega arith;
+      most = omega arith;
+      never = λ k l. refl;
+      ringed = λ u r at k l. let z : times k r.cells.items ≡ 0 = ap (times k) (e u r at).0 in absurd (omega arith);
+      ended = λ k l. absurd (omega arith);
+      numbered = λ k. omega arith;
+      moment = omega arith;
+    }))))
+
+pub lawful_start : (cells most : ℕ) (claims : List Claim) → claims ≡ [] → IsLawfulClaims cells most claims
+lawful_start cells most claims e = subst (λ (l : List Claim). IsLawfulClaims cells most l) (sym e) (λ i x at. absurd (some-ne-none x (sym at)))
+
+zero_mod : (u : ℕ) → 0 % len_of u ≡ 0
+zero_mod zero = refl
+zero_mod (suc zero) = refl
+zero_mod (suc (suc zero)) = refl
+zero_mod (suc (suc (suc n))) = refl
+
+pub windows_start : (last : ℕ) (rings : List Ring) → AreEmpty rings → RingWindows last rings
+windows_start last rings e u r at = let z = (e u r at).1 in (ap (λ n. n % len_of u) z ∙ zero_mod u, omega arith)
+
+pub empty_more : (rings new : List Ring) (r : Ring) → new ≡ rings ++ r ∷ [] → r.cells.items ≡ [] → r.end ≡ 0 → AreEmpty rings → AreEmpty new
+empty_more rings new r e none end all u s at = ⊎_elim (λ h. all u s h) (λ h. (ap (λ (q : Ring). q.cells.items) (sym h) ∙ none, ap (λ (q : Ring). q.end) (sym h) ∙ end)) (at_snoc rings r s u (subst (λ l. get_elem? l u ≡ some s) e at))
+
+pub gates_start : (v : View) (cells n last drawn : ℕ) (claims : List Claim) (waiting : List Spot) → length v.cells ≡ n → cells ≡ n → v.drawn ≡ [] → claims ≡ [] → waiting ≡ [] → Gates v cells last drawn claims waiting
+gates_start v cells n last drawn claims waiting long size none c w = record {
+  long = long ∙ sym size;
+  new = λ k l. ap (times k) none;
+  shut = λ i p at. absurd (some-ne-none p (sym (subst (λ (l : List Spot). get_elem? l i ≡ some p) w at)));
+  opened = λ i x at l. absurd (some-ne-none x (sym (subst (λ (l : List Claim). get_elem? l i ≡ some x) c at)));
+}
+
+pub indexed_start : (look : CounterKey → Option Spot) (claims : List Claim) → ((q : CounterKey) → look q ≡ None) → claims ≡ [] → Indexed look claims
+indexed_start look claims none c = subst (λ (l : List Claim). Indexed look l) (sym c) (record { there = λ q s e. clash q s e (none q); none = λ q e. refl })
+  where
+    clash : {P : Type 0} → (q : CounterKey) (s : Spot) → look q ≡ Some s → look q ≡ None → P
+    clash q s a b = cc
+
+pub roomy_more : (n : ℕ) (rings new : List Ring) (r : Ring) → new ≡ rings ++ r ∷ [] → n ≤ vec_capacity r.cells → AreRoomy n rings → AreRoomy n new
+roomy_more n rings new r e room all u s at = ⊎_elim (λ h. all u s h) (λ h. subst (λ (q : Ring). n ≤ vec_capacity q.cells) h room) (at_snoc rings r s u (subst (λ l. get_elem? l u ≡ some s) e at))

@@ -1,0 +1,23 @@
+use Rattle.std.proofs.Common.{◌≡◌, ◌+◌, ◌≤◌, ◌<◌, [], sym, arith}
+use Rattle.counter_directory.proofs.Pinning.{cell_bound, shown_by, no_misses, miss_more, pin_after, pins_good}
+use Rattle.counter_directory.proofs.book.Book.pin_one.Goals as goal
+
+pub loop-round-init : goal.loop-round-init
+loop-round-init g c = no_misses c.args.hand.now
+
+pub pin-requires-clause-cell : goal.pin-requires-clause-cell
+pin-requires-clause-cell g c =
+    let b = c.args.self.now in
+    let s = c.in-Some.spot.now in
+    let t = b.found.there c.args.key.now s (sym c.in-Some.ensures.value) in
+    omega (arith, b.size, cell_bound b.shelf.cells b.shelf.most c.args.key.now s.cell s.claim b.shelf.claims.items b.shelf.lawful t)
+
+pub pin-requires-clause-room : goal.pin-requires-clause-room
+pin-requires-clause-room g c = omega (arith, pins_good [] c.args.hand.now c.loop-round.hand c.loop-round.invariant, c.requires.hand)
+
+pub returns-in-Pinned-clause-shown : goal.returns-in-Pinned-clause-shown
+returns-in-Pinned-clause-shown g c =
+    let b = c.args.self.now in
+    let s = c.in-Some.spot.now in
+    let t = b.found.there c.args.key.now s (sym c.in-Some.ensures.value) in
+    shown_by b.claimer b.shelf.cells b.shelf.last b.shelf.drawn c.args.key.now s.cell s.claim b.shelf.claims.items b.shelf.taken.items b.gates t

@@ -1,0 +1,13 @@
+use Rattle.std.proofs.Common.{◌≡◌, ◌+◌, ◌≤◌, []}
+use Rattle.counter_directory.specs.Gates.{HeldSince}
+use Rattle.counter_directory.proofs.book.Book.prepare.Given as goal
+
+abbrev pub invariant-loop-round : goal.invariant-loop-round
+invariant-loop-round g l = record {
+  claims : l.self.shelf.claims ≡ l.initial.self.shelf.claims;
+  rings : l.self.shelf.rings ≡ l.initial.self.shelf.rings;
+  last : l.self.shelf.last ≡ l.initial.self.shelf.last;
+  most : l.self.shelf.most ≡ l.initial.self.shelf.most;
+  index : l.self.index ≡ l.initial.self.index;
+  held : HeldSince l.initial.self.claimer l.self.claimer [] l.self.shelf.held.items;
+}

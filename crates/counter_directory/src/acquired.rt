@@ -1,0 +1,32 @@
+use arrayvec::ArrayVec;
+use counter_cells::Spot;
+use rate_types::Seconds;
+
+/// What a call has pinned.
+#[derive(Drop)]
+pub struct Acquired {
+    /// The moment of the hand, in whose windows the counters are.
+    pub moment: Seconds,
+    /// For each name the cell and the number of its counter, in order. The hand has one pin for each.
+    pub spots: ArrayVec<Spot, 32>,
+}
+
+/// Why a call has pinned nothing. They are tried in the order ClaimsSpent, CountersFull; OutOfMemory may come in place
+/// of either. No claim was added.
+#[derive(Clone, Copy, Debug, PartialEq, Eq)]
+pub enum AcquireFault {
+    OutOfMemory,
+    /// There are `claims` claims, and with `wanted` more, one for each new counter, there would be more than the most.
+    ClaimsSpent {
+        claims: u64,
+        wanted: u32,
+    },
+    /// At the moment `live` cells are bound to windows that aren't over, `held` cells of windows that are over were found
+    /// pinned, and `wanted` counters are new: these are more than the cells.
+    CountersFull {
+        moment: Seconds,
+        live: u32,
+        held: u32,
+        wanted: u32,
+    },
+}
