@@ -68,8 +68,8 @@ ticks_more v w x moment now h own le e =
     same = let a = append_assoc v.ticks h.added (tick_of moment now w ∷ []) in let l = last_push v.moment h.added (tick_of moment now w) in λ i. record v { ticks = a i; moment = sym l i }
 
 -- each counter of the call has a claim afterwards
-pub all_there : (b : Bounds) (keys : List CounterKey) (found left : Desk) → HasBound b keys found left → (q : CounterKey) → 1 ≤ named q keys → 1 ≤ counts q left.claims
-all_there b keys found left did q h =
+pub all_there : (b : Bounds) (m : ℕ) (keys : List CounterKey) (found left : Desk) → HasBound b m keys found left → (q : CounterKey) → 1 ≤ named q keys → 1 ≤ counts q left.claims
+all_there b m keys found left did q h =
     let is = did.are q in
     let adds = did.adds q in
     pick (counts q found.claims) refl is adds
@@ -90,7 +90,7 @@ refuses b m names keys hand hand' found left (ClaimsSpent claims wanted) e at ti
 refuses b m names keys hand hand' found left (CountersFull moment live held wanted) e at ticks did =
     (ticks, did.0 ∙ at, subst (λ (l : List CounterKey). AreFull b l found left moment live held wanted) (e ∙ ap (λ t. keys_at t names) (sym did.0)) did.1)
 
-pub acquires : (b : Bounds) (m : ℕ) (names : List CounterName) (keys : List CounterKey) (hand mid hand' : View) (found left : Desk) (a : Acquired) → keys ≡ keys_at m names → a.moment ≡ m → m ≡ mid.moment → HasTicked hand mid → PinsAfterMisses a.spots.items mid hand' → Bound left.claims keys a.spots.items → length a.spots.items ≡ length keys → Agree a.spots.items → HasBound b keys found left → Acquires b names hand found (Ok a) hand' left
+pub acquires : (b : Bounds) (m : ℕ) (names : List CounterName) (keys : List CounterKey) (hand mid hand' : View) (found left : Desk) (a : Acquired) → keys ≡ keys_at m names → a.moment ≡ m → m ≡ mid.moment → HasTicked hand mid → PinsAfterMisses a.spots.items mid hand' → Bound left.claims keys a.spots.items → length a.spots.items ≡ length keys → Agree a.spots.items → HasBound b m keys found left → Acquires b names hand found (Ok a) hand' left
 acquires b m names keys hand mid hand' found left a e same at ticks pins bound len agree did =
     let k : keys ≡ keys_at a.moment names = e ∙ ap (λ t. keys_at t names) (sym same) in (
       record {
@@ -102,5 +102,5 @@ acquires b m names keys hand mid hand' found left a e same at ticks pins bound l
         bound = subst (λ (l : List CounterKey). Bound left.claims l a.spots.items) k bound;
         agree = agree;
       },
-      subst (λ (l : List CounterKey). HasBound b l found left) k did,
+      subst (λ t. HasBound b t (keys_at a.moment names) found left) (sym same) (subst (λ (l : List CounterKey). HasBound b m l found left) k did),
     )

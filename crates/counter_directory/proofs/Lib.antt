@@ -10,3 +10,4 @@ mod Wanting
 mod Pinning
 mod Acquiring
 mod Starting
+mod Turning

@@ -80,11 +80,12 @@ pub gates_claimed : (v v' : View) (cells most last drawn k : ℕ) (claims : List
 gates_claimed v v' cells most last drawn k claims waiting lt none over law e g =
     subst (λ (w : View). Gates w cells last (drawn + 1) claims (waiting ++ (spot k drawn) ∷ [])) (sym e) (record {
       long = let q = g.long in length-set v.cells k (taken drawn) ∙ q;
+      count = let q = g.count in omega arith;
       new = λ c h. let a = g.new c (omega arith) in let b : one_if (drawn == c) ≡ 0 = ap one_if (ne_eqb drawn c (λ s. omega arith)) in omega arith;
       shut = λ i p at. shut i p (at_snoc waiting (spot k drawn) p i at);
       opened = λ i x at now. let o = g.opened i x at now in let m = end_at_most cells most claims law i x at in
           let ne : x.cell ≡ k → ⊥ = λ s. let q : last_end 0 x.cell claims ≡ last_end 0 k claims = ap (λ j. last_end 0 j claims) s in omega arith in
-          (o.0, subst (λ (c : Cell). IsOpenAs c x.claim) (sym (other_cell v.cells k x.cell (taken drawn) ne)) o.1);
+          subst (λ (c : Cell). IsOpenAs c x.claim) (sym (other_cell v.cells k x.cell (taken drawn) ne)) o;
     })
   where
     shut : (i : ℕ) (p : Spot) → (get_elem? waiting i ≡ some p) ⊎ ((spot k drawn) ≡ p) → (p.cell < cells) × (cell_or (set v.cells k (taken drawn)) p.cell ≡ taken p.claim)
@@ -92,10 +93,10 @@ gates_claimed v v' cells most last drawn k claims waiting lt none over law e g =
     shut i p (inr e) = subst (λ (q : Spot). (q.cell < cells) × (cell_or (set v.cells k (taken drawn)) q.cell ≡ taken q.claim)) e (lt, same_cell v.cells k (taken drawn) (let q = g.long in omega arith))
 
 pub gates_held : (v v' : View) (cells last drawn k pins : ℕ) (claims : List Claim) (waiting : List Spot) → v' ≡ held_by k pins v → Gates v cells last drawn claims waiting → Gates v' cells last drawn claims waiting
-gates_held v v' cells last drawn k pins claims waiting e g = subst (λ (w : View). Gates w cells last drawn claims waiting) (sym e) (record { long = g.long; new = g.new; shut = g.shut; opened = g.opened })
+gates_held v v' cells last drawn k pins claims waiting e g = subst (λ (w : View). Gates w cells last drawn claims waiting) (sym e) (record { long = g.long; count = g.count; new = g.new; shut = g.shut; opened = g.opened })
 
 pub gates_later : (v : View) (cells last m drawn : ℕ) (claims : List Claim) (waiting : List Spot) → last ≤ m → Gates v cells last drawn claims waiting → Gates v cells m drawn claims waiting
-gates_later v cells last m drawn claims waiting le g = record { long = g.long; new = g.new; shut = g.shut; opened = λ i x at now. g.opened i x at (omega arith) }
+gates_later v cells last m drawn claims waiting le g = record { long = g.long; count = g.count; new = g.new; shut = g.shut; opened = λ i x at now. g.opened i x at (omega arith) }
 
 -- the cell taken last is reset and opened, and its claim stands at the end
 pub gates_opened : (v v1 v2 : View) (cells last drawn : ℕ) (x : Claim) (claims : List Claim) (waiting : List Spot) → taken_on x.cell waiting ≡ 0 → v1 ≡ reset_by x.cell v → v2 ≡ opened_by x.cell v1 → ((i : ℕ) (y : Claim) → get_elem? claims i ≡ some y → last < end_of y → y.cell ≡ x.cell → ⊥) → Gates v cells last drawn claims (waiting ++ (spot x.cell x.claim) ∷ []) → Gates v2 cells last drawn (claims ++ x ∷ []) waiting
@@ -113,14 +114,15 @@ gates_opened v v1 v2 cells last drawn x claims waiting none e1 e2 apart g =
     ∙ ap (λ (w : View). cell_or w.cells j) e1 ∙ other_cell v.cells x.cell j (record (cell_or v.cells x.cell) { reset = true }) ne in
     record {
       long = let q = g.long in omega arith;
+      count = ap (λ (w : View). length w.drawn) e2 ∙ ap (λ (w : View). length w.drawn) e1 ∙ g.count;
       new = λ c h. ap (λ (w : View). times c w.drawn) e2 ∙ ap (λ (w : View). times c w.drawn) e1 ∙ g.new c h;
       shut = λ i p at. let s = g.shut i p (at_longer waiting ((spot x.cell x.claim) ∷ []) i p at) in (s.0, other p.cell (not_here x.cell waiting i p none at) ∙ s.1);
-      opened = λ i y at now. open_at i y now here other l.0 (at_snoc claims x y i at);
+      opened = λ i y at now. open_at i y now here other (at_snoc claims x y i at);
     }
   where
-    open_at : (i : ℕ) (y : Claim) → last < end_of y → IsOpenAs (cell_or v2.cells x.cell) x.claim → ((j : ℕ) → (j ≡ x.cell → ⊥) → cell_or v2.cells j ≡ cell_or v.cells j) → x.cell < cells → (get_elem? claims i ≡ some y) ⊎ (x ≡ y) → (y.cell < cells) × IsOpenAs (cell_or v2.cells y.cell) y.claim
-    open_at i y now here other lt (inl at) = let o = g.opened i y at now in (o.0, subst (λ (c : Cell). IsOpenAs c y.claim) (sym (other y.cell (apart i y at now))) o.1)
-    open_at i y now here other lt (inr e) = subst (λ (z : Claim). (z.cell < cells) × IsOpenAs (cell_or v2.cells z.cell) z.claim) e (lt, here)
+    open_at : (i : ℕ) (y : Claim) → last < end_of y → IsOpenAs (cell_or v2.cells x.cell) x.claim → ((j : ℕ) → (j ≡ x.cell → ⊥) → cell_or v2.cells j ≡ cell_or v.cells j) → (get_elem? claims i ≡ some y) ⊎ (x ≡ y) → IsOpenAs (cell_or v2.cells y.cell) y.claim
+    open_at i y now here other (inl at) = subst (λ (c : Cell). IsOpenAs c y.claim) (sym (other y.cell (apart i y at now))) (g.opened i y at now)
+    open_at i y now here other (inr e) = subst (λ (z : Claim). IsOpenAs (cell_or v2.cells z.cell) z.claim) e here
 
 times_at : (xs : List ℕ) (i d : ℕ) → i < length xs → 1 ≤ times (get_or xs i d) xs
 times_at [] i d h = absurd (omega arith)

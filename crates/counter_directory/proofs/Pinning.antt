@@ -55,7 +55,7 @@ pub shown_by : (v : View) (cells last drawn : ℕ) (q : CounterKey) (k c : ℕ) 
 shown_by v cells last drawn q k c claims waiting g some_one lt =
     let s = found q k c claims some_one in
     let o = g.opened s.0 s.1 s.2 (subst (λ (z : CounterKey). last < window_end_of z) (sym s.3) lt) in
-    ap (λ j. (cell_or v.cells j).claim) (sym s.4) ∙ o.1.2 ∙ s.5
+    ap (λ j. (cell_or v.cells j).claim) (sym s.4) ∙ o.2 ∙ s.5
 
 pinned_more : (ss : List Spot) (s : Spot) (v : View) → pinned_on (ss ++ s ∷ []) v ≡ good_pin s.cell s.claim (pinned_on ss v)
 pinned_more [] s v = refl

@@ -48,9 +48,10 @@ windows_start last rings e u r at = let z = (e u r at).1 in (ap (λ n. n % len_o
 pub empty_more : (rings new : List Ring) (r : Ring) → new ≡ rings ++ r ∷ [] → r.cells.items ≡ [] → r.end ≡ 0 → AreEmpty rings → AreEmpty new
 empty_more rings new r e none end all u s at = ⊎_elim (λ h. all u s h) (λ h. (ap (λ (q : Ring). q.cells.items) (sym h) ∙ none, ap (λ (q : Ring). q.end) (sym h) ∙ end)) (at_snoc rings r s u (subst (λ l. get_elem? l u ≡ some s) e at))
 
-pub gates_start : (v : View) (cells n last drawn : ℕ) (claims : List Claim) (waiting : List Spot) → length v.cells ≡ n → cells ≡ n → v.drawn ≡ [] → claims ≡ [] → waiting ≡ [] → Gates v cells last drawn claims waiting
-gates_start v cells n last drawn claims waiting long size none c w = record {
+pub gates_start : (v : View) (cells n last drawn : ℕ) (claims : List Claim) (waiting : List Spot) → length v.cells ≡ n → cells ≡ n → v.drawn ≡ [] → drawn ≡ 0 → claims ≡ [] → waiting ≡ [] → Gates v cells last drawn claims waiting
+gates_start v cells n last drawn claims waiting long size none zero_drawn c w = record {
   long = long ∙ sym size;
+  count = ap (λ (l : List ℕ). length l) none ∙ sym zero_drawn;
   new = λ k l. ap (times k) none;
   shut = λ i p at. absurd (some-ne-none p (sym (subst (λ (l : List Spot). get_elem? l i ≡ some p) w at)));
   opened = λ i x at l. absurd (some-ne-none x (sym (subst (λ (l : List Claim). get_elem? l i ≡ some x) c at)));

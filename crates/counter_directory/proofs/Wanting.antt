@@ -2,7 +2,7 @@
 use Rattle.std.proofs.Common.{◌≡◌, ◌⊎◌, ℕ, zero, suc, ◌+◌, ◌≤◌, ◌<◌, ◌==◌, ◌&&◌, List, [], ◌∷◌, ◌++◌, length, take, get_or, Bool, true, false, cond, refl, sym, ap, ◌∙◌, subst, arith, ⊎_elim, eq-eqb, append_assoc}
 use Rattle.std.specs.Prelude.{ltb}
 use Rattle.std.proofs.lemmas.Bool.Decides.{nat_tests}
-use Rattle.std.proofs.lemmas.List.{take_more}
+use Rattle.std.proofs.lemmas.List.{take_more, append-nil}
 use mathlib.Core.Option.{some, some-ne-none, some-injective}
 use mathlib.Core.List.{IsPrefix}
 use lib.ListN.{get_elem?}
@@ -13,6 +13,7 @@ use Rattle.counter_cells.specs.Sums.{total, one_if}
 use Rattle.counter_directory.specs.declared.claim.Claim.{Claim}
 use Rattle.counter_directory.specs.Claims.{counts}
 use Rattle.counter_directory.specs.Wants.{named, AreOf, IsMissing, NotedIn, AddsEach}
+use Rattle.counter_directory.specs.Acquired.{Grows}
 use Rattle.counter_directory.proofs.Keys.{same_yes, same_no, key_discrete}
 use Rattle.counter_directory.proofs.Lists.{at_snoc, at_read}
 use Rattle.counter_directory.proofs.Sums.{total_push, total_append}
@@ -147,5 +148,16 @@ adds_more found claims after before k x e is adds q =
     let o : one_if (same_counter x.key q) ≡ one_if (same_counter k q) = ap (λ j. one_if (same_counter j q)) is in
     omega arith
 
-pub prefix_more : (found claims after : List Claim) (x : Claim) → after ≡ claims ++ x ∷ [] → IsPrefix found claims → IsPrefix found after
-prefix_more found claims after x e p = (p.0 ++ x ∷ [], sym (append_assoc found p.0 (x ∷ [])) ∙ ap (λ l. l ++ x ∷ []) p.1 ∙ sym e)
+-- the claims added so far, and one more
+pub grows_more : (m : ℕ) (found claims after : List Claim) (x : Claim) → after ≡ claims ++ x ∷ [] → x.moment ≡ m → Grows m found claims → Grows m found after
+grows_more m found claims after x e now p =
+    (p.0 ++ x ∷ [], e ∙ ap (λ l. l ++ x ∷ []) p.1 ∙ append_assoc found p.0 (x ∷ []), λ i y at. ⊎_elim (λ h. p.2 i y h) (λ h. subst (λ (z : Claim). z.moment ≡ m) h now) (at_snoc p.0 x y i at))
+
+pub grows_none : (m : ℕ) (claims : List Claim) → Grows m claims claims
+grows_none m claims = ([], nil, λ i y at. absurd (some-ne-none y (sym at)))
+  where
+    nil : claims ≡ claims ++ []
+    nil = let e : claims ++ [] ≡ claims = simp append-nil in sym e
+
+pub grows_prefix : (m : ℕ) (found after : List Claim) → Grows m found after → IsPrefix found after
+grows_prefix m found after p = (p.0, sym p.1)

@@ -1,7 +1,8 @@
 -- What a call of `acquire` did under the lock.
-use Rattle.std.specs.Prelude.{◌≡◌, ℕ, ◌+◌, ◌≤◌, ◌<◌, List, [], ◌++◌, length, Result, Ok, Err, None}
+use Rattle.std.specs.Prelude.{◌≡◌, ℕ, ◌+◌, ◌≤◌, ◌<◌, List, [], ◌++◌, length, max, Result, Ok, Err, None}
 use Rattle.std.specs.List.{AllByRecursion}
-use mathlib.Core.List.{IsPrefix}
+use mathlib.Core.Option.{some}
+use lib.ListN.{get_elem?}
 use Rattle.rate_types.specs.declared.counter_key.CounterKey.{CounterKey}
 use Rattle.rate_types.specs.declared.counter_name.CounterName.{CounterName}
 use Rattle.counter_cells.specs.Sums.{times}
@@ -55,22 +56,29 @@ pub record Bounds : Type 0 where
   pub claims : ℕ
   pub held : ℕ
 
--- each counter without a claim got one
-pub record HasBound (b : Bounds) (keys : List CounterKey) (found left : Desk) : Type 0 where
-  pub grows : IsPrefix found.claims left.claims
+-- the claims are those found and others behind them, which were made at the moment
+abbrev pub Grows : ℕ → List Claim → List Claim → Type 0
+Grows moment found left =
+    (added : List Claim) × (left ≡ found ++ added) × ((i : ℕ) (x : Claim) → get_elem? added i ≡ some x → x.moment ≡ moment)
+
+-- Each counter without a claim got one at the moment. A number is drawn only where all numbers that were drawn are claimed
+pub record HasBound (b : Bounds) (moment : ℕ) (keys : List CounterKey) (found left : Desk) : Type 0 where
+  pub grows : Grows moment found.claims left.claims
   pub missing : List CounterKey
   pub are : IsMissing found.claims keys missing
   pub adds : AddsEach found.claims missing left.claims
   pub room : length found.claims + length missing ≤ b.claims
+  pub drawn : length left.claimer.drawn ≡ max (length found.claimer.drawn) (length left.claims)
 
 -- more claims are wanted than there can be
 pub record AreSpent (b : Bounds) (keys : List CounterKey) (found left : Desk) (claims wanted : ℕ) : Type 0 where
-  pub same : left.claims ≡ found.claims
+  pub same : left ≡ found
   pub claims_is : claims ≡ length found.claims
   pub wanted_is : IsWanted found.claims keys wanted
   pub spent : b.claims < claims + wanted
 
--- the live, the held and the wanted cells are more than there are
+-- The live, the held and the wanted cells are more than there are. Cells may have been taken, under new numbers, but
+-- fewer than are wanted
 pub record AreFull (b : Bounds) (keys : List CounterKey) (found left : Desk) (moment live held wanted : ℕ) : Type 0 where
   pub same : left.claims ≡ found.claims
   pub wanted_is : IsWanted found.claims keys wanted
@@ -79,11 +87,12 @@ pub record AreFull (b : Bounds) (keys : List CounterKey) (found left : Desk) (mo
   pub held_is : AreHeld found.claims moment found.claimer left.claimer held
   pub few : held ≤ b.held
   pub full : b.cells < live + held + wanted
+  pub drawn : length left.claimer.drawn < length found.claims + wanted
 
 -- the counters were bound at the moment, or why not
 abbrev pub Binds : Bounds → ℕ → List CounterKey → Desk → Result (Unit {0}) AcquireFault → Desk → Type 0
-Binds b m keys found (Ok _) left = HasBound b keys found left
-Binds b m keys found (Err OutOfMemory) left = left.claims ≡ found.claims
+Binds b m keys found (Ok _) left = HasBound b m keys found left
+Binds b m keys found (Err OutOfMemory) left = left ≡ found
 Binds b m keys found (Err (ClaimsSpent claims wanted)) left = AreSpent b keys found left claims wanted
 Binds b m keys found (Err (CountersFull moment live held wanted)) left = (moment ≡ m) × AreFull b keys found left moment live held wanted
 
@@ -99,8 +108,8 @@ pub record HasPinned (names : List CounterName) (hand hand' : View) (a : Acquire
 
 -- of the bounds, the names, the hand and what was found: what a call left
 abbrev pub Acquires : Bounds → List CounterName → View → Desk → Result Acquired AcquireFault → View → Desk → Type 0
-Acquires b names hand found (Ok a) hand' left = HasPinned names hand hand' a left × HasBound b (keys_at a.moment names) found left
-Acquires b names hand found (Err OutOfMemory) hand' left = HasTicked hand hand' × (left.claims ≡ found.claims)
+Acquires b names hand found (Ok a) hand' left = HasPinned names hand hand' a left × HasBound b a.moment (keys_at a.moment names) found left
+Acquires b names hand found (Err OutOfMemory) hand' left = HasTicked hand hand' × (left ≡ found)
 Acquires b names hand found (Err (ClaimsSpent claims wanted)) hand' left = HasTicked hand hand' × AreSpent b (keys_at hand'.moment names) found left claims wanted
 Acquires b names hand found (Err (CountersFull moment live held wanted)) hand' left =
     HasTicked hand hand' × (moment ≡ hand'.moment) × AreFull b (keys_at moment names) found left moment live held wanted

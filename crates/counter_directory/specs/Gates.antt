@@ -16,13 +16,18 @@ use Rattle.counter_directory.specs.Claims.{counts, binds, end_of}
 abbrev pub IsOpenAs : Cell → ℕ → Type 0
 IsOpenAs c number = (c.ever ≡ true) × (c.is_open ≡ true) × (c.claim ≡ number)
 
--- The claimer has drawn no number from `drawn` on. The cells taken are closed under their numbers, and the cells of
--- windows that aren't over are open under those of their claims
+-- the cell of each claim whose window isn't over at the moment is open under the claim's number
+abbrev pub AreOpen : View → ℕ → List Claim → Type 0
+AreOpen v last claims = (i : ℕ) (x : Claim) → get_elem? claims i ≡ some x → last < end_of x → IsOpenAs (cell_or v.cells x.cell) x.claim
+
+-- The claimer has drawn as many numbers as `drawn`, and none from there on. The cells taken are closed under their
+-- numbers, and the cells of windows that aren't over are open under those of their claims
 pub record Gates (v : View) (cells last drawn : ℕ) (claims : List Claim) (waiting : List Spot) : Type 0 where
   pub long : length v.cells ≡ cells
+  pub count : length v.drawn ≡ drawn
   pub new : (c : ℕ) → drawn ≤ c → times c v.drawn ≡ 0
   pub shut : (i : ℕ) (p : Spot) → get_elem? waiting i ≡ some p → (p.cell < cells) × (cell_or v.cells p.cell ≡ taken p.claim)
-  pub opened : (i : ℕ) (x : Claim) → get_elem? claims i ≡ some x → last < end_of x → (x.cell < cells) × IsOpenAs (cell_or v.cells x.cell) x.claim
+  pub opened : AreOpen v last claims
 
 -- a counter is found exactly where a claim is of it, and then where that binds it
 pub record Indexed (look : CounterKey → Option Spot) (claims : List Claim) : Type 0 where

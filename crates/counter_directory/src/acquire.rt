@@ -1,5 +1,6 @@
 // `acquire` under the lock.
 ghost use Rattle.std.specs.Prelude.{◌≡◌, ◌≤◌, [], length, vec_len, OnOk};
+ghost use Rattle.counter_directory.specs.Claims.{last_of};
 ghost use Rattle.counter_directory.specs.Wants.{AreOf};
 ghost use Rattle.counter_directory.specs.Acquired.{Binds, Acquires};
 
@@ -69,6 +70,7 @@ impl<N: CellNaming> Book<N> {
         requires hand { hand.old.good ≡ [] }
         requires names { length names.now ≤ 32 }
         ensures most { self.new.shelf.most ≡ self.old.shelf.most }
+        ensures later { last_of 0 self.old.shelf.claims.items ≤ hand.new.moment }
         ensures did { Acquires (record { cells = N.setup.cells; claims = self.old.shelf.most; held = most_held }) names.now hand.old (record { claimer = self.old.claimer; claims = self.old.shelf.claims.items }) result hand.new (record { claimer = self.new.claimer; claims = self.new.shelf.claims.items }) }
     {
         let alloc = *self.shelf.claims.allocator();
@@ -96,14 +98,14 @@ pub(crate) struct Acquire<'a, N: CellNaming, R: Wait> {
 
 impl<'a, N: CellNaming, R: Wait> Act<Book<N>> for Acquire<'a, N, R> {
     ghost use Rattle.std.specs.Prelude.{◌≡◌, ◌≤◌, [], length};
-    ghost use Rattle.counter_directory.specs.Claims.{IsLawfulClaims};
+    ghost use Rattle.counter_directory.specs.Claims.{IsLawfulClaims, last_of};
     ghost use Rattle.counter_directory.specs.Acquired.{Acquires};
 
     type Out = Result<Acquired, AcquireFault>;
 
     ghost ready = { λ p _. (p.hand.now.good ≡ []) × (length p.names.now ≤ 32) };
 
-    ghost did = { λ p b r q c. (q.hand.ghost_name ≡ p.hand.ghost_name) × Acquires (record { cells = N.setup.cells; claims = b.shelf.most; held = p.most_held }) p.names.now p.hand.now (record { claimer = b.claimer; claims = b.shelf.claims.items }) r q.hand.now (record { claimer = c.claimer; claims = c.shelf.claims.items }) × IsLawfulClaims N.setup.cells c.shelf.most c.shelf.claims.items };
+    ghost did = { λ p b r q c. (q.hand.ghost_name ≡ p.hand.ghost_name) × Acquires (record { cells = N.setup.cells; claims = b.shelf.most; held = p.most_held }) p.names.now p.hand.now (record { claimer = b.claimer; claims = b.shelf.claims.items }) r q.hand.now (record { claimer = c.claimer; claims = c.shelf.claims.items }) × IsLawfulClaims N.setup.cells c.shelf.most c.shelf.claims.items × (last_of 0 b.shelf.claims.items ≤ q.hand.now.moment) };
 
     fn act(&mut self, kept: &mut Book<N>) -> Result<Acquired, AcquireFault> {
         kept.acquire(self.rt, self.cells, self.hand, self.names, self.most_held)

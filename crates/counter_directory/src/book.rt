@@ -1,5 +1,5 @@
 // What lies behind the lock: the claims, where they are found, and the claimer.
-ghost use Rattle.std.specs.Prelude.{◌≡◌, ℕ, ◌+◌, ◌-◌, ◌≤◌, ◌<◌, [], List, length, vec_len, vec_capacity, MatchBool, OnOk};
+ghost use Rattle.std.specs.Prelude.{◌≡◌, ℕ, ◌+◌, ◌-◌, ◌≤◌, ◌<◌, [], max, vec_len, vec_capacity, MatchBool, OnOk};
 ghost use Rattle.std.specs.HashMap.{get, spare};
 ghost use Rattle.rate_types.specs.Counters.{same_counter};
 ghost use Rattle.rate_types.specs.Units.{unit_rank};
@@ -94,7 +94,7 @@ impl<N: CellNaming> Book<N> {
         requires claims { vec_len self.old.shelf.claims + wanted ≤ self.old.shelf.most }
         requires held { self.old.shelf.held.items ≡ [] }
         ensures same { (self.new.shelf.claims ≡ self.old.shelf.claims) × (self.new.shelf.rings ≡ self.old.shelf.rings) × (self.new.shelf.last ≡ self.old.shelf.last) × (self.new.shelf.most ≡ self.old.shelf.most) × (self.new.index ≡ self.old.index) }
-        ensures taken { MatchBool result (wanted ≤ vec_len self.new.shelf.taken) ((vec_len self.new.shelf.taken < wanted) × (vec_len self.new.shelf.over ≡ 0) × (self.new.shelf.cells ≤ self.new.shelf.fresh) × (vec_len self.new.shelf.held ≤ most_held)) }
+        ensures taken { MatchBool result ((wanted ≤ vec_len self.new.shelf.taken) × (vec_len self.new.shelf.taken ≡ max (vec_len self.old.shelf.taken) wanted)) ((vec_len self.new.shelf.taken < wanted) × (vec_len self.new.shelf.over ≡ 0) × (self.new.shelf.cells ≤ self.new.shelf.fresh) × (vec_len self.new.shelf.held ≤ most_held)) }
         ensures held { HeldSince self.old.claimer self.new.claimer [] self.new.shelf.held.items }
     {
         for _round in rt.forever() {

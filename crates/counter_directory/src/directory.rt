@@ -1,19 +1,15 @@
-ghost use Rattle.std.specs.Prelude.{◌≡◌, ◌-◌, ◌*◌, ◌≤◌, ◌^◌, ℕ, [], length, All, IfOk, vec_len, vec_capacity};
-ghost use Rattle.told_list.specs.Tokens.{list_of, list_id, opening, tokens, view, known, IsFresh};
-ghost use Rattle.counter_directory.specs.Claims.{IsLawfulClaims};
-ghost use Rattle.counter_directory.specs.Windows.{AreEmpty, AreRoomy};
-ghost use Rattle.counter_directory.specs.Turns.{Turned};
+ghost use Rattle.std.specs.Prelude.{◌≡◌, ◌≤◌, [], length, All, vec_len, vec_capacity};
+ghost use Rattle.told_list.specs.Tokens.{list_of, list_id, opening, tokens, view, known};
 
 use crate::acquire::Acquire;
 use crate::acquired::{AcquireFault, Acquired};
 use crate::book::Book;
 use crate::claim::{Claim, Claims};
-use crate::ring::Ring;
-use crate::shelf::{MOST_TAKEN, Shelf};
+use crate::made;
 use counter_cells::{CellClaimer, CellNaming, CellPass, Cells};
 use rate_types::{CounterName, OutOfMemory, Seconds};
 use std::alloc::Global;
-use std::collections::HashMap;
+use std::marker::Model;
 use std::sync::Wait;
 use told_list::{Seen, Told};
 
@@ -21,65 +17,32 @@ use told_list::{Seen, Told};
 /// was made with.
 pub type DirectoryPass<N: CellNaming> = Seen<Book<N>, Claim>;
 
-/// The claims on the cells with the name `N`, behind their lock.
+/// The claims on the cells with the name `N`, behind their lock. Contracts see it as an `Office`.
 #[derive(Drop)]
 pub struct Directory<N: CellNaming> {
-    pub(crate) told: Told<Book<N>>,
+    told: Told<Book<N>>,
     passes: u32,
-    ghost passes_is: { (passes ≡ tokens told) × (1 ≤ passes) × (passes ≤ 1024) },
 }
 
-// One empty ring for each unit, with room for all cells.
-fn rings(alloc: Global, cells: u32) -> Result<Vec<Ring>, OutOfMemory>
-    ensures { IfOk result (λ v. (vec_len v ≡ 4) × AreEmpty v.items × AreRoomy cells v.items) }
-{
-    let mut rings = Vec::with_capacity(alloc, 4)?;
-    for _unit in 0..4u32 {
-        let cells = Vec::with_capacity(alloc, cells as usize)?;
-        rings.push_reserved(Ring { end: 0, cells });
-    }
-    Ok(rings)
+impl<N: CellNaming> Model for Directory<N> {
+    ghost use Rattle.std.specs.Prelude.{◌≡◌, ◌≤◌, []};
+    ghost use Rattle.told_list.specs.Tokens.{list_id, opening, tokens};
+    ghost use Rattle.counter_directory.specs.Turns.{Office};
+
+    ghost Value = { Office };
+
+    ghost view = { λ d. record { list_id = list_id d.told; passes = tokens d.told; claims_max = (opening d.told).shelf.most } };
+
+    ghost invariant = { λ d. (d.passes ≡ tokens d.told) × (1 ≤ d.passes) × (d.passes ≤ 1024) × ((opening d.told).shelf.claims.items ≡ []) };
 }
 
-// No claim, and no cell taken.
-fn shelf(alloc: Global, cells: u32, most: u64) -> Result<Shelf, OutOfMemory>
-    requires { (cells ≤ 1048576) × (most ≤ 2 ^ 40) }
-    ensures { IfOk result (λ s. (s.cells ≡ cells) × (s.most ≡ most) × (s.drawn ≡ 0) × (s.claims.items ≡ []) × (s.taken.items ≡ [])) }
-{
-    let rings = rings(alloc, cells)?;
-    let over = Vec::with_capacity(alloc, cells as usize)?;
-    let held = Vec::with_capacity(alloc, cells as usize)?;
-    let taken = Vec::with_capacity(alloc, MOST_TAKEN)?;
-    Ok(Shelf {
-        claims: Vec::new(alloc),
-        rings,
-        over,
-        held,
-        taken,
-        fresh: 0,
-        drawn: 0,
-        last: Seconds::capped(0),
-        cells,
-        most,
-    })
-}
-
-// The book over a claimer that has drawn nothing.
-fn book<N: CellNaming>(
-    alloc: Global,
-    claimer: CellClaimer<N>,
-    most: u64,
-) -> Result<Book<N>, OutOfMemory>
-    requires most { most ≤ 2 ^ 40 }
-    requires claimer { claimer.drawn ≡ [] }
-    ensures { IfOk result (λ b. (b.shelf.claims.items ≡ []) × (b.shelf.most ≡ most)) }
-{
-    let shelf = shelf(alloc, claimer.cells(), most)?;
-    Ok(Book {
-        shelf,
-        index: HashMap::new(alloc),
-        claimer,
-    })
+/// What is left of a directory that is closed.
+#[derive(Drop)]
+pub struct ClosedDirectory<N: CellNaming> {
+    pub claims: Claims,
+    pub claimer: CellClaimer<N>,
+    /// The moment of the last turn, or 0.
+    pub last: Seconds,
 }
 
 /// How many claims the pass knows.
@@ -90,6 +53,14 @@ pub fn claims<N: CellNaming>(pass: &DirectoryPass<N>) -> u64
 }
 
 impl<N: CellNaming> Directory<N> {
+    ghost use Rattle.std.specs.Prelude.{◌≡◌, ◌-◌, ◌*◌, ◌≤◌, ◌^◌, ℕ, [], length, All, IfOk, vec_len};
+    ghost use mathlib.Core.List.{IsPrefix};
+    ghost use Rattle.told_list.specs.Lists.{total, times, IsOwnedOnce};
+    ghost use Rattle.told_list.specs.Tokens.{list_of, view, known, IsFresh};
+    ghost use Rattle.counter_directory.specs.Claims.{IsLawfulClaims};
+    ghost use Rattle.counter_directory.specs.Gates.{AreOpen};
+    ghost use Rattle.counter_directory.specs.Turns.{Turned};
+
     /// No claims yet on the claimer's cells, at most `claims_max` of them, 1 to 2^40, and 1 to 1,024 passes. The claimer
     /// has taken no cell yet.
     pub fn make(
@@ -101,9 +72,63 @@ impl<N: CellNaming> Directory<N> {
         requires claimer { claimer.drawn ≡ [] }
         requires claims_max { (1 ≤ claims_max) × (claims_max ≤ 2 ^ 40) }
         requires passes { (1 ≤ passes) × (passes ≤ 1024) }
+        ensures directory { IfOk result (λ r. (r.0.passes ≡ passes) × (r.0.claims_max ≡ claims_max)) }
+        ensures count { IfOk result (λ r. vec_len r.1 ≡ passes) }
+        ensures passes { IfOk result (λ r. All (λ p. (list_of p ≡ r.0.list_id) × IsFresh [] (view p)) r.1.items) }
     {
-        let book = book(alloc, claimer, claims_max)?;
+        let book = made::book(alloc, claimer, claims_max)?;
         let (told, seats) = Told::make(alloc, book, passes)?;
         Ok((Directory { told, passes }, seats))
+    }
+
+    /// Pins with `hand`, for each name in order, the cell of its counter in the window of a moment, which becomes the
+    /// hand's and isn't earlier than that of the last claim. A counter without a claim gets one. The hand holds no pin
+    /// before, and after a refusal. It may wait for other calls on this directory.
+    pub fn acquire<R: Wait>(
+        &self,
+        rt: &R,
+        pass: &mut DirectoryPass<N>,
+        cells: &Cells<N>,
+        hand: &mut CellPass<N>,
+        names: &[CounterName],
+    ) -> Result<Acquired, AcquireFault>
+        requires pass { list_of pass.old ≡ self.now.list_id }
+        requires hand { hand.old.good ≡ [] }
+        requires names { (1 ≤ length names.now) × (length names.now ≤ 32) }
+        ensures pass { list_of pass.new ≡ self.now.list_id }
+        ensures turn { Turned (record { cells = N.setup.cells; claims = self.now.claims_max; held = 32 * (self.now.passes - 1) }) names.now hand.old result hand.new (view pass.old) (view pass.new) }
+    {
+        let most_held = 32 * (self.passes as usize - 1);
+        let mut act = Acquire {
+            rt,
+            cells,
+            hand,
+            names,
+            most_held,
+        };
+        self.told.with(rt, pass, &mut act)
+    }
+
+    /// The claims and the claimer, for which all passes are given back. What each pass knew is a prefix of the claims,
+    /// and each claim was made by the call of exactly one of them. It waits for nobody.
+    pub fn close(self, passes: Vec<DirectoryPass<N>>) -> ClosedDirectory<N>
+        requires passes { All (λ p. list_of p ≡ self.list_id) passes.items }
+        requires every { vec_len passes ≡ self.passes }
+        ensures lawful { IsLawfulClaims N.setup.cells self.claims_max result.claims }
+        ensures open { AreOpen result.claimer result.last result.claims }
+        ensures prefixes { All (λ p. IsPrefix (known p) result.claims) passes.items }
+        ensures owned { (n : ℕ) → IsOwnedOnce 0 (length result.claims) n (total (λ p. times n (view p).own) passes.items) }
+    {
+        let Directory { told, passes: _ } = self;
+        let Book {
+            shelf,
+            index: _,
+            claimer,
+        } = told.close(passes);
+        ClosedDirectory {
+            claims: Claims::of(shelf.claims),
+            claimer,
+            last: shelf.last,
+        }
     }
 }

@@ -5,7 +5,7 @@ ghost use Rattle.rate_types.specs.declared.counter_key.CounterKey.{CounterKey};
 ghost use Rattle.counter_directory.specs.Claims.{counts};
 ghost use Rattle.counter_directory.specs.Windows.{RingsFit};
 ghost use Rattle.counter_directory.specs.Wants.{keys_at, named, AreOf, IsMissing, AddsEach, NotedIn};
-ghost use mathlib.Core.List.{IsPrefix};
+ghost use Rattle.counter_directory.specs.Acquired.{Grows};
 
 use crate::book::Book;
 use crate::counter::SharedCounter;
@@ -126,7 +126,8 @@ impl<N: CellNaming> Book<N> {
         requires wants { AreOf self.old.shelf.last news.items × RingsFit self.old.shelf.last self.old.shelf.rings.items }
         requires new { (q : CounterKey) → (named q news.items ≤ 1) × (1 ≤ named q news.items → counts q self.old.shelf.claims.items ≡ 0) }
         ensures adds { AddsEach self.old.shelf.claims.items news.items self.new.shelf.claims.items }
-        ensures prefix { IsPrefix self.old.shelf.claims.items self.new.shelf.claims.items }
+        ensures grows { Grows self.old.shelf.last self.old.shelf.claims.items self.new.shelf.claims.items }
+        ensures lens { (vec_len self.new.shelf.claims ≡ vec_len self.old.shelf.claims + vec_len news) × (vec_len self.new.shelf.taken + vec_len news ≡ vec_len self.old.shelf.taken) }
         ensures same { (self.new.shelf.last ≡ self.old.shelf.last) × (self.new.shelf.most ≡ self.old.shelf.most) }
     {
         for new in news {

@@ -4,7 +4,7 @@ use Rattle.rate_types.specs.Units.{unit_rank}
 use Rattle.window_keys.specs.Window.{window_start}
 use Rattle.counter_directory.specs.Windows.{FitsRing, KeepsFits}
 use Rattle.counter_directory.proofs.Ringing.{fit_kept, end_rank, rank_few}
-use Rattle.counter_directory.proofs.Wanting.{of_mid, fresh_counter, adds_more, prefix_more}
+use Rattle.counter_directory.proofs.Wanting.{of_mid, fresh_counter, adds_more, grows_more, grows_none}
 use Rattle.counter_directory.proofs.book.Book.file_all.Goals as goal
 
 pub file-requires-clause-counter : goal.file-requires-clause-counter
@@ -45,7 +45,9 @@ loop-new-preserved g c =
     record {
       whole = append_assoc c.loop-new.yielded (c.in-Some.new ∷ []) rest ∙ v;
       adds = adds_more c.args.self.now.shelf.claims.items c.loop-new.self.shelf.claims.items c.file.new.self.shelf.claims.items c.loop-new.yielded c.in-Some.new _ e.claims.3 c.new.view_is i.adds;
-      prefix = prefix_more c.args.self.now.shelf.claims.items c.loop-new.self.shelf.claims.items c.file.new.self.shelf.claims.items _ e.claims.3 i.prefix;
+      grows = grows_more c.args.self.now.shelf.last c.args.self.now.shelf.claims.items c.loop-new.self.shelf.claims.items c.file.new.self.shelf.claims.items _ e.claims.3 i.last i.grows;
+      filed = omega (arith, e.lens.1, i.filed);
+      used = omega (arith, e.lens.0, i.used);
       last = e.same.0 ∙ i.last;
       most = e.same.1 ∙ i.most;
       taken = omega (arith, e.lens.0, i.taken);

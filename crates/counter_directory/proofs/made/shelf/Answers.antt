@@ -1,7 +1,7 @@
 use Rattle.std.proofs.Common.{◌≡◌, ◌+◌, ◌≤◌, arith}
 use Rattle.std.proofs.lemmas.Grind.{common_steps}
 use Rattle.counter_directory.proofs.Starting.{filed_start, lawful_start, windows_start}
-use Rattle.counter_directory.proofs.directory.shelf.Goals as goal
+use Rattle.counter_directory.proofs.made.shelf.Goals as goal
 
 pub invariant_of-result : goal.invariant_of-result
 invariant_of-result c =

@@ -1,7 +1,7 @@
 use Rattle.std.proofs.Common.{◌≡◌}
 use Rattle.std.specs.Prelude.{vec_len, vec_capacity}
 use Rattle.counter_directory.specs.Windows.{AreEmpty, AreRoomy}
-use Rattle.counter_directory.proofs.directory.rings.Given as goal
+use Rattle.counter_directory.proofs.made.rings.Given as goal
 
 abbrev pub invariant-loop-unit : goal.invariant-loop-unit
 invariant-loop-unit l = record {

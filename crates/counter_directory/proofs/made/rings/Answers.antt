@@ -1,6 +1,6 @@
 use Rattle.std.proofs.Common.{◌≡◌, ◌+◌, ◌≤◌, ◌<◌, refl, arith}
 use Rattle.counter_directory.proofs.Starting.{empty_more, roomy_more}
-use Rattle.counter_directory.proofs.directory.rings.Goals as goal
+use Rattle.counter_directory.proofs.made.rings.Goals as goal
 
 pub loop-unit-preserved : goal.loop-unit-preserved
 loop-unit-preserved c =

@@ -1,0 +1,20 @@
+use Rattle.std.proofs.Common.{◌≡◌, ◌-◌, ◌*◌, ap, ◌∙◌, rules}
+use Rattle.counter_directory.specs.Turns.{Office}
+use Rattle.counter_directory.specs.Acquired.{Bounds, Desk}
+use Rattle.counter_directory.proofs.Turning.{turns}
+use Rattle.counter_directory.proofs.directory.Directory.acquire.Goals as goal
+
+pub returns-clause-turn : goal.returns-clause-turn
+returns-clause-turn g c =
+    let t = c.with.ensures.turn in
+    let office = c.args.self.now in
+    let cells = g.N.CellNaming.setup.cells in
+    let claims : t.0.shelf.most ≡ office.claims_max = t.4 ∙ ap (λ (o : Office). o.claims_max) c.self.view_is in
+    let left : t.1.shelf.most ≡ office.claims_max = t.5 ∙ ap (λ (o : Office). o.claims_max) c.self.view_is in
+    let passes : c.self.inside.passes ≡ office.passes = c.self.invariant.0 ∙ ap (λ (o : Office). o.passes) c.self.view_is in
+    let b : Bounds = record { cells = cells; claims = t.0.shelf.most; held = 32 * (c.self.inside.passes - 1) } in
+    let b' : Bounds = record { cells = cells; claims = office.claims_max; held = 32 * (office.passes - 1) } in
+    let same : b ≡ b' = λ i. record { cells = cells; claims = claims i; held = 32 * (passes i - 1) } in
+    let hand : c.hand-1.given.0 ≡ c.with.new.act.hand.now = search rules in
+    turns b b' t.1.shelf.most c.args.names.now c.args.hand.now c.with.new.act.hand.now c.hand-1.given.0 (record { claimer = t.0.claimer; claims = t.0.shelf.claims.items }) (record { claimer = t.1.claimer; claims = t.1.shelf.claims.items }) c.with.result _ _
+    same left hand t.2.1 t.2.2 t.2.3 t.3
