@@ -10,4 +10,5 @@ mod Wanting
 mod Pinning
 mod Acquiring
 mod Starting
+mod Holding
 mod Turning

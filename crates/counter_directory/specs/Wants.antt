@@ -43,6 +43,10 @@ AddsEach before new after = (q : CounterKey) → counts q after ≡ counts q bef
 abbrev pub Bound : List Claim → List CounterKey → List Spot → Type 0
 Bound claims keys spots = (i : ℕ) (k : CounterKey) (s : Spot) → get_elem? keys i ≡ some k → get_elem? spots i ≡ some s → 1 ≤ binds k s.cell s.claim claims
 
+-- how many of the spots are on the cell
+abbrev pub spots_on : ℕ → List Spot → ℕ
+spots_on cell spots = total (λ (s : Spot). one_if (s.cell == cell)) spots
+
 -- the view after one good pin on each spot, in order
 abbrev pub pinned_on : List Spot → View → View
 pinned_on [] v = v

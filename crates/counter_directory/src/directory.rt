@@ -53,12 +53,14 @@ pub fn claims<N: CellNaming>(pass: &DirectoryPass<N>) -> u64
 }
 
 impl<N: CellNaming> Directory<N> {
-    ghost use Rattle.std.specs.Prelude.{◌≡◌, ◌-◌, ◌*◌, ◌≤◌, ◌^◌, ℕ, [], length, All, IfOk, vec_len};
+    ghost use Rattle.std.specs.Prelude.{◌≡◌, ◌-◌, ◌*◌, ◌≤◌, ◌<◌, ◌^◌, ℕ, [], length, All, IfOk, OnErr, vec_len};
+    ghost use Rattle.counter_cells.specs.Views.{good_on};
     ghost use mathlib.Core.List.{IsPrefix};
     ghost use Rattle.told_list.specs.Lists.{total, times, IsOwnedOnce};
     ghost use Rattle.told_list.specs.Tokens.{list_of, view, known, IsFresh};
     ghost use Rattle.counter_directory.specs.Claims.{IsLawfulClaims};
     ghost use Rattle.counter_directory.specs.Gates.{AreOpen};
+    ghost use Rattle.counter_directory.specs.Wants.{spots_on};
     ghost use Rattle.counter_directory.specs.Turns.{Turned};
 
     /// No claims yet on the claimer's cells, at most `claims_max` of them, 1 to 2^40, and 1 to 1,024 passes. The claimer
@@ -96,6 +98,9 @@ impl<N: CellNaming> Directory<N> {
         requires hand { hand.old.good ≡ [] }
         requires names { (1 ≤ length names.now) × (length names.now ≤ 32) }
         ensures pass { list_of pass.new ≡ self.now.list_id }
+        ensures within { IfOk result (λ a. All (λ s. s.cell < N.setup.cells) a.spots.items) }
+        ensures pins { IfOk result (λ a. (cell : ℕ) → good_on cell hand.new ≡ spots_on cell a.spots.items) }
+        ensures none { OnErr result (hand.new.good ≡ []) }
         ensures turn { Turned (record { cells = N.setup.cells; claims = self.now.claims_max; held = 32 * (self.now.passes - 1) }) names.now hand.old result hand.new (view pass.old) (view pass.new) }
     {
         let most_held = 32 * (self.passes as usize - 1);

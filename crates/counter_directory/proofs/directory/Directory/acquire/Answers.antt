@@ -1,6 +1,7 @@
 use Rattle.std.proofs.Common.{◌≡◌, ◌-◌, ◌*◌, ap, ◌∙◌, rules}
 use Rattle.counter_directory.specs.Turns.{Office}
 use Rattle.counter_directory.specs.Acquired.{Bounds, Desk}
+use Rattle.counter_directory.proofs.Holding.{pins_held, none_held, cells_held}
 use Rattle.counter_directory.proofs.Turning.{turns}
 use Rattle.counter_directory.proofs.directory.Directory.acquire.Goals as goal
 
@@ -18,3 +19,23 @@ returns-clause-turn g c =
     let hand : c.hand-1.given.0 ≡ c.with.new.act.hand.now = search rules in
     turns b b' t.1.shelf.most c.args.names.now c.args.hand.now c.with.new.act.hand.now c.hand-1.given.0 (record { claimer = t.0.claimer; claims = t.0.shelf.claims.items }) (record { claimer = t.1.claimer; claims = t.1.shelf.claims.items }) c.with.result _ _
     same left hand t.2.1 t.2.2 t.2.3 t.3
+
+pub returns-clause-within : goal.returns-clause-within
+returns-clause-within g c =
+    let t = c.with.ensures.turn in
+    let b : Bounds = record { cells = g.N.CellNaming.setup.cells; claims = t.0.shelf.most; held = 32 * (c.self.inside.passes - 1) } in
+    cells_held b t.1.shelf.most c.args.names.now c.args.hand.now c.with.new.act.hand.now (record { claimer = t.0.claimer; claims = t.0.shelf.claims.items }) (record { claimer = t.1.claimer; claims = t.1.shelf.claims.items }) c.with.result t.2.1 t.2.2
+
+pub returns-clause-pins : goal.returns-clause-pins
+returns-clause-pins g c =
+    let t = c.with.ensures.turn in
+    let b : Bounds = record { cells = g.N.CellNaming.setup.cells; claims = t.0.shelf.most; held = 32 * (c.self.inside.passes - 1) } in
+    let hand : c.hand-1.given.0 ≡ c.with.new.act.hand.now = search rules in
+    pins_held b c.args.names.now c.args.hand.now c.with.new.act.hand.now c.hand-1.given.0 (record { claimer = t.0.claimer; claims = t.0.shelf.claims.items }) (record { claimer = t.1.claimer; claims = t.1.shelf.claims.items }) c.with.result t.2.1 hand c.requires.hand
+
+pub returns-clause-none : goal.returns-clause-none
+returns-clause-none g c =
+    let t = c.with.ensures.turn in
+    let b : Bounds = record { cells = g.N.CellNaming.setup.cells; claims = t.0.shelf.most; held = 32 * (c.self.inside.passes - 1) } in
+    let hand : c.hand-1.given.0 ≡ c.with.new.act.hand.now = search rules in
+    none_held b c.args.names.now c.args.hand.now c.with.new.act.hand.now c.hand-1.given.0 (record { claimer = t.0.claimer; claims = t.0.shelf.claims.items }) (record { claimer = t.1.claimer; claims = t.1.shelf.claims.items }) c.with.result t.2.1 hand c.requires.hand
