@@ -1,4 +1,5 @@
 mod limits;
+mod lines;
 
 use crate::configs::configuration;
 use crate::output::all_lines;
