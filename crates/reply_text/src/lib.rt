@@ -21,3 +21,6 @@ pub use reply::{reply_body, reply_value};
 pub use request::read_flat_request;
 pub use statuses::Statuses;
 pub use total_json::{total_text, total_value};
+
+#[cfg(test)]
+mod tests;

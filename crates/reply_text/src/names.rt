@@ -5,6 +5,7 @@ ghost use Rattle.reply_text.specs.Texts as texts;
 use rate_types::Unit;
 use rls_core::Code;
 
+/// The name of a unit in JSON.
 pub fn unit_name(unit: Unit) -> &'static str
     ensures { result.now ≡ texts.unit_name unit }
 {
@@ -16,6 +17,7 @@ pub fn unit_name(unit: Unit) -> &'static str
     }
 }
 
+/// The name of a code in JSON.
 pub fn code_name(code: Code) -> &'static str
     ensures { result.now ≡ texts.code_name code }
 {
@@ -25,7 +27,7 @@ pub fn code_name(code: Code) -> &'static str
     }
 }
 
-// The overall code.
+/// The overall code, from whether a status is over its limit.
 pub fn overall_code(over: bool) -> Code
     ensures { result ≡ texts.overall_code over }
 {
