@@ -12,3 +12,6 @@ mod script;
 pub use line::Line;
 pub use run::{Driven, drive_script};
 pub use script::{Script, ScriptFault};
+
+#[cfg(test)]
+mod tests;
