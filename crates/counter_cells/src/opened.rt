@@ -129,6 +129,10 @@ impl OpenedCells {
             start,
         } = self;
         let made = split_all::<N>(alloc, &table, &mut claimer, passes, start)?;
-        Ok((Cells::new(table, cells), made, CellClaimer::new(claimer, cells)))
+        Ok((
+            Cells::new(table, cells),
+            made,
+            CellClaimer::new(claimer, cells),
+        ))
     }
 }
