@@ -80,6 +80,7 @@ fn true_there(value: bool) -> Option<Value>
     if value { Some(Value::Bool(true)) } else { None }
 }
 
+/// The list as a JSON value where it isn't empty.
 pub fn list_there(items: Vec<Value>) -> Option<Value>
     ensures { option_map view result ≡ printed.list_there (items_view items.items) }
 {

@@ -8,6 +8,7 @@ pub enum Installed<I> {
     Added(u32),
     /// There was no room. This is the newest version.
     Full(Arc<I>),
+    /// There was no memory, and no version was added.
     OutOfMemory,
 }
 

@@ -31,12 +31,14 @@ impl Model for Counts {
 }
 
 impl Counts {
+    /// The counts of these items, in order.
     pub fn of(items: Vec<u64>) -> Counts
         ensures { result ≡ items.items }
     {
         Counts { items }
     }
 
+    /// The counts, in order.
     pub fn items(&self) -> &[u64]
         ensures { result.now ≡ self.now }
     {

@@ -15,6 +15,7 @@ pub struct Acquired {
 /// of either. No claim was added.
 #[derive(Clone, Copy, Debug, PartialEq, Eq)]
 pub enum AcquireFault {
+    /// There was no memory for a new claim.
     OutOfMemory,
     /// There are `claims` claims, and with `wanted` more, one for each new counter, there would be more than the most.
     ClaimsSpent {

@@ -6,6 +6,7 @@ use std::alloc::{AllocError, AllocFailed};
 pub enum ConfigFault {
     /// The first fault: its file, its place in the file, and its number.
     Refused(At),
+    /// There was no memory to read or to make the configuration.
     OutOfMemory,
 }
 

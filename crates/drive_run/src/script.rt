@@ -15,6 +15,7 @@ const MOST_LINES: usize = 1_048_576;
 pub enum ScriptFault {
     /// It has more than 1,048,576 lines; `lines` were seen.
     TooManyLines { lines: u64 },
+    /// There was no memory to read the lines.
     OutOfMemory,
 }
 

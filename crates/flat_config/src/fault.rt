@@ -6,6 +6,7 @@ use std::alloc::{AllocError, AllocFailed};
 pub enum FlatFault {
     /// The first tree with a node that isn't flat, by its index from 0.
     NotFlat { tree: u64 },
+    /// There was no memory for the rules.
     OutOfMemory,
 }
 

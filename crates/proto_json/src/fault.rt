@@ -6,6 +6,7 @@ use std::alloc::{AllocError, AllocFailed};
 pub enum FormFault {
     /// The first fault of the message, with its place and its number.
     Refused(Refused),
+    /// There was no memory to read the value.
     OutOfMemory,
 }
 

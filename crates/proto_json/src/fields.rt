@@ -18,8 +18,11 @@ use serde_json::{Map, Value};
 /// What stands in an object for a field, with the spelling that stands there.
 #[derive(Drop)]
 pub enum Standing<'a> {
+    /// Neither spelling stands there.
     Absent,
+    /// One spelling stands there, with this value.
     Once(&'a str, Value),
+    /// Both spellings stand there.
     Twice,
 }
 

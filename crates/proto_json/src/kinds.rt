@@ -10,6 +10,7 @@ ghost use Rattle.proto_json.specs.Kinds as kinds;
 use rate_types::Unit;
 use serde_json::{Map, Number, Value};
 
+/// The text of a JSON string, None for any other value.
 pub fn into_text(value: Value) -> Option<String>
     ensures { option_map string_bytes result ≡ as_str (view value) }
 {
@@ -19,6 +20,7 @@ pub fn into_text(value: Value) -> Option<String>
     }
 }
 
+/// The items of a JSON array, None for any other value.
 pub fn into_list(value: Value) -> Option<Vec<Value>>
     ensures { option_map (λ items. items_view items.items) result ≡ as_array (view value) }
 {
@@ -28,6 +30,7 @@ pub fn into_list(value: Value) -> Option<Vec<Value>>
     }
 }
 
+/// The members of a JSON object, None for any other value.
 pub fn into_object(value: Value) -> Option<Map<String, Value>>
     ensures { option_map (λ m. members_view m.entries) result ≡ as_object (view value) }
 {

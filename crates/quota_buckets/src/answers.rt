@@ -7,6 +7,7 @@ use rate_types::Millis;
 pub enum AdvanceFault {
     /// The moment is before `last`, the present time.
     TimeBack { last: Millis },
+    /// There was no memory for the reports that fall due.
     OutOfMemory,
 }
 

@@ -7,11 +7,17 @@ use rate_types::Millis;
 /// bucket with its name.
 #[derive(Clone, Copy)]
 pub enum Call {
+    /// Time goes on to this moment.
     Advance(Millis),
+    /// The stream to the quota server is up, or isn't.
     SetUp(bool),
+    /// A request arrived.
     Request,
+    /// A request of the bucket is to be decided.
     Decide,
+    /// The server assigned this strategy, for the lifetime if one is given.
     Assign(Option<Millis>, Strategy),
+    /// The server abandoned the bucket.
     Abandon,
 }
 

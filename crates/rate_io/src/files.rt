@@ -12,6 +12,7 @@ pub enum FileFault {
     Failed,
     /// It has more bytes than the limit; `read` bytes were seen.
     TooLong { read: u64 },
+    /// There was no memory for its bytes.
     OutOfMemory,
 }
 

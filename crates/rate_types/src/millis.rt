@@ -33,6 +33,7 @@ impl Millis {
         }
     }
 
+    /// The milliseconds.
     pub fn get(self) -> u64
         ensures value { result ≡ self }
         ensures bound { result ≤ 1000000000000 }

@@ -40,6 +40,7 @@ impl Seconds {
         }
     }
 
+    /// The seconds.
     pub fn get(self) -> u64
         ensures value { result ≡ self }
         ensures bound { result ≤ 1000000000000 }

@@ -18,6 +18,7 @@ use std::marker::Model;
 pub enum TextFault {
     /// The text has `len` bytes, more than 1,024.
     TooLong { len: u64 },
+    /// There was no memory for its bytes.
     OutOfMemory,
 }
 

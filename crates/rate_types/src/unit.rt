@@ -4,9 +4,13 @@ ghost use Rattle.rate_types.specs.Units.{seconds_of, unit_rank};
 /// The length of a window: Envoy's `RateLimitUnit` without WEEK, MONTH and YEAR. Second is the least.
 #[derive(Clone, Copy, Debug, PartialEq, Eq, PartialOrd, Ord, Hash)]
 pub enum Unit {
+    /// 1 second.
     Second,
+    /// 60 seconds.
     Minute,
+    /// 3,600 seconds.
     Hour,
+    /// 86,400 seconds.
     Day,
 }
 

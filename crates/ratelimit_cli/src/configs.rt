@@ -14,6 +14,7 @@ use rate_types::{At, Blob, Blobs, Place, Refused, Word};
 use rls_core::FlatConfigs;
 use std::alloc::Global;
 
+/// The most bytes that a file or the input may have.
 pub const MOST_BYTES: u64 = 67_108_864;
 
 /// The bytes of the files of these names, in order. The first that can't be read ends it.

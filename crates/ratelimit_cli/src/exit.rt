@@ -17,5 +17,6 @@ pub enum Exit {
     WriteFault,
     /// The file of this index, from 0, couldn't be read.
     FileFault(u64),
+    /// There was no memory, and nothing was written.
     OutOfMemory,
 }

@@ -16,6 +16,7 @@ pub enum CheckFault {
         claims: u64,
         wanted: u32,
     },
+    /// There was no memory for the check.
     OutOfMemory,
 }
 

@@ -9,7 +9,9 @@ use rule_lookup::Found;
 #[derive(Clone, Copy, Debug, PartialEq, Eq, Default)]
 pub enum Code {
     #[default]
+    /// It is within its limit, or has none.
     Ok,
+    /// It is over its limit.
     OverLimit,
 }
 
