@@ -44,25 +44,13 @@ pub fn tree_of(alloc: Global, value: Value, place: Place) -> Result<Tree, FormFa
     Ok(tree)
 }
 
-// The JSON value of a file.
-#[tactic(auto, unfolding(proto_json::specs::Document::document))]
-fn document_of(alloc: Global, bytes: &[u8]) -> Result<Value, FormFault>
-    ensures { Answers (λ v. Some (view v)) result (reading_of (document bytes.now)) }
-{
-    match parse(alloc, bytes) {
-        Ok(value) => Ok(value),
-        Err(FormFault::Refused(refused)) => Err(FormFault::Refused(refused)),
-        Err(FormFault::OutOfMemory) => Err(FormFault::OutOfMemory),
-    }
-}
-
 /// Reads a configuration file.
 #[tactic(auto, using(proto_json::specs::Laws::reading_then), unfolding(crate::specs::Trees::file))]
 pub fn read_file(alloc: Global, bytes: &[u8]) -> Result<Tree, FormFault>
     ensures said { Answers (λ t. Some (tree_view t)) result (reading_of (trees.file bytes.now)) }
     ensures formed { IfOk result (λ t. AreWellFormed (tree_view t).forest) }
 {
-    let value = document_of(alloc, bytes)?;
+    let value = parse(alloc, bytes)?;
     let tree = tree_of(alloc, value, Place::empty(alloc))?;
     Ok(tree)
 }

@@ -17,6 +17,7 @@ use Rattle.proto_json.specs.Fields.{Name, Object, Found, absent, once, twice, fo
 use Rattle.proto_json.specs.Kinds.{and_read, read_some}
 use Rattle.serde_json.specs.Find.{get_member}
 use Rattle.proto_json.specs.Lists.{items_from, with_first}
+use Rattle.proto_json.specs.Document.{json_of, json_said, document}
 
 -- one reading, and where it is a value the next
 abbrev pub then_read : {X Y : Type 0} → Result X Refused → (X → Result Y Refused) → Result Y Refused
@@ -86,6 +87,31 @@ take_and_read {X = X} {Y = Y} kind next name o =
     by (once spelling (string s)) = at (child o.place spelling) (string s)
     by (once spelling (array ds)) = at (child o.place spelling) (array ds)
     by (once spelling (object ms)) = at (child o.place spelling) (object ms)
+
+-- ---- bytes as JSON
+
+-- the value of a reading, none where it is refused
+abbrev value_or_none : {X : Type 0} → Result (Option X) Refused → Option X
+value_or_none (Ok x) = x
+value_or_none (Err refused) = None
+
+-- bytes that read as a value are that value
+pub document_value : (bytes : List ℕ) (d : Data) → reading_of (document bytes) ≡ Ok (Some d) → json_of bytes ≡ Some d
+unfolding document
+document_value bytes d = by (json_of bytes)
+  where
+    by : (o : Option Data) → reading_of (json_said o) ≡ Ok (Some d) → o ≡ Some d
+    by None is = ap value_or_none is
+    by (Some x) is = ap value_or_none is
+
+-- bytes that are refused are no JSON
+pub document_refused : (bytes : List ℕ) (refused : Refused) → reading_of (document bytes) ≡ Err refused → json_of bytes ≡ None
+unfolding document
+document_refused bytes refused = by (json_of bytes)
+  where
+    by : (o : Option Data) → reading_of (json_said o) ≡ Err refused → o ≡ None
+    by None is = refl
+    by (Some x) is = ap value_or_none is
 
 -- ---- a field after another was taken
 

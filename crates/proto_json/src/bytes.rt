@@ -1,7 +1,7 @@
-ghost use Rattle.std.specs.Prelude.{◌≡◌, [], Some, None, IfOk, IfErr};
-ghost use Rattle.rate_types.specs.declared.refused.Refused.{Refused};
+ghost use Rattle.std.specs.Prelude.{Some};
 ghost use Rattle.serde_json.specs.View.{view};
-ghost use Rattle.proto_json.specs.Document.{json_of};
+ghost use Rattle.proto_json.specs.Said.{Answers, reading_of};
+ghost use Rattle.proto_json.specs.Document.{document};
 
 use crate::FormFault;
 use rate_types::{Place, Refused};
@@ -10,10 +10,9 @@ use std::alloc::Global;
 
 /// The JSON value that the bytes are (RFC 8259, as `serde_json` reads it). Bytes that are no JSON are refused with 1
 /// BadJson at the empty place.
+#[tactic(auto, unfolding(crate::specs::Document::document))]
 pub fn parse(alloc: Global, bytes: &[u8]) -> Result<Value, FormFault>
-    ensures value { IfOk result (λ v. json_of bytes.now ≡ Some (view v)) }
-    ensures bad { IfErr result (λ e. (refused : Refused) → e ≡ FormFault.Refused refused
-        → (json_of bytes.now ≡ None) × (refused ≡ record { at = []; number = 1 })) }
+    ensures { Answers (λ v. Some (view v)) result (reading_of (document bytes.now)) }
 {
     match Value::from_slice(alloc, bytes) {
         Ok(value) => Ok(value),

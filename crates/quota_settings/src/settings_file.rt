@@ -93,18 +93,6 @@ fn settings_at(alloc: Global, value: Value, place: Place) -> Result<Settings, Fo
     Ok(settings)
 }
 
-// The JSON value of a file.
-#[tactic(auto, unfolding(proto_json::specs::Document::document))]
-fn document_of(alloc: Global, bytes: &[u8]) -> Result<Value, FormFault>
-    ensures { Answers (λ v. Some (view v)) result (reading_of (document bytes.now)) }
-{
-    match parse(alloc, bytes) {
-        Ok(value) => Ok(value),
-        Err(FormFault::Refused(refused)) => Err(FormFault::Refused(refused)),
-        Err(FormFault::OutOfMemory) => Err(FormFault::OutOfMemory),
-    }
-}
-
 /// Reads a settings file. It answers the settings that the file spells, or its first fault: 1 BadJson where the bytes are
 /// no JSON, 10 EmptyDomain at the empty place, at a bucket 31 IntervalZero where its reporting interval is absent or 0,
 /// 32 NoBucketId where its name has no part, 37 TooManyParts where it has over 32, 33 PartKind at a part that hasn't
@@ -114,7 +102,7 @@ fn document_of(alloc: Global, bytes: &[u8]) -> Result<Value, FormFault>
 pub fn read_settings(alloc: Global, bytes: &[u8]) -> Result<Settings, FormFault>
     ensures { Answers (λ s. Some s) result (reading_of (reading.settings bytes.now)) }
 {
-    let value = document_of(alloc, bytes)?;
+    let value = parse(alloc, bytes)?;
     let settings = settings_at(alloc, value, Place::empty(alloc))?;
     Ok(settings)
 }
