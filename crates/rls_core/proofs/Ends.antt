@@ -1,5 +1,5 @@
 -- The ends of the windows of the counters in a map, and what dropping the ended ones leaves.
-use Rattle.std.proofs.Common.{◌≡◌, ℕ, ◌-◌, ◌^◌, ◌<◌, ◌≤◌, ◌&&◌, min, Bool, true, false, cond, List, [], ◌∷◌, filter, length, Ordering, Less, Equal, Greater, is_eq, is_some, unwrap_or, nat_lt, Option, Some, None, refl, sym, ap, ◌∙◌, arith, true≢false}
+use Rattle.std.proofs.Common.{◌≡◌, ℕ, ◌<◌, ◌≤◌, ◌&&◌, min, Bool, true, false, cond, [], ◌∷◌, filter, length, Ordering, Less, Equal, Greater, is_eq, is_some, unwrap_or, nat_lt, Option, Some, None, refl, ap, ◌∙◌, arith}
 use Rattle.std.proofs.lemmas.Bool.Decides.{nat_tests}
 use Rattle.std.specs.List.{AllByRecursion}
 use Rattle.std.specs.Map.{lookup}
@@ -8,7 +8,6 @@ use Rattle.std.specs.Ordering.{match_ordering}
 use Rattle.rate_types.specs.Counters.{key_cmp, same_counter}
 use Rattle.rate_types.specs.Units.{seconds_of, unit_rank}
 use Rattle.rate_types.specs.declared.unit.Unit.{Unit}
-use Rattle.rate_types.specs.declared.unit.Unit.TheVariants.{Second, Minute, Hour, Day}
 use Rattle.rate_types.specs.declared.counter_key.CounterKey.{CounterKey}
 use Rattle.rate_types.specs.contracts.counter_key.CounterKeyOrd.TheImpl.Laws.{matches_eq-law}
 use Rattle.window_keys.specs.Counter.{window_end_of}

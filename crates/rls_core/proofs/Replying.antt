@@ -1,5 +1,5 @@
 -- The reply to a request of one descriptor.
-use Rattle.std.proofs.Common.{◌≡◌, ℕ, ◌+◌, ◌<◌, ◌==◌, ◌&&◌, ◌||◌, not, Bool, true, false, cond, List, [], ◌∷◌, ◌++◌, Option, Some, None, IsSome, nat_lt, if◌then◌else◌, sum_by, length, slice_index_or, refl, sym, ap, ◌∙◌, arith}
+use Rattle.std.proofs.Common.{◌≡◌, ℕ, ◌+◌, ◌==◌, ◌&&◌, ◌||◌, Bool, true, false, cond, List, [], ◌∷◌, ◌++◌, Some, None, IsSome, nat_lt, if◌then◌else◌, sum_by, length, slice_index_or, refl, sym, ap, ◌∙◌, arith}
 use Rattle.std.proofs.lemmas.Bool.Decides.{nat_tests}
 use Rattle.std.proofs.lemmas.List.{append-nil}
 use Rattle.std.specs.List.{flat_map, list_any}
@@ -19,7 +19,7 @@ use Rattle.rls_core.specs.Status.{status_of, status_at}
 use Rattle.rls_core.specs.declared.fault.CheckFault.{CheckFault}
 use Rattle.rls_core.specs.declared.fault.CheckFault.TheVariants.{CountersFull, ClaimsSpent, OutOfMemory}
 use Rattle.rls_core.specs.Reply.{hits_of, found_for, charge_shown, charges_of, counter_under, counters_named, is_over_limit, IsReplyOf}
-use Rattle.rls_core.specs.Sequential.{count_for, count_under, charged_under, AreSequential, HasRoom, LacksRoom}
+use Rattle.rls_core.specs.Sequential.{count_for, charged_under, AreSequential, HasRoom}
 use Rattle.rls_core.specs.Sums.{has_sum, sum_on}
 use Rattle.rls_core.specs.Plain.{PlainState, CountsEach, Charges, HasRoomFor, IsFullFor, IsFull, hits_charged}
 

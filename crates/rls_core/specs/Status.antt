@@ -2,7 +2,6 @@
 use Rattle.std.specs.Prelude.{ℕ, ◌+◌, ◌-◌, ◌==◌, ◌&&◌, ◌||◌, not, Bool, nat_lt, if◌then◌else◌, Option, Some, None}
 use Rattle.rate_types.specs.declared.unit.Unit.{Unit}
 use Rattle.rate_types.specs.declared.rule_id.RuleId.{RuleId}
-use Rattle.rate_types.specs.declared.request.OwnLimit.{OwnLimit}
 use Rattle.window_keys.specs.Window.{time_to_reset}
 use Rattle.rule_lookup.specs.declared.found.Found.{Found}
 use Rattle.rule_lookup.specs.declared.found.Found.TheVariants.{NoRule, Unlimited, Limited}

@@ -1,6 +1,4 @@
-use Rattle.std.proofs.Common.{◌≡◌, [], rules, sym, ap, ◌∙◌, ◌-◌, ◌^◌, subst, ◌≤◌}
-use Rattle.std.specs.List.{AllByRecursion}
-use Rattle.window_keys.specs.Counter.{window_end_of}
+use Rattle.std.proofs.Common.{◌≡◌, [], sym, ap, ◌∙◌, ◌-◌, ◌^◌}
 use Rattle.rls_core.proofs.Ends.{first_end, first_end_least}
 use Rattle.rls_core.proofs.counter_sums.least_end.Goals as goal
 

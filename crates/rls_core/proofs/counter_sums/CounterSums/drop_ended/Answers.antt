@@ -1,4 +1,4 @@
-use Rattle.std.proofs.Common.{sym, ap, ◌∙◌, subst, ◌≡◌, nat_lt, filter}
+use Rattle.std.proofs.Common.{sym, subst, ◌≡◌, nat_lt, filter}
 use Rattle.window_keys.specs.Counter.{window_end_of}
 use Rattle.rls_core.specs.Sums.{Sums}
 use Rattle.rls_core.proofs.Ends.{none_ended}

@@ -1,10 +1,8 @@
-use Rattle.std.proofs.Common.{◌≡◌, [], ◌∷◌, Some, refl, sym, ap, ◌∙◌, slice_index_or, rules}
+use Rattle.std.proofs.Common.{◌≡◌, [], ◌∷◌, Some, refl, ap, ◌∙◌, slice_index_or, rules}
 use Rattle.rate_types.specs.declared.request.Descriptor.{Descriptor}
-use Rattle.rule_lookup.specs.Rule.{rule_of}
-use Rattle.rule_lookup.specs.declared.found.Found.{Found}
 use Rattle.rls_core.specs.Status.{status_of}
 use Rattle.rls_core.specs.Reply.{hits_of, found_for, counter_under}
-use Rattle.rls_core.specs.Plain.{CountsEach, HasRoomFor, hits_charged}
+use Rattle.rls_core.specs.Plain.{CountsEach, hits_charged}
 use Rattle.rls_core.proofs.Replying.{one_item, charges_one, room_one}
 use Rattle.rls_core.proofs.plain.Plain.check.Goals as goal
 

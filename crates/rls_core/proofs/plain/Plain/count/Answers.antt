@@ -1,4 +1,4 @@
-use Rattle.std.proofs.Common.{◌≡◌, ◌≤◌, ◌<◌, ◌+◌, ℕ, false, [], ◌∷◌, length, sym, ap, ◌∙◌, subst, arith, rules}
+use Rattle.std.proofs.Common.{◌≡◌, ◌<◌, ◌+◌, false, [], ◌∷◌, length, sym, ap, ◌∙◌, subst, rules}
 use Rattle.window_keys.specs.Counter.{window_end_of}
 use Rattle.rls_core.specs.Plain.{PlainState, CountsEach, hits_charged}
 use Rattle.rls_core.specs.Sums.{has_sum, sum_on}

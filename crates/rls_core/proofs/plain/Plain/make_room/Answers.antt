@@ -1,6 +1,4 @@
-use Rattle.std.proofs.Common.{◌≡◌, ◌≤◌, ◌<◌, ◌+◌, ℕ, Bool, true, false, is_some, refl, sym, ap, ◌∙◌, subst, arith}
-use Rattle.rls_core.specs.Plain.{PlainState, HasRoomFor}
-use Rattle.rls_core.specs.Sequential.{IsNumberOf}
+use Rattle.std.proofs.Common.{◌≡◌, true, false, is_some, refl, sym, ap, ◌∙◌, arith}
 use Rattle.rls_core.specs.Sums.{has_sum}
 use Rattle.rls_core.proofs.Numbers.{wants_none, wants_one}
 use Rattle.rls_core.proofs.plain.Plain.make_room.Goals as goal

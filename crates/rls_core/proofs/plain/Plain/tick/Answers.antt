@@ -1,5 +1,4 @@
-use Rattle.std.proofs.Common.{◌≡◌, ◌≤◌, ℕ, max, length, sym, ap, ◌∙◌, subst, arith, filter, nat_lt, rules}
-use Rattle.window_keys.specs.Counter.{window_end_of}
+use Rattle.std.proofs.Common.{◌≡◌, max, ap, ◌∙◌, subst, arith}
 use Rattle.rls_core.specs.Plain.{PlainState, Drops}
 use Rattle.rls_core.proofs.Ends.{open_of, all_open, fewer_open, drops}
 use Rattle.rls_core.proofs.plain.Plain.tick.Goals as goal
