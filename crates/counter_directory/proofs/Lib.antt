@@ -12,3 +12,5 @@ mod Acquiring
 mod Starting
 mod Holding
 mod Turning
+mod Unpinning
+mod Elements

@@ -29,3 +29,6 @@ pub use acquired::{AcquireFault, Acquired};
 pub use claim::{Claim, Claims};
 pub use counter::SharedCounter;
 pub use directory::{ClosedDirectory, Directory, DirectoryPass, claims};
+
+#[cfg(test)]
+mod tests;

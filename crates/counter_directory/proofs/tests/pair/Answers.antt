@@ -1,0 +1,18 @@
+use Rattle.std.proofs.Common.{◌≡◌, [], All, sym, subst}
+use Rattle.std.specs.Prelude.{IfSome}
+use Rattle.std.proofs.lemmas.List.Elements.{All-pop}
+use Rattle.told_list.specs.Tokens.{list_of}
+use Rattle.counter_directory.proofs.Elements.{all_tail, all_maybe}
+use Rattle.counter_directory.proofs.tests.pair.Goals as goal
+
+pub loop-hand-preserved : goal.loop-hand-preserved
+loop-hand-preserved g c =
+    let i = c.loop-hand.invariant in
+    let id = c.args.directory.now.list_id in
+    let t = all_tail (λ h. h.good ≡ []) c.in-Some.hand c.next.new.self.rest.items (subst (All (λ h. h.good ≡ [])) c.in-Some.ensures.steps.0 i.rest) in
+    let p = All-pop (λ s. list_of s ≡ id) c.loop-hand.passes.items c.pop.new.self.items c.pop.result c.pop.ensures.items i.passes in
+    record {
+      workers = subst (All (λ w. (w.hand.good ≡ []) × (list_of w.pass ≡ id))) (sym c.push.ensures.items) (all_maybe (λ w. (w.hand.good ≡ []) × (list_of w.pass ≡ id)) c.loop-hand.workers.items _ _ i.workers (t.0, subst (λ o. IfSome o (λ s. list_of s ≡ id)) c.in_ok-pass.was p.1));
+      rest = t.1;
+      passes = p.0;
+    }

@@ -1,0 +1,311 @@
+ghost use Rattle.std.specs.Prelude.{◌≡◌, ℕ, ◌^◌, ◌≤◌, ◌<◌, [], length, All, IfOk, IfSome, OnErr};
+ghost use Rattle.counter_cells.specs.Views.{good_on};
+ghost use Rattle.counter_cells.specs.Opened.{table_of, setup_of};
+ghost use Rattle.told_list.specs.Tokens.{list_of};
+ghost use Rattle.counter_directory.specs.Wants.{spots_on};
+
+use super::*;
+use counter_cells::{CellNaming, CellPass, Cells, OpenedCells, Spot};
+use rate_types::{CounterName, Entries, Entry, Seconds, Text, Unit};
+use std::alloc::Global;
+use std::marker::Brand;
+use std::process::Abort;
+use std::sync::Wait;
+use std::test::*;
+
+mod lists;
+mod threads;
+
+// What one thread has of a directory and of its cells.
+#[derive(Drop)]
+struct Worker<N: CellNaming> {
+    pass: DirectoryPass<N>,
+    hand: CellPass<N>,
+}
+
+// Each hand with a pass.
+fn pair<N: CellNaming>(
+    alloc: Global,
+    hands: Vec<CellPass<N>>,
+    mut passes: Vec<DirectoryPass<N>>,
+    directory: &Directory<N>,
+) -> Option<Vec<Worker<N>>>
+    requires hands { All (λ h. h.good ≡ []) hands.items }
+    requires passes { All (λ p. list_of p ≡ directory.now.list_id) passes.items }
+    ensures { IfSome result (λ v. All (λ w. (w.hand.good ≡ []) × (list_of w.pass ≡ directory.now.list_id)) v.items) }
+{
+    let mut workers = Vec::new(alloc);
+    for hand in hands {
+        let pass = passes.pop()?;
+        workers.push(Worker { pass, hand }).ok()?;
+    }
+    Some(workers)
+}
+
+// A directory on the cells for at most so many claims, and the workers at it.
+fn open<N: CellNaming>(
+    alloc: Global,
+    opened: OpenedCells,
+    claims_max: u64,
+    workers: u32,
+) -> Option<(Cells<N>, Directory<N>, Vec<Worker<N>>)>
+    requires name { (table_of opened ≡ N.table) × (setup_of opened ≡ N.setup) }
+    requires claims_max { (1 ≤ claims_max) × (claims_max ≤ 2 ^ 40) }
+    requires workers { (1 ≤ workers) × (workers ≤ 1024) }
+    ensures passes { IfSome result (λ r. r.1.passes ≡ workers) }
+    ensures workers { IfSome result (λ r. All (λ w. (w.hand.good ≡ []) × (list_of w.pass ≡ r.1.list_id)) r.2.items) }
+{
+    let (cells, hands, claimer) = opened.named::<N>(alloc).ok()?;
+    let (directory, passes) = Directory::make(alloc, claimer, claims_max, workers).ok()?;
+    let workers = pair(alloc, hands, passes, &directory)?;
+    Some((cells, directory, workers))
+}
+
+// The name of the counters of k with this value, for each minute.
+fn name(alloc: Global, value: &str) -> Option<CounterName> {
+    let mut items = Vec::new(alloc);
+    let entry = Entry {
+        key: Text::new(alloc, "k").ok()?,
+        value: Text::new(alloc, value).ok()?,
+    };
+    items.push(entry).ok()?;
+    Some(CounterName {
+        domain: Text::new(alloc, "d").ok()?,
+        entries: Entries::build(items).ok()?,
+        unit: Unit::Minute,
+    })
+}
+
+// Gives all pins back.
+fn unpin_all<N: CellNaming>(cells: &Cells<N>, hand: &mut CellPass<N>, spots: &[Spot])
+    requires cells { All (λ s. s.cell < N.setup.cells) spots.now }
+    requires pins { (cell : ℕ) → good_on cell hand.old ≡ spots_on cell spots.now }
+    ensures none { hand.new.good ≡ [] }
+{
+    for spot in spots {
+        cells.unpin(hand, spot.cell);
+    }
+}
+
+// Acquires the names.
+fn pin<N: CellNaming, R: Wait>(
+    rt: &R,
+    directory: &Directory<N>,
+    cells: &Cells<N>,
+    worker: &mut Worker<N>,
+    names: &[CounterName],
+) -> Result<Acquired, AcquireFault>
+    requires pass { list_of worker.old.pass ≡ directory.now.list_id }
+    requires hand { worker.old.hand.good ≡ [] }
+    requires names { (1 ≤ length names.now) × (length names.now ≤ 32) }
+    ensures pass { list_of worker.new.pass ≡ directory.now.list_id }
+    ensures within { IfOk result (λ a. All (λ s. s.cell < N.setup.cells) a.spots.items) }
+    ensures pins { IfOk result (λ a. (cell : ℕ) → good_on cell worker.new.hand ≡ spots_on cell a.spots.items) }
+    ensures none { OnErr result (worker.new.hand.good ≡ []) }
+{
+    directory.acquire(rt, &mut worker.pass, cells, &mut worker.hand, names)
+}
+
+// Acquires the names, and gives the pins back.
+fn take<N: CellNaming, R: Wait>(
+    rt: &R,
+    directory: &Directory<N>,
+    cells: &Cells<N>,
+    worker: &mut Worker<N>,
+    names: &[CounterName],
+) -> Result<Acquired, AcquireFault>
+    requires pass { list_of worker.old.pass ≡ directory.now.list_id }
+    requires hand { worker.old.hand.good ≡ [] }
+    requires names { (1 ≤ length names.now) × (length names.now ≤ 32) }
+    ensures pass { list_of worker.new.pass ≡ directory.now.list_id }
+    ensures hand { worker.new.hand.good ≡ [] }
+{
+    let acquired = pin(rt, directory, cells, worker, names)?;
+    unpin_all(cells, &mut worker.hand, acquired.spots.as_slice());
+    Ok(acquired)
+}
+
+// The moment and the spot of the name with this value, whose pin is given back.
+fn take_one<N: CellNaming, R: Wait>(
+    rt: &R,
+    alloc: Global,
+    directory: &Directory<N>,
+    cells: &Cells<N>,
+    worker: &mut Worker<N>,
+    value: &str,
+) -> Result<(u64, Spot), AcquireFault>
+    requires pass { list_of worker.old.pass ≡ directory.now.list_id }
+    requires hand { worker.old.hand.good ≡ [] }
+    ensures pass { list_of worker.new.pass ≡ directory.now.list_id }
+    ensures hand { worker.new.hand.good ≡ [] }
+{
+    let names = [name(alloc, value).ok_or(AcquireFault::OutOfMemory)?];
+    let acquired = take(rt, directory, cells, worker, names.as_slice())?;
+    match acquired.spots.as_slice() {
+        [spot] => Ok((acquired.moment.get(), *spot)),
+        _ => Err(AcquireFault::OutOfMemory),
+    }
+}
+
+#[test]
+fn a_third_claim_of_two_is_refused(rt: HostRuntime) -> Result<(), Fail> {
+    let opened = OpenedCells::make(rt.alloc(), 8, 1, Seconds::capped(0))?;
+    claim_three::<Brand, _>(&rt, rt.alloc(), opened)
+}
+
+fn claim_three<N: CellNaming, R: Abort + Wait>(
+    rt: &R,
+    alloc: Global,
+    opened: OpenedCells,
+) -> Result<(), Fail>
+    requires name { (table_of opened ≡ N.table) × (setup_of opened ≡ N.setup) }
+{
+    let (cells, directory, mut workers) = open::<N>(alloc, opened, 2, 1).ok_or("memory")?;
+    let mut worker = workers.pop().ok_or("one worker")?;
+    let first = take_one(rt, alloc, &directory, &cells, &mut worker, "a");
+    let second = take_one(rt, alloc, &directory, &cells, &mut worker, "b");
+    let third = take_one(rt, alloc, &directory, &cells, &mut worker, "c");
+    let again = take_one(rt, alloc, &directory, &cells, &mut worker, "a");
+    assert_eq!(rt; first, Ok((0, Spot { cell: 0, claim: 0 })));
+    assert_eq!(rt; second, Ok((0, Spot { cell: 1, claim: 1 })));
+    assert_eq!(rt;
+        third,
+        Err(AcquireFault::ClaimsSpent {
+            claims: 2,
+            wanted: 1
+        })
+    );
+    assert_eq!(rt; again, first);
+    assert_eq!(rt; claims(&worker.pass), 2);
+    Ok(())
+}
+
+#[test]
+fn a_cell_of_a_later_window_is_full(rt: HostRuntime) -> Result<(), Fail> {
+    let opened = OpenedCells::make(rt.alloc(), 1, 2, Seconds::capped(0))?;
+    take_over_the_cell::<Brand, _>(&rt, rt.alloc(), opened)
+}
+
+// One takes the cell in the first minute, the other in the second, and then the one asks again for its counter.
+fn take_over_the_cell<N: CellNaming, R: Abort + Wait>(
+    rt: &R,
+    alloc: Global,
+    opened: OpenedCells,
+) -> Result<(), Fail>
+    requires name { (table_of opened ≡ N.table) × (setup_of opened ≡ N.setup) }
+{
+    let (cells, directory, mut workers) = open::<N>(alloc, opened, 100, 2).ok_or("memory")?;
+    let mut one = workers.pop().ok_or("two workers")?;
+    let mut other = workers.pop().ok_or("two workers")?;
+    let first = take_one(rt, alloc, &directory, &cells, &mut one, "a");
+    cells.tick(&mut other.hand, Seconds::capped(60));
+    let second = take_one(rt, alloc, &directory, &cells, &mut other, "b");
+    let before = one.hand.moment().get();
+    let third = take_one(rt, alloc, &directory, &cells, &mut one, "a");
+    assert_eq!(rt; first, Ok((0, Spot { cell: 0, claim: 0 })));
+    assert_eq!(rt; second, Ok((60, Spot { cell: 0, claim: 1 })));
+    assert_eq!(rt; before, 0);
+    assert_eq!(rt;
+        third,
+        Err(AcquireFault::CountersFull {
+            moment: Seconds::capped(60),
+            live: 1,
+            held: 0,
+            wanted: 1
+        })
+    );
+    assert_eq!(rt; (one.hand.moment().get(), one.hand.pins()), (60, 0));
+    Ok(())
+}
+
+#[test]
+fn an_ended_cell_is_held_while_it_is_pinned(rt: HostRuntime) -> Result<(), Fail> {
+    let opened = OpenedCells::make(rt.alloc(), 1, 2, Seconds::capped(0))?;
+    hold_an_ended_cell::<Brand, _>(&rt, rt.alloc(), opened)
+}
+
+fn hold_an_ended_cell<N: CellNaming, R: Abort + Wait>(
+    rt: &R,
+    alloc: Global,
+    opened: OpenedCells,
+) -> Result<(), Fail>
+    requires name { (table_of opened ≡ N.table) × (setup_of opened ≡ N.setup) }
+{
+    let (cells, directory, mut workers) = open::<N>(alloc, opened, 100, 2).ok_or("memory")?;
+    let mut one = workers.pop().ok_or("two workers")?;
+    let mut other = workers.pop().ok_or("two workers")?;
+    take_beside_a_pin(rt, alloc, &directory, &cells, &mut one, &mut other)
+}
+
+// One pins the cell in the first minute. The other asks for it in the second, before and after the pin is given back.
+fn take_beside_a_pin<N: CellNaming, R: Abort + Wait>(
+    rt: &R,
+    alloc: Global,
+    directory: &Directory<N>,
+    cells: &Cells<N>,
+    one: &mut Worker<N>,
+    other: &mut Worker<N>,
+) -> Result<(), Fail>
+    requires one { (list_of one.old.pass ≡ directory.now.list_id) × (one.old.hand.good ≡ []) }
+    requires other { (list_of other.old.pass ≡ directory.now.list_id) × (other.old.hand.good ≡ []) }
+{
+    let names = [name(alloc, "a").ok_or("memory")?];
+    let Ok(held) = pin(rt, directory, cells, one, names.as_slice()) else {
+        return Err("a cell".into());
+    };
+    cells.tick(&mut other.hand, Seconds::capped(60));
+    let refused = take_one(rt, alloc, directory, cells, other, "b");
+    unpin_all(cells, &mut one.hand, held.spots.as_slice());
+    let taken = take_one(rt, alloc, directory, cells, other, "b");
+    assert_eq!(rt;
+        refused,
+        Err(AcquireFault::CountersFull {
+            moment: Seconds::capped(60),
+            live: 0,
+            held: 1,
+            wanted: 1
+        })
+    );
+    assert_eq!(rt; taken, Ok((60, Spot { cell: 0, claim: 1 })));
+    Ok(())
+}
+
+#[test]
+fn a_name_given_twice_is_pinned_twice(rt: HostRuntime) -> Result<(), Fail> {
+    let opened = OpenedCells::make(rt.alloc(), 8, 1, Seconds::capped(0))?;
+    pin_twice::<Brand, _>(&rt, rt.alloc(), opened)
+}
+
+fn pin_twice<N: CellNaming, R: Abort + Wait>(
+    rt: &R,
+    alloc: Global,
+    opened: OpenedCells,
+) -> Result<(), Fail>
+    requires name { (table_of opened ≡ N.table) × (setup_of opened ≡ N.setup) }
+{
+    let (cells, directory, mut workers) = open::<N>(alloc, opened, 100, 1).ok_or("memory")?;
+    let mut worker = workers.pop().ok_or("one worker")?;
+    pin_one_name_twice(rt, alloc, &directory, &cells, &mut worker)
+}
+
+fn pin_one_name_twice<N: CellNaming, R: Abort + Wait>(
+    rt: &R,
+    alloc: Global,
+    directory: &Directory<N>,
+    cells: &Cells<N>,
+    worker: &mut Worker<N>,
+) -> Result<(), Fail>
+    requires pass { list_of worker.old.pass ≡ directory.now.list_id }
+    requires hand { worker.old.hand.good ≡ [] }
+{
+    let one = name(alloc, "a").ok_or("memory")?;
+    let names = [one, name(alloc, "a").ok_or("memory")?];
+    let Ok(acquired) = pin(rt, directory, cells, worker, names.as_slice()) else {
+        return Err("a cell".into());
+    };
+    let spot = Spot { cell: 0, claim: 0 };
+    assert_eq!(rt; acquired.spots.as_slice(), [spot, spot].as_slice());
+    assert_eq!(rt; worker.hand.pins(), 2);
+    assert_eq!(rt; claims(&worker.pass), 1);
+    Ok(())
+}
