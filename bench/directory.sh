@@ -1,0 +1,237 @@
+#!/bin/bash
+# Nanoseconds a name that counter_directory takes to bind new names, one a call, to 1,024 up to 1,048,576 cells: at first
+# to cells that were never taken, and, when their windows are over, to the same cells again. Each number is the least of
+# three tries. The last line has the ratio of the largest to the smallest of each column.
+# Run it at the top of the repository: bench/directory.sh
+# It builds a small program in a folder of its own, which takes some minutes, since only proved code is built.
+set -e
+top=$(cd "$(dirname "$0")/.." && pwd)
+work=$(mktemp -d)
+trap 'rm -rf "$work"' EXIT
+for crate in rate_types window_keys told_list counter_cells counter_directory; do
+    mkdir -p "$work/crates/$crate"
+    cp -r "$top/crates/$crate/src" "$top/crates/$crate/specs" "$top/crates/$crate/proofs" "$work/crates/$crate/"
+done
+cp "$top/HANDLES" "$work/"
+cat > "$work/crates.txt" <<'TXT'
+rate_types:
+window_keys: rate_types arrayvec
+told_list: rate_types atomic_table
+counter_cells: rate_types atomic_table
+counter_directory: rate_types window_keys atomic_table told_list counter_cells arrayvec
+directory_bench: rate_types told_list counter_cells counter_directory arrayvec
+TXT
+bench="$work/crates/directory_bench"
+mkdir -p "$bench/src" "$bench/proofs/unpin_all" "$bench/proofs/take_each" "$bench/proofs/fill" "$bench/proofs/one_try"
+cat > "$bench/src/main.rt" <<'RT'
+//! Times the binding of new names to cells.
+#![tactic(auto)]
+ghost use Rattle.std.specs.Prelude.{◌≡◌, ℕ, ◌*◌, ◌≤◌, ◌<◌, [], length, All, IfSome};
+ghost use Rattle.counter_cells.specs.Views.{good_on};
+ghost use Rattle.counter_cells.specs.Opened.{table_of, setup_of};
+ghost use Rattle.told_list.specs.Tokens.{list_of};
+ghost use Rattle.counter_directory.specs.Wants.{spots_on};
+
+use counter_cells::{CellNaming, CellPass, Cells, OpenedCells, Spot};
+use counter_directory::{Directory, DirectoryPass};
+use rate_types::{CounterName, Entries, Entry, Seconds, Text, Unit};
+use std::alloc::Global;
+use std::marker::Brand;
+use std::sync::Wait;
+use std::time::{Clock, Instant};
+
+#[derive(Drop)]
+struct Worker<N: CellNaming> {
+    pass: DirectoryPass<N>,
+    hand: CellPass<N>,
+}
+
+fn name(alloc: Global, number: u32) -> Option<CounterName> {
+    let mut items = Vec::new(alloc);
+    let value = format!(in alloc; "{number}").ok()?;
+    let entry = Entry {
+        key: Text::new(alloc, "k").ok()?,
+        value: Text::new(alloc, &value).ok()?,
+    };
+    items.push(entry).ok()?;
+    Some(CounterName {
+        domain: Text::new(alloc, "d").ok()?,
+        entries: Entries::build(items).ok()?,
+        unit: Unit::Minute,
+    })
+}
+
+// 1,024 names.
+fn names(alloc: Global, batch: u32) -> Option<Vec<CounterName>> {
+    let mut names = Vec::new(alloc);
+    for place in 0..1_024u32 {
+        let name = name(alloc, batch.wrapping_mul(1_024).wrapping_add(place))?;
+        names.push(name).ok()?;
+    }
+    Some(names)
+}
+
+fn unpin_all<N: CellNaming>(cells: &Cells<N>, hand: &mut CellPass<N>, spots: &[Spot])
+    requires cells { All (λ s. s.cell < N.setup.cells) spots.now }
+    requires pins { (cell : ℕ) → good_on cell hand.old ≡ spots_on cell spots.now }
+    ensures none { hand.new.good ≡ [] }
+{
+    for spot in spots {
+        cells.unpin(hand, spot.cell);
+    }
+}
+
+// Acquires each of the names by a call of its own, and gives its pin back. False where one is refused.
+fn take_each<N: CellNaming, R: Wait>(
+    rt: &R,
+    cells: &Cells<N>,
+    directory: &Directory<N>,
+    worker: &mut Worker<N>,
+    names: &[CounterName],
+) -> bool
+    requires pass { list_of worker.old.pass ≡ directory.now.list_id }
+    requires hand { worker.old.hand.good ≡ [] }
+    ensures pass { list_of worker.new.pass ≡ directory.now.list_id }
+    ensures hand { worker.new.hand.good ≡ [] }
+{
+    for place in 0..names.len() {
+        let Ok(acquired) = directory.acquire(
+            rt,
+            &mut worker.pass,
+            cells,
+            &mut worker.hand,
+            &names[place..place + 1],
+        ) else {
+            return false;
+        };
+        unpin_all(cells, &mut worker.hand, acquired.spots.as_slice());
+    }
+    true
+}
+
+// The nanoseconds of binding 1,024 names.
+fn timed<N: CellNaming, R: Wait + Clock>(
+    rt: &R,
+    cells: &Cells<N>,
+    directory: &Directory<N>,
+    worker: &mut Worker<N>,
+    names: &[CounterName],
+) -> Option<u64>
+    requires pass { list_of worker.old.pass ≡ directory.now.list_id }
+    requires hand { worker.old.hand.good ≡ [] }
+    ensures pass { list_of worker.new.pass ≡ directory.now.list_id }
+    ensures hand { worker.new.hand.good ≡ [] }
+{
+    let start = Instant::now(rt).ok()?;
+    let is_done = take_each(rt, cells, directory, worker, names);
+    let spent = start.elapsed(rt).ok()?;
+    if !is_done {
+        return None;
+    }
+    u64::try_from(spent.as_nanos()).ok()
+}
+
+// The nanoseconds of binding a name to each cell.
+fn fill<N: CellNaming, R: Wait + Clock>(
+    rt: &R,
+    alloc: Global,
+    cells: &Cells<N>,
+    directory: &Directory<N>,
+    worker: &mut Worker<N>,
+    batches: u32,
+) -> Option<u64>
+    requires pass { list_of worker.old.pass ≡ directory.now.list_id }
+    requires hand { worker.old.hand.good ≡ [] }
+    ensures pass { list_of worker.new.pass ≡ directory.now.list_id }
+    ensures hand { worker.new.hand.good ≡ [] }
+{
+    let mut spent = 0u64;
+    for batch in 0..batches {
+        let names = names(alloc, batch)?;
+        let more = timed(rt, cells, directory, worker, names.as_slice())?;
+        spent = spent.wrapping_add(more);
+    }
+    Some(spent)
+}
+
+// The nanoseconds of both fills.
+fn both<N: CellNaming, R: Wait + Clock>(
+    rt: &R,
+    alloc: Global,
+    opened: OpenedCells,
+    batches: u32,
+) -> Option<(u64, u64)>
+    requires name { (table_of opened ≡ N.table) × (setup_of opened ≡ N.setup) }
+    requires batches { batches ≤ 1024 }
+{
+    let (cells, mut hands, claimer) = opened.named::<N>(alloc).ok()?;
+    let (directory, mut passes) = Directory::make(alloc, claimer, 4_194_304, 1).ok()?;
+    let (hand, pass) = (hands.pop()?, passes.pop()?);
+    let mut worker = Worker { pass, hand };
+    let first = fill(rt, alloc, &cells, &directory, &mut worker, batches)?;
+    cells.tick(&mut worker.hand, Seconds::capped(60));
+    let second = fill(rt, alloc, &cells, &directory, &mut worker, batches)?;
+    Some((first, second))
+}
+
+fn one_try<R: Wait + Clock>(rt: &R, alloc: Global, batches: u32) -> Option<(u64, u64)>
+    requires { (1 ≤ batches) × (batches ≤ 1024) }
+{
+    let opened = OpenedCells::make(alloc, batches * 1_024, 1, Seconds::capped(0)).ok()?;
+    both::<Brand, R>(rt, alloc, opened, batches)
+}
+
+fn least<R: Wait + Clock>(rt: &R, alloc: Global, batches: u32) -> Option<(u64, u64)>
+    requires { (1 ≤ batches) × (batches ≤ 1024) }
+{
+    let (a, b) = one_try(rt, alloc, batches)?;
+    let (c, d) = one_try(rt, alloc, batches)?;
+    let (e, f) = one_try(rt, alloc, batches)?;
+    Some((a.min(c).min(e), b.min(d).min(f)))
+}
+
+fn main(rt: HostRuntime) -> std::io::Result<()> {
+    for batches in [1u32, 16, 256, 1_024] {
+        let (first, second) = least(&rt, rt.alloc(), batches).unwrap_or((0, 0));
+        println!(rt; "{batches} {first} {second}")?;
+    }
+    Ok(())
+}
+RT
+own() { sed 's/counter_directory\.proofs\.tests/directory_bench.proofs/; s/counter_directory\.proofs/directory_bench.proofs/' "$1"; }
+own "$top/crates/counter_directory/proofs/Unpinning.antt" > "$bench/proofs/Unpinning.antt"
+echo 'mod Unpinning' > "$bench/proofs/Lib.antt"
+for file in Invariants Answers; do
+    own "$top/crates/counter_directory/proofs/tests/unpin_all/$file.antt" > "$bench/proofs/unpin_all/$file.antt"
+done
+cat > "$bench/proofs/take_each/Invariants.antt" <<'PF'
+use Rattle.std.proofs.Common.{◌≡◌, []}
+use Rattle.told_list.specs.Tokens.{list_of}
+use Rattle.directory_bench.proofs.take_each.Given as goal
+
+abbrev pub invariant-loop-place : goal.invariant-loop-place
+invariant-loop-place g l = record {
+  pass : list_of l.worker.pass ≡ l.directory.list_id;
+  hand : l.worker.hand.good ≡ [];
+}
+PF
+sed 's/take_each/fill/; s/loop-place/loop-batch/' "$bench/proofs/take_each/Invariants.antt" > "$bench/proofs/fill/Invariants.antt"
+cat > "$bench/proofs/one_try/Invariants.antt" <<'PF'
+use Rattle.counter_cells.specs.Opened.{table_of, setup_of}
+use Rattle.directory_bench.proofs.one_try.Given as goal
+
+abbrev pub ghosts-both : goal.ghosts-both
+ghosts-both g a = record { table = table_of a.opened; setup = setup_of a.opened }
+PF
+(cd "$bench" && rt run > "$work/run.txt" 2> "$work/run.err") || { tail -20 "$work/run.txt" "$work/run.err"; exit 1; }
+grep -E '^[0-9]+ [0-9]+ [0-9]+$' "$work/run.txt" | awk '
+BEGIN { print "    cells  new ns/name  again ns/name" }
+{
+    cells = $1 * 1024; new = $2 / cells; again = $3 / cells
+    printf "%9d %12.1f %14.1f\n", cells, new, again
+    if (NR == 1 || new < least) least = new
+    if (NR == 1 || new > most) most = new
+    if (NR == 1 || again < least_again) least_again = again
+    if (NR == 1 || again > most_again) most_again = again
+}
+END { printf "    ratio %12.2f %14.2f\n", most / least, most_again / least_again }'
