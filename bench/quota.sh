@@ -1,0 +1,320 @@
+#!/bin/bash
+# Nanoseconds of one call on quota buckets, with 100, 1,000, 10,000 and 100,000 buckets of one stream, and how many times
+# those with 100 buckets that is. Each number is the mean over so many calls or reports.
+#   find     the name of a request's bucket
+#   decide   a request of a bucket that is named
+#   request  a request by its attributes, whose bucket is there
+#   idle     advance to the present moment, when nothing falls due
+#   one due  advance to a moment at which one bucket reports, for each report
+#   all due  advance to a moment up to which each bucket reports once, for each report
+# Names come in an order that is scattered over the buckets. Each bucket allows 100 requests a second.
+# Run it at the top of the repository: bench/quota.sh [CALLS of each kind, 1000000 unless given; a multiple of 100000]
+# It builds a small program in a folder of its own, which takes some minutes, since only proved code is built.
+set -e
+calls=${1:-1000000}
+top=$(cd "$(dirname "$0")/.." && pwd)
+work=$(mktemp -d)
+trap 'rm -rf "$work"' EXIT
+mkdir -p "$work/crates/quota_bench/src"
+for crate in rate_types proto_json past_log agenda bucket_history quota_settings quota_buckets; do
+    mkdir -p "$work/crates/$crate"
+    for part in src specs proofs; do
+        if [ -d "$top/crates/$crate/$part" ]; then cp -r "$top/crates/$crate/$part" "$work/crates/$crate/"; fi
+    done
+    grep "^$crate:" "$top/crates.txt" >> "$work/crates.txt"
+done
+echo 'quota_bench: rate_types quota_buckets' >> "$work/crates.txt"
+
+cat > "$work/crates/quota_bench/src/main.rt" <<'RT'
+//! Times decisions and reports of quota buckets.
+#![tactic(auto)]
+
+use quota_buckets::{Attributes, BucketId, Buckets, Pair, read_settings};
+use rate_types::{Millis, Text};
+use std::alloc::Global;
+use std::time::{Clock, Instant};
+
+const SETTINGS: &str =
+    r#"{"domain":"q","buckets":[{"bucketIdBuilder":{"bucketIdBuilder":{"name":{"attribute":"name"}}},"reportingInterval":"100s","noAssignmentBehavior":{"fallbackRateLimit":{"requestsPerTimeUnit":{"requestsPerTimeUnit":100,"timeUnit":"SECOND"}}}}]}"#;
+
+/// How long calls took, and how many gave what they were to give.
+#[derive(Clone, Copy)]
+struct Timed {
+    nanos: u64,
+    count: u64,
+}
+
+fn spent<R: Clock>(rt: &R, start: Instant) -> Option<u64> {
+    let spent = start.elapsed(rt).ok()?;
+    u64::try_from(spent.as_nanos()).ok()
+}
+
+fn attributes_of(alloc: Global, number: u64) -> Option<Attributes> {
+    let name = Text::new(alloc, "name").ok()?;
+    let value = Text::of(format!(in alloc; "{number}").ok()?)?;
+    let mut pairs = Vec::new(alloc);
+    pairs.push(Pair { name, value }).ok()?;
+    Some(Attributes::sorted(pairs))
+}
+
+// The attributes of each bucket, in an order that is scattered over the buckets.
+fn requests_of(alloc: Global, count: u64) -> Option<Vec<Attributes>> {
+    let mut requests = Vec::new(alloc);
+    for i in 0..count {
+        let number = i.wrapping_mul(7919) % count;
+        requests.push(attributes_of(alloc, number)?).ok()?;
+    }
+    Some(requests)
+}
+
+fn ids_of(alloc: Global, requests: &[Attributes]) -> Option<Vec<BucketId>> {
+    let mut ids = Vec::new(alloc);
+    for request in requests {
+        let id = BucketId::of(request.copy(alloc).ok()?)?;
+        ids.push(id).ok()?;
+    }
+    Some(ids)
+}
+
+fn advance_to(buckets: &mut Buckets, at: u64) -> Option<u64> {
+    let sent = buckets.advance(Millis::new(at)?).ok()?;
+    Some(sent.items().len() as u64)
+}
+
+fn make_one(alloc: Global, buckets: &mut Buckets, number: u64, at: u64) -> Option<()> {
+    advance_to(buckets, at)?;
+    let attributes = attributes_of(alloc, number)?;
+    buckets.request(&attributes).ok()?;
+    Some(())
+}
+
+// Buckets that are made one after the other, so many milliseconds apart.
+fn made(alloc: Global, count: u64, step: u64) -> Option<Buckets> {
+    let settings = read_settings(alloc, SETTINGS.as_bytes()).ok()?;
+    let mut buckets = Buckets::make(alloc, settings);
+    for i in 0..count {
+        make_one(alloc, &mut buckets, i, i.checked_mul(step)?)?;
+    }
+    Some(buckets)
+}
+
+fn find_each(buckets: &Buckets, requests: &[Attributes]) -> Option<u64> {
+    let mut found = 0u64;
+    for request in requests {
+        if buckets.find(request).ok()?.is_some() {
+            found = found.wrapping_add(1);
+        }
+    }
+    Some(found)
+}
+
+fn finding<R: Clock>(
+    rt: &R,
+    buckets: &Buckets,
+    requests: &[Attributes],
+    rounds: u64,
+) -> Option<Timed> {
+    let start = Instant::now(rt).ok()?;
+    let mut count = 0u64;
+    for _ in 0..rounds {
+        count = count.wrapping_add(find_each(buckets, requests)?);
+    }
+    Some(Timed {
+        nanos: spent(rt, start)?,
+        count,
+    })
+}
+
+fn decide_each(buckets: &mut Buckets, ids: &[BucketId]) -> u64 {
+    let mut decided = 0u64;
+    for id in ids {
+        if buckets.decide(id).is_some() {
+            decided = decided.wrapping_add(1);
+        }
+    }
+    decided
+}
+
+fn deciding<R: Clock>(
+    rt: &R,
+    buckets: &mut Buckets,
+    ids: &[BucketId],
+    rounds: u64,
+) -> Option<Timed> {
+    let start = Instant::now(rt).ok()?;
+    let mut count = 0u64;
+    for _ in 0..rounds {
+        count = count.wrapping_add(decide_each(buckets, ids));
+    }
+    Some(Timed {
+        nanos: spent(rt, start)?,
+        count,
+    })
+}
+
+fn request_each(buckets: &mut Buckets, requests: &[Attributes]) -> Option<u64> {
+    let mut decided = 0u64;
+    for request in requests {
+        if buckets.request(request).ok()?.bucket.is_some() {
+            decided = decided.wrapping_add(1);
+        }
+    }
+    Some(decided)
+}
+
+fn requesting<R: Clock>(
+    rt: &R,
+    buckets: &mut Buckets,
+    requests: &[Attributes],
+    rounds: u64,
+) -> Option<Timed> {
+    let start = Instant::now(rt).ok()?;
+    let mut count = 0u64;
+    for _ in 0..rounds {
+        count = count.wrapping_add(request_each(buckets, requests)?);
+    }
+    Some(Timed {
+        nanos: spent(rt, start)?,
+        count,
+    })
+}
+
+fn idling<R: Clock>(rt: &R, buckets: &mut Buckets, at: u64, calls: u64) -> Option<Timed> {
+    let start = Instant::now(rt).ok()?;
+    let mut count = 0u64;
+    for _ in 0..calls {
+        let sent = advance_to(buckets, at)?;
+        count = count.wrapping_add(1).wrapping_add(sent);
+    }
+    Some(Timed {
+        nanos: spent(rt, start)?,
+        count,
+    })
+}
+
+// Goes on from a moment by so many steps, and counts the reports.
+fn go_on<R: Clock>(
+    rt: &R,
+    buckets: &mut Buckets,
+    from: u64,
+    step: u64,
+    steps: u64,
+) -> Option<Timed> {
+    let start = Instant::now(rt).ok()?;
+    let mut count = 0u64;
+    for i in 0..steps {
+        let at = i.checked_mul(step)?.checked_add(from)?;
+        count = count.wrapping_add(advance_to(buckets, at)?);
+    }
+    Some(Timed {
+        nanos: spent(rt, start)?,
+        count,
+    })
+}
+
+// Goes through so many reporting intervals from a moment on, by so many steps in each. Each bucket has a request before.
+fn reporting<R: Clock>(
+    rt: &R,
+    buckets: &mut Buckets,
+    ids: &[BucketId],
+    from: u64,
+    step: u64,
+    steps: u64,
+    rounds: u64,
+) -> Option<Timed> {
+    let mut sum = Timed { nanos: 0, count: 0 };
+    for round in 0..rounds {
+        decide_each(buckets, ids);
+        let from = round.checked_mul(100_000)?.checked_add(from)?;
+        let timed = go_on(rt, buckets, from, step, steps)?;
+        sum.nanos = sum.nanos.wrapping_add(timed.nanos);
+        sum.count = sum.count.wrapping_add(timed.count);
+    }
+    Some(sum)
+}
+
+/// What is timed with one number of buckets.
+#[derive(Clone, Copy)]
+struct Row {
+    find: Timed,
+    decide: Timed,
+    request: Timed,
+    idle: Timed,
+    one: Timed,
+    all: Timed,
+}
+
+fn row_of<R: Clock>(rt: &R, alloc: Global, count: u64, calls: u64) -> Option<Row> {
+    let rounds = calls.checked_div(count)?;
+    let step = 100_000u64.checked_div(count)?;
+    let requests = requests_of(alloc, count)?;
+    let ids = ids_of(alloc, &requests)?;
+    let mut buckets = made(alloc, count, step)?;
+    let last = count.checked_sub(1)?.checked_mul(step)?;
+    let find = finding(rt, &buckets, &requests, rounds)?;
+    let decide = deciding(rt, &mut buckets, &ids, rounds)?;
+    let request = requesting(rt, &mut buckets, &requests, rounds)?;
+    let idle = idling(rt, &mut buckets, last, calls)?;
+    let one = reporting(rt, &mut buckets, &ids, 100_000, step, count, rounds)?;
+    let from = rounds
+        .checked_add(1)?
+        .checked_mul(100_000)?
+        .checked_add(last)?;
+    let all = reporting(rt, &mut buckets, &ids, from, 0, 1, rounds)?;
+    Some(Row {
+        find,
+        decide,
+        request,
+        idle,
+        one,
+        all,
+    })
+}
+
+fn told(timed: &Timed, calls: u64) -> u64 {
+    if timed.count == calls { timed.nanos } else { 0 }
+}
+
+fn line<R: Clock>(rt: &R, alloc: Global, count: u64) -> Option<String> {
+    let row = row_of(rt, alloc, count, CALLSu64)?;
+    format!(in alloc;
+        "{count} {} {} {} {} {} {}",
+        told(&row.find, CALLSu64),
+        told(&row.decide, CALLSu64),
+        told(&row.request, CALLSu64),
+        told(&row.idle, CALLSu64),
+        told(&row.one, CALLSu64),
+        told(&row.all, CALLSu64)
+    )
+    .ok()
+}
+
+fn main(rt: HostRuntime) -> std::io::Result<()> {
+    for count in [100, 1_000, 10_000, 100_000] {
+        match line(&rt, rt.alloc(), count) {
+            Some(line) => println!(rt; "{line}")?,
+            None => println!(rt; "{count} nothing")?,
+        }
+    }
+    Ok(())
+}
+RT
+sed -i "s/CALLSu64/${calls}u64/g" "$work/crates/quota_bench/src/main.rt"
+(cd "$work/crates/quota_bench" && rt run > "$work/run.txt" 2> "$work/run.err") || { tail -20 "$work/run.txt" "$work/run.err"; exit 1; }
+grep -E '^[0-9]+( [0-9]+){6}$' "$work/run.txt" > "$work/quota.txt" || { cat "$work/run.txt"; exit 1; }
+# A row that counted another number of answers than of calls has 0 there.
+awk -v n="$calls" '
+    NR == 1 { print "buckets        find      decide     request        idle     one due     all due" }
+    {
+        printf "%7d", $1
+        for (i = 2; i <= 7; i++) {
+            if (NR == 1) first[i] = $i
+            printf " %11.1f", $i / n
+        }
+        print ""
+        grown = grown sprintf("%7d", $1)
+        for (i = 2; i <= 7; i++) grown = grown sprintf(" %11.2f", first[i] ? $i / first[i] : 0)
+        grown = grown "\n"
+    }
+    END { print "times those with 100 buckets"; printf "%s", grown }
+' "$work/quota.txt"
