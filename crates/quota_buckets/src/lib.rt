@@ -25,6 +25,10 @@ pub use bucket_history::{AtExpiry, BucketRules, Strategy};
 pub use buckets::Buckets;
 pub use phase::Phase;
 pub use quota_settings::{
-    Attributes, BucketId, BucketSettings, Pair, Part, PartSource, Parts, Settings,
+    Attributes, BucketId, BucketSettings, Pair, Part, PartSource, Parts, Settings, read_settings,
+    read_strategy,
 };
 pub use report::{Report, Reports};
+
+#[cfg(test)]
+mod tests;

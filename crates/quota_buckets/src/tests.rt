@@ -1,0 +1,4 @@
+mod answers;
+mod decisions;
+mod reports;
+mod steps;
