@@ -28,11 +28,6 @@ impl MemSource {
             faults: 0,
         }
     }
-
-    /// The number of calls of `read` so far. It stops at the last value of its type.
-    pub fn calls(&self) -> u64 {
-        self.calls
-    }
 }
 
 impl Source for MemSource {

@@ -29,7 +29,7 @@ fn the_calls_named_fail_and_take_no_byte(rt: HostRuntime) -> Result<(), Fail> {
         let bytes = Vec::from_slice(alloc, b"abcdef")?;
         let mut source = MemSource::new(bytes, Vec::from_slice(alloc, &[failing])?);
         assert_eq!(rt; read_four_times(&mut source), want, "call {failing} fails");
-        assert_eq!(rt; source.calls(), 4);
+        assert_eq!(rt; source.calls, 4);
     }
     Ok(())
 }
