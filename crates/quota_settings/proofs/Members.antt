@@ -1,5 +1,5 @@
 -- The members of an object whose names are data, one after the other.
-use Rattle.std.proofs.Common.{◌≡◌, ℕ, ◌<◌, length, nat_lt, true, arith, subst, List, [], ◌∷◌, ◌++◌, Option, Some, None, option_map, Result, Ok, Err, Ordering, Less, refl, sym, ap, ◌∙◌, map, append_assoc}
+use Rattle.std.proofs.Common.{◌≡◌, ℕ, ◌<◌, length, nat_lt, true, arith, subst, List, [], ◌∷◌, ◌++◌, Option, Some, None, option_map, Result, Ok, Err, Less, refl, sym, ap, ◌∙◌, map, append_assoc}
 use Rattle.std.proofs.lemmas.List.{append-nil}
 use Rattle.std.proofs.lemmas.Bool.Decides.{nat_tests}
 use Rattle.std.specs.Prelude.{String, string_bytes, string_cmp}

@@ -1,5 +1,5 @@
 -- What an object says whose names are data and no fields.
-use Rattle.std.specs.Prelude.{ℕ, List, [], Option, Some, None, option_map}
+use Rattle.std.specs.Prelude.{ℕ, List, [], Option, Some, option_map}
 use Rattle.rate_types.specs.Places.{child}
 use Rattle.serde_json.specs.Data.{Data, Members, no_members, member}
 use Rattle.proto_json.specs.Said.{Said, says, ◌>>=◌}

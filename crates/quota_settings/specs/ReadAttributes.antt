@@ -1,6 +1,6 @@
 -- What an object of texts says: attributes.
 use Rattle.std.specs.Prelude.{ℕ, List, Option}
-use Rattle.serde_json.specs.Data.{Data, Members}
+use Rattle.serde_json.specs.Data.{Data}
 use Rattle.proto_json.specs.Said.{Said}
 use Rattle.proto_json.specs.Fields.{Object}
 use Rattle.proto_json.specs.Kinds as kinds
