@@ -8,7 +8,7 @@ use std::io::{Cursor, Read};
 pub struct MemSource {
     bytes: Cursor<Vec<u8>>,
     has_ended: bool,
-    calls: u64,
+    pub(crate) calls: u64,
     failing: Vec<u64>,
     faults: u64,
 }
