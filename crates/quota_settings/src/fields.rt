@@ -8,7 +8,8 @@ use proto_json::{Fields, FormFault};
 use rate_types::{Millis, Text, Unit};
 use serde_json::Value;
 
-// Each field of settings by its kind. A text of more than 1,024 bytes is refused with 18 TextTooLong.
+// Each field of settings by its kind. A text of more than 1,024 bytes is refused with 18 TextTooLong, but for the name of
+// a rule, which is read whole: a long one is an unknown name.
 
 /// The name of a strategy's blanket rule.
 pub fn take_rule_name(fields: &mut Fields) -> Result<Option<String>, FormFault>
