@@ -154,6 +154,39 @@ fn fill<N: CellNaming, R: Wait + Clock>(
     Some(spent)
 }
 
+fn last_hand<N: CellNaming>(mut hands: Vec<CellPass<N>>) -> Option<CellPass<N>>
+    requires { All (λ h. h.good ≡ []) hands.items }
+    ensures { IfSome result (λ h. h.good ≡ []) }
+{
+    hands.pop()
+}
+
+fn last_pass<N: CellNaming>(
+    mut passes: Vec<DirectoryPass<N>>,
+    directory: &Directory<N>,
+) -> Option<DirectoryPass<N>>
+    requires { All (λ p. list_of p ≡ directory.now.list_id) passes.items }
+    ensures { IfSome result (λ p. list_of p ≡ directory.now.list_id) }
+{
+    let _ = directory;
+    passes.pop()
+}
+
+fn open<N: CellNaming>(
+    alloc: Global,
+    opened: OpenedCells,
+) -> Option<(Cells<N>, Directory<N>, Worker<N>)>
+    requires name { (table_of opened ≡ N.table) × (setup_of opened ≡ N.setup) }
+    ensures pass { IfSome result (λ r. list_of r.2.pass ≡ r.1.list_id) }
+    ensures hand { IfSome result (λ r. r.2.hand.good ≡ []) }
+{
+    let (cells, hands, claimer) = opened.named::<N>(alloc).ok()?;
+    let hand = last_hand(hands)?;
+    let (directory, passes) = Directory::make(alloc, claimer, 4_194_304, 1).ok()?;
+    let pass = last_pass(passes, &directory)?;
+    Some((cells, directory, Worker { pass, hand }))
+}
+
 // The nanoseconds of both fills.
 fn both<N: CellNaming, R: Wait + Clock>(
     rt: &R,
@@ -162,12 +195,8 @@ fn both<N: CellNaming, R: Wait + Clock>(
     batches: u32,
 ) -> Option<(u64, u64)>
     requires name { (table_of opened ≡ N.table) × (setup_of opened ≡ N.setup) }
-    requires batches { batches ≤ 1024 }
 {
-    let (cells, mut hands, claimer) = opened.named::<N>(alloc).ok()?;
-    let (directory, mut passes) = Directory::make(alloc, claimer, 4_194_304, 1).ok()?;
-    let (hand, pass) = (hands.pop()?, passes.pop()?);
-    let mut worker = Worker { pass, hand };
+    let (cells, directory, mut worker) = open::<N>(alloc, opened)?;
     let first = fill(rt, alloc, &cells, &directory, &mut worker, batches)?;
     cells.tick(&mut worker.hand, Seconds::capped(60));
     let second = fill(rt, alloc, &cells, &directory, &mut worker, batches)?;
@@ -215,7 +244,7 @@ invariant-loop-place g l = record {
   hand : l.worker.hand.good ≡ [];
 }
 PF
-sed 's/take_each/fill/; s/loop-place/loop-batch/' "$bench/proofs/take_each/Invariants.antt" > "$bench/proofs/fill/Invariants.antt"
+sed 's/take_each/fill/; s/loop-place/loop-batch/g' "$bench/proofs/take_each/Invariants.antt" > "$bench/proofs/fill/Invariants.antt"
 cat > "$bench/proofs/one_try/Invariants.antt" <<'PF'
 use Rattle.counter_cells.specs.Opened.{table_of, setup_of}
 use Rattle.directory_bench.proofs.one_try.Given as goal
