@@ -1,7 +1,8 @@
 #!/bin/bash
 # Nanoseconds a name that counter_directory takes to bind new names, one a call, to 1,024 up to 1,048,576 cells: at first
-# to cells that were never taken, and, when their windows are over, to the same cells again. Each number is the least of
-# three tries. The last line has the ratio of the largest to the smallest of each column.
+# to cells that were never taken, and, when their windows are over, to the same cells again, each the least of three
+# tries. The third column is of 1,048,576 names in as many windows as that takes, so that as many claims are made whatever
+# the number of cells. The last line has the ratio of the largest to the smallest of each column.
 # Run it at the top of the repository: bench/directory.sh
 # It builds a small program in a folder of its own, which takes some minutes, since only proved code is built.
 set -e
@@ -22,7 +23,8 @@ counter_directory: rate_types window_keys atomic_table told_list counter_cells a
 directory_bench: rate_types told_list counter_cells counter_directory arrayvec
 TXT
 bench="$work/crates/directory_bench"
-mkdir -p "$bench/src" "$bench/proofs/unpin_all" "$bench/proofs/take_each" "$bench/proofs/fill" "$bench/proofs/one_try"
+mkdir -p "$bench/src" "$bench/proofs/unpin_all" "$bench/proofs/take_each" "$bench/proofs/fill" "$bench/proofs/fill_often" \
+    "$bench/proofs/one_try" "$bench/proofs/turns_of"
 cat > "$bench/src/main.rt" <<'RT'
 //! Times the binding of new names to cells.
 #![tactic(auto)]
@@ -203,6 +205,49 @@ fn both<N: CellNaming, R: Wait + Clock>(
     Some((first, second))
 }
 
+// The nanoseconds of binding 1,048,576 names, in one window after the other.
+fn in_turns<N: CellNaming, R: Wait + Clock>(
+    rt: &R,
+    alloc: Global,
+    opened: OpenedCells,
+    batches: u32,
+) -> Option<u64>
+    requires name { (table_of opened ≡ N.table) × (setup_of opened ≡ N.setup) }
+    requires batches { 1 ≤ batches }
+{
+    let (cells, directory, mut worker) = open::<N>(alloc, opened)?;
+    fill_often(rt, alloc, &cells, &directory, &mut worker, batches, 1_024 / batches)
+}
+
+// The nanoseconds of as many fills.
+fn fill_often<N: CellNaming, R: Wait + Clock>(
+    rt: &R,
+    alloc: Global,
+    cells: &Cells<N>,
+    directory: &Directory<N>,
+    worker: &mut Worker<N>,
+    batches: u32,
+    turns: u32,
+) -> Option<u64>
+    requires pass { list_of worker.old.pass ≡ directory.now.list_id }
+    requires hand { worker.old.hand.good ≡ [] }
+{
+    let mut spent = 0u64;
+    for turn in 0..turns {
+        cells.tick(&mut worker.hand, Seconds::capped(60 * u64::from(turn)));
+        let more = fill(rt, alloc, cells, directory, worker, batches)?;
+        spent = spent.wrapping_add(more);
+    }
+    Some(spent)
+}
+
+fn turns_of<R: Wait + Clock>(rt: &R, alloc: Global, batches: u32) -> Option<u64>
+    requires { (1 ≤ batches) × (batches ≤ 1024) }
+{
+    let opened = OpenedCells::make(alloc, batches * 1_024, 1, Seconds::capped(0)).ok()?;
+    in_turns::<Brand, R>(rt, alloc, opened, batches)
+}
+
 fn one_try<R: Wait + Clock>(rt: &R, alloc: Global, batches: u32) -> Option<(u64, u64)>
     requires { (1 ≤ batches) × (batches ≤ 1024) }
 {
@@ -222,7 +267,8 @@ fn least<R: Wait + Clock>(rt: &R, alloc: Global, batches: u32) -> Option<(u64, u
 fn main(rt: HostRuntime) -> std::io::Result<()> {
     for batches in [1u32, 16, 256, 1_024] {
         let (first, second) = least(&rt, rt.alloc(), batches).unwrap_or((0, 0));
-        println!(rt; "{batches} {first} {second}")?;
+        let third = turns_of(&rt, rt.alloc(), batches).unwrap_or(0);
+        println!(rt; "{batches} {first} {second} {third}")?;
     }
     Ok(())
 }
@@ -245,6 +291,7 @@ invariant-loop-place g l = record {
 }
 PF
 sed 's/take_each/fill/; s/loop-place/loop-batch/g' "$bench/proofs/take_each/Invariants.antt" > "$bench/proofs/fill/Invariants.antt"
+sed 's/take_each/fill_often/; s/loop-place/loop-turn/g' "$bench/proofs/take_each/Invariants.antt" > "$bench/proofs/fill_often/Invariants.antt"
 cat > "$bench/proofs/one_try/Invariants.antt" <<'PF'
 use Rattle.counter_cells.specs.Opened.{table_of, setup_of}
 use Rattle.directory_bench.proofs.one_try.Given as goal
@@ -252,15 +299,17 @@ use Rattle.directory_bench.proofs.one_try.Given as goal
 abbrev pub ghosts-both : goal.ghosts-both
 ghosts-both g a = record { table = table_of a.opened; setup = setup_of a.opened }
 PF
+sed 's/one_try/turns_of/; s/ghosts-both/ghosts-in_turns/g' "$bench/proofs/one_try/Invariants.antt" > "$bench/proofs/turns_of/Invariants.antt"
 (cd "$bench" && rt run > "$work/run.txt" 2> "$work/run.err") || { tail -20 "$work/run.txt" "$work/run.err"; exit 1; }
-grep -E '^[0-9]+ [0-9]+ [0-9]+$' "$work/run.txt" | awk '
-BEGIN { print "    cells  new ns/name  again ns/name" }
+grep -E '^[0-9]+ [0-9]+ [0-9]+ [0-9]+$' "$work/run.txt" | awk '
+BEGIN { print "    cells  new ns/name  again ns/name  in turns ns/name" }
 {
-    cells = $1 * 1024; new = $2 / cells; again = $3 / cells
-    printf "%9d %12.1f %14.1f\n", cells, new, again
-    if (NR == 1 || new < least) least = new
-    if (NR == 1 || new > most) most = new
-    if (NR == 1 || again < least_again) least_again = again
-    if (NR == 1 || again > most_again) most_again = again
+    cells = $1 * 1024
+    each[1] = $2 / cells; each[2] = $3 / cells; each[3] = $4 / 1048576
+    printf "%9d %12.1f %14.1f %17.1f\n", cells, each[1], each[2], each[3]
+    for (i = 1; i <= 3; i++) {
+        if (NR == 1 || each[i] < least[i]) least[i] = each[i]
+        if (NR == 1 || each[i] > most[i]) most[i] = each[i]
+    }
 }
-END { printf "    ratio %12.2f %14.2f\n", most / least, most_again / least_again }'
+END { printf "    ratio %12.2f %14.2f %17.2f\n", most[1] / least[1], most[2] / least[2], most[3] / least[3] }'
