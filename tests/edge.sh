@@ -71,6 +71,9 @@ judge unknown-command $? 1 "$none"
 run drive <"$script" >"$out" 2>"$err"
 judge drive-without-file $? 1 "$none"
 
+run drive $'\xff.json' <"$script" >"$out" 2>"$err"
+judge word-not-utf8 $? 1 "$none" 'ratelimit: usage'
+
 run drive -x <"$script" >"$out" 2>"$err"
 judge option-only $? 1 "$none"
 

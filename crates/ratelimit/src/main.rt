@@ -49,14 +49,29 @@ fn status_of(exit: &Exit) -> u8 {
     }
 }
 
-fn main(rt: HostRuntime) -> io::Result<ExitCode> {
-    let alloc = rt.alloc();
-    let words = words_of(&rt, alloc)?;
+// Does the command of the words over the real files, input and output.
+fn run(rt: &HostRuntime, alloc: Global) -> io::Result<Exit> {
+    let words = words_of(rt, alloc)?;
     let mut files = HostFiles::new(rt.clone()?);
     let mut source = ReaderSource::new(rt.stdin());
     let mut sink = WriterSink::new(rt.stdout());
-    let exit = ratelimit(alloc, &words, &mut files, &mut source, &mut sink);
+    Ok(ratelimit(alloc, &words, &mut files, &mut source, &mut sink))
+}
+
+// The exit where the words couldn't be had: there was no memory for them, or one of them isn't UTF-8.
+fn exit_before(error: io::Error) -> Exit {
+    match error.kind() {
+        io::ErrorKind::OutOfMemory => Exit::OutOfMemory,
+        _ => Exit::Usage,
+    }
+}
+
+fn main(rt: HostRuntime) -> ExitCode {
+    let exit = match run(&rt, rt.alloc()) {
+        Ok(exit) => exit,
+        Err(error) => exit_before(error),
+    };
     // The status stands whether or not its text can be written.
     let _written = write_text(&rt, &exit);
-    Ok(ExitCode::from(status_of(&exit)))
+    ExitCode::from(status_of(&exit))
 }
