@@ -1,12 +1,11 @@
 -- From the counters of a call to its names.
-use Rattle.std.proofs.Common.{◌≡◌, ℕ, zero, suc, ◌+◌, ◌≤◌, ◌<◌, ◌==◌, ◌&&◌, List, [], ◌∷◌, ◌++◌, length, map, Bool, true, false, refl, sym, ap, ◌∙◌, subst, arith, eq-eqb, append_assoc}
-use Rattle.std.specs.Prelude.{ltb, nat_lt, Result, Ok, Err, None, Some, if◌then◌else◌}
+use Rattle.std.proofs.Common.{◌≡◌, ℕ, zero, suc, ◌+◌, ◌≤◌, ◌==◌, ◌&&◌, List, [], ◌∷◌, ◌++◌, length, true, false, refl, sym, ap, ◌∙◌, subst, arith, eq-eqb, append_assoc}
+use Rattle.std.specs.Prelude.{ltb, nat_lt, Ok, Err, None, Some, if◌then◌else◌}
 use Rattle.std.specs.List.{AllByRecursion}
 use Rattle.std.proofs.lemmas.Bool.Decides.{nat_tests}
 use Rattle.std.proofs.lemmas.Bool.{le-ltb}
 use Rattle.std.proofs.lemmas.List.{append-nil}
-use mathlib.Core.Option.{some, some-ne-none, some-injective}
-use lib.ListN.{get_elem?}
+use mathlib.Core.Option.{some-ne-none, some-injective}
 use Rattle.rate_types.specs.declared.counter_key.CounterKey.{CounterKey}
 use Rattle.rate_types.specs.declared.counter_name.CounterName.{CounterName}
 use Rattle.window_keys.specs.Window.{window_start}
@@ -14,13 +13,12 @@ use Rattle.counter_cells.specs.Sums.{one_if}
 use Rattle.counter_cells.specs.Steps.{number_of, tick_of, ticked, last_moment}
 use Rattle.counter_cells.specs.declared.view.View.{View}
 use Rattle.counter_cells.specs.declared.view.Tick.{Tick}
-use Rattle.counter_directory.specs.declared.claim.Claim.{Claim}
 use Rattle.counter_directory.specs.declared.acquired.Acquired.{Acquired}
 use Rattle.counter_directory.specs.declared.acquired.AcquireFault.{AcquireFault}
 use Rattle.counter_directory.specs.declared.acquired.AcquireFault.TheVariants.{OutOfMemory, ClaimsSpent, CountersFull}
 use Rattle.counter_directory.specs.Claims.{counts}
-use Rattle.counter_directory.specs.Wants.{key_at, keys_at, named, AreOf, Bound, Agree}
-use Rattle.counter_directory.specs.Acquired.{OffersNothing, HasTicked, PinsAfterMisses, Bounds, Desk, HasBound, AreFull, AreSpent, Binds, HasPinned, Acquires}
+use Rattle.counter_directory.specs.Wants.{keys_at, named, AreOf, Bound, Agree}
+use Rattle.counter_directory.specs.Acquired.{OffersNothing, HasTicked, PinsAfterMisses, Bounds, Desk, HasBound, AreFull, AreSpent, Binds, Acquires}
 use Rattle.counter_directory.proofs.Pinning.{pins_moment}
 
 pub are_of : (m : ℕ) (names : List CounterName) → AreOf m (keys_at m names)

@@ -1,5 +1,5 @@
 -- How many cells stand where.
-use Rattle.std.proofs.Common.{◌≡◌, ◌≢◌, ◌⊎◌, ℕ, zero, suc, ◌+◌, ◌≤◌, ◌<◌, ◌==◌, List, [], ◌∷◌, ◌++◌, length, Bool, true, false, cond, refl, sym, ap, ◌∙◌, subst, arith, inl, inr, ⊎_elim, eq-eqb}
+use Rattle.std.proofs.Common.{◌≡◌, ℕ, zero, suc, ◌+◌, ◌≤◌, ◌<◌, ◌==◌, List, [], ◌∷◌, length, Bool, true, false, refl, sym, ap, ◌∙◌, arith, eq-eqb}
 use Rattle.std.specs.Prelude.{ltb}
 use native.Mathlib.Decide.{ℕ_discrete, dec_le}
 use Rattle.std.proofs.lemmas.Bool.Decides.{nat_tests}
@@ -12,8 +12,7 @@ use Rattle.counter_directory.specs.declared.ring.Ring.{Ring}
 use Rattle.counter_directory.specs.Claims.{last_end}
 use Rattle.counter_cells.specs.declared.answers.Spot.{Spot}
 use Rattle.counter_directory.specs.Filed.{Filed, ring_times, taken_on, live_below}
-use Rattle.counter_directory.specs.Windows.{ExpiredBelow, AreRoomy}
-use Rattle.counter_directory.proofs.Sums.{total_one}
+use Rattle.counter_directory.specs.Windows.{ExpiredBelow}
 use Rattle.counter_directory.proofs.Lists.{at_within}
 use Rattle.counter_directory.proofs.Moves.{one_most}
 

@@ -1,5 +1,5 @@
 -- What pins a hand holds after a call.
-use Rattle.std.proofs.Common.{◌≡◌, ℕ, zero, suc, ◌+◌, ◌≤◌, ◌<◌, ◌==◌, List, [], ◌∷◌, ◌++◌, length, get_or, refl, sym, ap, ◌∙◌, subst, arith}
+use Rattle.std.proofs.Common.{◌≡◌, ℕ, zero, suc, ◌+◌, ◌<◌, ◌==◌, List, [], ◌∷◌, ◌++◌, length, get_or, refl, ap, ◌∙◌, arith}
 use Rattle.std.specs.Prelude.{All, Result, Ok, Err, IfOk, OnErr}
 use mathlib.Core.Option.{some}
 use lib.ListN.{get_elem?}
@@ -10,12 +10,11 @@ use Rattle.counter_cells.specs.Views.{good_on}
 use Rattle.counter_cells.specs.Steps.{good_pin}
 use Rattle.counter_cells.specs.declared.view.View.{View}
 use Rattle.counter_cells.specs.declared.answers.Spot.{Spot}
-use Rattle.counter_directory.specs.declared.claim.Claim.{Claim}
 use Rattle.counter_directory.specs.declared.acquired.Acquired.{Acquired}
 use Rattle.counter_directory.specs.declared.acquired.AcquireFault.{AcquireFault}
 use Rattle.counter_directory.specs.declared.acquired.AcquireFault.TheVariants.{OutOfMemory, ClaimsSpent, CountersFull}
 use Rattle.counter_directory.specs.Claims.{IsLawfulClaims}
-use Rattle.counter_directory.specs.Wants.{keys_at, Bound, pinned_on, spots_on}
+use Rattle.counter_directory.specs.Wants.{keys_at, pinned_on, spots_on}
 use Rattle.counter_directory.specs.Acquired.{Bounds, Desk, HasTicked, Acquires}
 use Rattle.counter_directory.proofs.Lists.{at_read}
 use Rattle.counter_directory.proofs.Pinning.{cell_bound}

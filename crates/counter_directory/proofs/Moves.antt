@@ -1,6 +1,6 @@
 -- What moves from one place to another keeps the filing.
 use Rattle.std.proofs.Common.{◌≡◌, ◌≢◌, ◌⊎◌, ℕ, zero, suc, ◌+◌, ◌≤◌, ◌<◌, ◌==◌, List, [], ◌∷◌, ◌++◌, length, take, set, Bool, true, false, cond, refl, sym, ap, ◌∙◌, subst, arith}
-use Rattle.std.specs.Prelude.{ltb, ◌-◌, vec_len, vec_capacity}
+use Rattle.std.specs.Prelude.{ltb, vec_capacity}
 use native.Mathlib.Decide.{ℕ_discrete}
 use Rattle.std.proofs.Common.{inl, inr, ⊎_elim, eq-eqb}
 use Rattle.std.proofs.lemmas.Bool.{ne_eqb}
@@ -10,13 +10,13 @@ use Rattle.counter_directory.proofs.Lists.{at_set, empty}
 use Rattle.std.proofs.lemmas.Bool.Decides.{nat_tests}
 use mathlib.Core.Option.{some}
 use lib.ListN.{get_elem?}
-use Rattle.counter_cells.specs.Sums.{total, one_if, times}
+use Rattle.counter_cells.specs.Sums.{one_if, times}
 use Rattle.counter_directory.specs.declared.claim.Claim.{Claim}
 use Rattle.counter_directory.specs.declared.ring.Ring.{Ring}
-use Rattle.counter_directory.specs.Claims.{counts, Fits, IsLawfulClaims, numbers, last_end, last_of, end_of}
+use Rattle.counter_directory.specs.Claims.{counts, Fits, IsLawfulClaims, last_end, end_of}
 use Rattle.counter_cells.specs.declared.answers.Spot.{Spot}
-use Rattle.counter_directory.specs.Filed.{Filed, ring_times, spot, taken_on, taken_as}
-use Rattle.counter_directory.specs.Windows.{ExpiredBelow, FitsRing, KeepsFits, AreRoomy}
+use Rattle.counter_directory.specs.Filed.{Filed, ring_times, spot, taken_on}
+use Rattle.counter_directory.specs.Windows.{ExpiredBelow, KeepsFits, AreRoomy}
 use Rattle.counter_directory.proofs.Sums.{total_append, total_push, total_set, total_one, last_end_push, last_of_push}
 
 pub one_most : (b : Bool) → one_if b ≤ 1

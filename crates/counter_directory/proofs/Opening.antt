@@ -1,11 +1,11 @@
 -- The claimer's cells, step by step.
-use Rattle.std.proofs.Common.{◌≡◌, ◌≢◌, ◌⊎◌, ℕ, zero, suc, ◌+◌, ◌-◌, ◌≤◌, ◌<◌, ◌==◌, ◌&&◌, List, [], ◌∷◌, ◌++◌, length, take, set, get_or, Bool, true, false, cond, refl, sym, ap, ◌∙◌, subst, arith, inl, inr, ⊎_elim, eq-eqb, length-set, get_or-set_other, get_or-set_same, append_assoc, length-append}
+use Rattle.std.proofs.Common.{◌≡◌, ◌≢◌, ◌⊎◌, ℕ, zero, suc, ◌+◌, ◌-◌, ◌≤◌, ◌<◌, ◌==◌, List, [], ◌∷◌, ◌++◌, length, take, set, get_or, true, false, refl, sym, ap, ◌∙◌, subst, arith, inl, inr, eq-eqb, length-set, get_or-set_other, get_or-set_same, append_assoc, length-append}
 use Rattle.std.specs.Prelude.{ltb, Result, Ok, Err, IsOk, is_ok, OnOk}
 use native.Mathlib.Decide.{ℕ_discrete}
 use Rattle.std.proofs.lemmas.Bool.Decides.{nat_tests}
 use Rattle.std.proofs.lemmas.Bool.{ne_eqb, le-ltb}
 use Rattle.counter_directory.proofs.Sums.{cond_yes, cond_no}
-use mathlib.Core.Option.{some, some-ne-none, some-injective}
+use mathlib.Core.Option.{some, some-ne-none}
 use lib.ListN.{get_elem?}
 use Rattle.counter_directory.proofs.Lists.{at_snoc, at_last, at_longer, at_read, last_over}
 use Rattle.counter_cells.specs.Sums.{total, one_if, times}

@@ -7,17 +7,15 @@ use mathlib.Core.Option.{some}
 use lib.ListN.{get_elem?}
 use Rattle.rate_types.specs.declared.counter_key.CounterKey.{CounterKey}
 use Rattle.rate_types.specs.Counters.{same_counter}
-use Rattle.rate_types.specs.Units.{unit_rank, seconds_of}
-use Rattle.window_keys.specs.Window.{window_start}
 use Rattle.window_keys.specs.Counter.{window_end_of}
-use Rattle.counter_cells.specs.Sums.{total, one_if}
+use Rattle.counter_cells.specs.Sums.{one_if}
 use Rattle.counter_cells.specs.Views.{cell_or}
 use Rattle.counter_cells.specs.Steps.{good_pin, missed}
 use Rattle.counter_cells.specs.declared.view.View.{View}
 use Rattle.counter_cells.specs.declared.view.OtherGate.{OtherGate}
 use Rattle.counter_cells.specs.declared.answers.Spot.{Spot}
 use Rattle.counter_directory.specs.declared.claim.Claim.{Claim}
-use Rattle.counter_directory.specs.Claims.{binds, end_of, IsLawfulClaims}
+use Rattle.counter_directory.specs.Claims.{binds, IsLawfulClaims}
 use Rattle.counter_directory.specs.Gates.{Gates}
 use Rattle.counter_directory.specs.Wants.{AreOf, Bound, AreShown, Agree, pinned_on}
 use Rattle.counter_directory.specs.Acquired.{PinsAfterMisses}

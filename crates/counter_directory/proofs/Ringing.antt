@@ -1,5 +1,5 @@
 -- Windows of rings.
-use Rattle.std.proofs.Common.{◌≡◌, ◌≢◌, ◌⊎◌, ℕ, zero, suc, ◌+◌, ◌-◌, ◌*◌, ◌%◌, ◌/◌, ◌≤◌, ◌<◌, List, [], ◌∷◌, ◌++◌, length, set, refl, sym, ap, ◌∙◌, subst, arith, inl, inr}
+use Rattle.std.proofs.Common.{◌≡◌, ◌≢◌, ◌⊎◌, ℕ, zero, suc, ◌+◌, ◌-◌, ◌%◌, ◌≤◌, ◌<◌, List, [], set, refl, sym, ap, ◌∙◌, subst, arith, inl, inr}
 use mathlib.Core.Option.{some}
 use lib.ListN.{get_elem?}
 use native.Mathlib.Decide.{dec_le}
@@ -11,7 +11,7 @@ use Rattle.rate_types.specs.declared.counter_key.CounterKey.{CounterKey}
 use Rattle.rate_types.specs.Units.{unit_rank, seconds_of}
 use Rattle.window_keys.specs.Window.{window_start}
 use Rattle.window_keys.specs.Counter.{window_end_of}
-use Rattle.counter_directory.specs.Windows.{len_of, start_at, end_at, RingWindows, RingsFit, FitsRing, ExpiredBelow, KeepsFits}
+use Rattle.counter_directory.specs.Windows.{len_of, start_at, end_at, RingWindows, RingsFit, ExpiredBelow, KeepsFits}
 
 -- the one multiple of the unit that is behind the moment and at most a unit away
 pub end_is : (u e t : ℕ) → e % len_of u ≡ 0 → e ≤ t + len_of u → t < e → e ≡ end_at u t

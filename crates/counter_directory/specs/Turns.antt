@@ -1,5 +1,5 @@
 -- What contracts see of a directory, and of one turn at its lock.
-use Rattle.std.specs.Prelude.{◌≡◌, ℕ, ◌≤◌, List, Result}
+use Rattle.std.specs.Prelude.{ℕ, ◌≤◌, List, Result}
 use Rattle.rate_types.specs.declared.counter_name.CounterName.{CounterName}
 use Rattle.atomic_table.specs.Seated.{TableId}
 use Rattle.counter_cells.specs.declared.view.View as cell_view

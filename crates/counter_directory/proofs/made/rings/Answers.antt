@@ -1,4 +1,4 @@
-use Rattle.std.proofs.Common.{◌≡◌, ◌+◌, ◌≤◌, ◌<◌, refl, arith}
+use Rattle.std.proofs.Common.{refl, arith}
 use Rattle.counter_directory.proofs.Starting.{empty_more, roomy_more}
 use Rattle.counter_directory.proofs.made.rings.Goals as goal
 

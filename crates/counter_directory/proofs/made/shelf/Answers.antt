@@ -1,4 +1,4 @@
-use Rattle.std.proofs.Common.{◌≡◌, ◌+◌, ◌≤◌, arith}
+use Rattle.std.proofs.Common.{arith}
 use Rattle.std.proofs.lemmas.Grind.{common_steps}
 use Rattle.counter_directory.proofs.Starting.{filed_start, lawful_start, windows_start}
 use Rattle.counter_directory.proofs.made.shelf.Goals as goal

@@ -1,4 +1,4 @@
-use Rattle.std.proofs.Common.{◌≡◌, refl, subst}
+use Rattle.std.proofs.Common.{refl, subst}
 use Rattle.counter_directory.specs.Claims.{IsLawfulClaims}
 use Rattle.counter_directory.proofs.acquire.AcquireActBook.act.Goals as goal
 

@@ -1,4 +1,4 @@
-use Rattle.std.proofs.Common.{◌≡◌, ◌+◌, ◌≤◌, List, length, sym, ap, ◌∙◌, subst, refl, arith}
+use Rattle.std.proofs.Common.{List, length, sym, ap, ◌∙◌, subst, refl, arith}
 use Rattle.rate_types.specs.declared.counter_key.CounterKey.{CounterKey}
 use Rattle.counter_directory.specs.Wants.{AreOf}
 use Rattle.counter_directory.specs.Acquired.{Bounds, Desk, HasBound}

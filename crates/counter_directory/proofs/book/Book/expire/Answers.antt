@@ -1,4 +1,4 @@
-use Rattle.std.proofs.Common.{◌≡◌, ap, ◌∙◌}
+use Rattle.std.proofs.Common.{ap, ◌∙◌}
 use Rattle.counter_directory.proofs.Opening.{gates_to, gates_later}
 use Rattle.counter_directory.proofs.Indexing.{indexed_to}
 use Rattle.counter_directory.proofs.book.Book.expire.Goals as goal

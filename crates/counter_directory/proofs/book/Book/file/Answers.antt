@@ -1,5 +1,5 @@
-use Rattle.std.proofs.Common.{◌≡◌, ◌+◌, ◌≤◌, ◌<◌, refl, ap, ◌∙◌, arith}
-use Rattle.std.specs.Prelude.{vec_len, Some}
+use Rattle.std.proofs.Common.{refl, ap, ◌∙◌, arith}
+use Rattle.std.specs.Prelude.{Some}
 use Rattle.std.proofs.Common.{cond}
 use Rattle.std.specs.HashMap.{get}
 use Rattle.rate_types.specs.Counters.{same_counter}

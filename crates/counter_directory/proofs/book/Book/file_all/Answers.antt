@@ -1,10 +1,10 @@
-use Rattle.std.proofs.Common.{◌≡◌, ◌+◌, ◌≤◌, ◌<◌, [], ◌∷◌, ◌++◌, List, length, sym, ap, ◌∙◌, subst, arith, append_assoc}
+use Rattle.std.proofs.Common.{◌≡◌, ◌+◌, [], ◌∷◌, ◌++◌, List, length, sym, ap, ◌∙◌, subst, arith, append_assoc}
 use Rattle.rate_types.specs.declared.counter_key.CounterKey.{CounterKey}
 use Rattle.rate_types.specs.Units.{unit_rank}
 use Rattle.window_keys.specs.Window.{window_start}
 use Rattle.counter_directory.specs.Windows.{FitsRing, KeepsFits}
 use Rattle.counter_directory.proofs.Ringing.{fit_kept, end_rank, rank_few}
-use Rattle.counter_directory.proofs.Wanting.{of_mid, fresh_counter, adds_more, grows_more, grows_none}
+use Rattle.counter_directory.proofs.Wanting.{of_mid, fresh_counter, adds_more, grows_more}
 use Rattle.counter_directory.proofs.book.Book.file_all.Goals as goal
 
 pub file-requires-clause-counter : goal.file-requires-clause-counter

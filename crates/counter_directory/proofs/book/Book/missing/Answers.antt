@@ -1,4 +1,4 @@
-use Rattle.std.proofs.Common.{◌≡◌, ◌+◌, ◌≤◌, ◌<◌, [], ◌∷◌, sym, ◌∙◌, subst, arith}
+use Rattle.std.proofs.Common.{[], ◌∷◌, sym, ◌∙◌, subst, arith}
 use Rattle.rate_types.specs.declared.counter_key.CounterKey.{CounterKey}
 use Rattle.counter_directory.specs.Wants.{AreOf, NotedIn}
 use Rattle.counter_directory.proofs.Wanting.{missing_more, of_one}

@@ -1,6 +1,5 @@
-use Rattle.std.proofs.Common.{◌≡◌, ◌∙◌, ◌++◌, ◌∷◌, [], sym, ap}
+use Rattle.std.proofs.Common.{◌∙◌, ◌++◌, ◌∷◌, [], sym, ap}
 use Rattle.std.specs.Prelude.{ltb}
-use Rattle.rate_types.specs.declared.counter_key.CounterKey.{CounterKey}
 use Rattle.counter_directory.specs.Wants.{named}
 use Rattle.counter_directory.proofs.Wanting.{noted_not, noted_there, noted_new, of_more}
 use Rattle.counter_directory.proofs.book.Book.note.Goals as goal

@@ -1,11 +1,11 @@
-use Rattle.std.proofs.Common.{◌≡◌, ◌+◌, ◌≤◌, ◌<◌, length, get_or, sym, ap, subst, arith}
+use Rattle.std.proofs.Common.{◌≡◌, ◌≤◌, ◌<◌, length, get_or, sym, ap, subst, arith}
 use Rattle.rate_types.specs.declared.counter_key.CounterKey.{CounterKey}
 use Rattle.window_keys.specs.Counter.{window_end_of}
 use Rattle.counter_cells.specs.Views.{cell_or}
 use Rattle.counter_directory.specs.Claims.{binds}
 use Rattle.counter_directory.proofs.Keys.{same_yes}
 use Rattle.counter_directory.proofs.Wanting.{named_at}
-use Rattle.counter_directory.proofs.Pinning.{no_misses, pins_more, pins_good, bound_more, shown_more}
+use Rattle.counter_directory.proofs.Pinning.{pins_more, pins_good, bound_more, shown_more}
 use Rattle.counter_directory.proofs.book.Book.pin_all.Goals as goal
 
 pub pin_one-spot-requires-clause-hand : goal.pin_one-spot-requires-clause-hand

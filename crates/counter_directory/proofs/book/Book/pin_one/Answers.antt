@@ -1,5 +1,5 @@
-use Rattle.std.proofs.Common.{◌≡◌, ◌+◌, ◌≤◌, ◌<◌, [], sym, arith}
-use Rattle.counter_directory.proofs.Pinning.{cell_bound, shown_by, no_misses, miss_more, pin_after, pins_good}
+use Rattle.std.proofs.Common.{[], sym, arith}
+use Rattle.counter_directory.proofs.Pinning.{cell_bound, shown_by, no_misses, pins_good}
 use Rattle.counter_directory.proofs.book.Book.pin_one.Goals as goal
 
 pub loop-round-init : goal.loop-round-init

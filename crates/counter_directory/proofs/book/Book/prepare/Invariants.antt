@@ -1,4 +1,4 @@
-use Rattle.std.proofs.Common.{◌≡◌, ◌+◌, ◌≤◌, []}
+use Rattle.std.proofs.Common.{◌≡◌, ◌≤◌, []}
 use Rattle.std.specs.Prelude.{max, vec_len}
 use Rattle.counter_directory.specs.Gates.{HeldSince}
 use Rattle.counter_directory.proofs.book.Book.prepare.Given as goal

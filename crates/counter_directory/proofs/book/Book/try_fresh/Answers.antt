@@ -1,4 +1,4 @@
-use Rattle.std.proofs.Common.{◌≡◌, ◌<◌, ap, ◌∙◌}
+use Rattle.std.proofs.Common.{ap, ◌∙◌}
 use Rattle.counter_directory.proofs.Opening.{fresh_cell, gates_to, gates_claimed, gates_held, held_since_taken}
 use Rattle.counter_directory.proofs.Indexing.{indexed_to}
 use Rattle.counter_directory.proofs.book.Book.try_fresh.Goals as goal

@@ -1,6 +1,6 @@
 use Rattle.std.proofs.Common.{◌≡◌, ◌-◌, ◌*◌, ap, ◌∙◌, rules}
 use Rattle.counter_directory.specs.Turns.{Office}
-use Rattle.counter_directory.specs.Acquired.{Bounds, Desk}
+use Rattle.counter_directory.specs.Acquired.{Bounds}
 use Rattle.counter_directory.proofs.Holding.{pins_held, none_held, cells_held}
 use Rattle.counter_directory.proofs.Turning.{turns}
 use Rattle.counter_directory.proofs.directory.Directory.acquire.Goals as goal

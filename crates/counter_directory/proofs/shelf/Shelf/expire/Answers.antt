@@ -1,4 +1,4 @@
-use Rattle.std.proofs.Common.{◌≡◌, ◌+◌, ◌≤◌, arith}
+use Rattle.std.proofs.Common.{arith}
 use Rattle.std.specs.Prelude.{is_ok}
 use Rattle.counter_directory.proofs.Moves.{joins_held, later}
 use Rattle.counter_directory.proofs.Ringing.{windows_later}

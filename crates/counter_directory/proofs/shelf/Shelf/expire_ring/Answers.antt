@@ -1,4 +1,4 @@
-use Rattle.std.proofs.Common.{◌≡◌, ◌+◌, ◌≤◌, ◌<◌, refl, arith}
+use Rattle.std.proofs.Common.{◌≡◌, refl, arith}
 use Rattle.std.specs.Prelude.{is_ok}
 use mathlib.Core.Option.{some}
 use lib.ListN.{get_elem?}

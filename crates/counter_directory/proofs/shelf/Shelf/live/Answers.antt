@@ -1,4 +1,4 @@
-use Rattle.std.proofs.Common.{◌≡◌, ◌+◌, ◌≤◌, ◌<◌, ◌^◌, arith, rules}
+use Rattle.std.proofs.Common.{◌≡◌, ◌+◌, ◌<◌, ◌^◌, arith, rules}
 use Rattle.std.specs.Prelude.{vec_len}
 use Rattle.counter_directory.specs.declared.shelf.Shelf.{Shelf}
 use Rattle.counter_directory.specs.Filed.{live_below}

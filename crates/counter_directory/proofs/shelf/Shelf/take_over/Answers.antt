@@ -1,4 +1,4 @@
-use Rattle.std.proofs.Common.{◌≡◌, ◌+◌, ◌≤◌, arith}
+use Rattle.std.proofs.Common.{arith}
 use Rattle.std.proofs.lemmas.Grind.{common_steps}
 use Rattle.counter_directory.proofs.Moves.{takes_over}
 use Rattle.counter_directory.proofs.shelf.Shelf.take_over.Goals as goal
