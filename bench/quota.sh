@@ -233,60 +233,148 @@ fn reporting<R: Clock>(
     Some(sum)
 }
 
-/// What is timed with one number of buckets.
+/// So many buckets, how often each is called, the milliseconds between the moments at which they are made, and the last
+/// of these moments.
 #[derive(Clone, Copy)]
-struct Row {
+struct Plan {
+    count: u64,
+    rounds: u64,
+    step: u64,
+    last: u64,
+}
+
+fn plan_of(count: u64) -> Option<Plan> {
+    let rounds = CALLSu64.checked_div(count)?;
+    let step = 100_000u64.checked_div(count)?;
+    let last = count.checked_sub(1)?.checked_mul(step)?;
+    Some(Plan {
+        count,
+        rounds,
+        step,
+        last,
+    })
+}
+
+/// What is timed of decisions.
+#[derive(Clone, Copy)]
+struct Decisions {
     find: Timed,
     decide: Timed,
     request: Timed,
+}
+
+fn time_decisions<R: Clock>(
+    rt: &R,
+    buckets: &mut Buckets,
+    requests: &[Attributes],
+    ids: &[BucketId],
+    rounds: u64,
+) -> Option<Decisions> {
+    let find = finding(rt, buckets, requests, rounds)?;
+    let decide = deciding(rt, buckets, ids, rounds)?;
+    let request = requesting(rt, buckets, requests, rounds)?;
+    Some(Decisions {
+        find,
+        decide,
+        request,
+    })
+}
+
+/// What is timed of advances.
+#[derive(Clone, Copy)]
+struct Advances {
     idle: Timed,
     one: Timed,
     all: Timed,
 }
 
-fn row_of<R: Clock>(rt: &R, alloc: Global, count: u64, calls: u64) -> Option<Row> {
-    let rounds = calls.checked_div(count)?;
-    let step = 100_000u64.checked_div(count)?;
-    let requests = requests_of(alloc, count)?;
-    let ids = ids_of(alloc, &requests)?;
-    let mut buckets = made(alloc, count, step)?;
-    let last = count.checked_sub(1)?.checked_mul(step)?;
-    let find = finding(rt, &buckets, &requests, rounds)?;
-    let decide = deciding(rt, &mut buckets, &ids, rounds)?;
-    let request = requesting(rt, &mut buckets, &requests, rounds)?;
-    let idle = idling(rt, &mut buckets, last, calls)?;
-    let one = reporting(rt, &mut buckets, &ids, 100_000, step, count, rounds)?;
-    let from = rounds
+// The moment at which each bucket reports once, after all rounds of single reports.
+fn moment_of_all(plan: &Plan) -> Option<u64> {
+    plan.rounds
         .checked_add(1)?
         .checked_mul(100_000)?
-        .checked_add(last)?;
-    let all = reporting(rt, &mut buckets, &ids, from, 0, 1, rounds)?;
+        .checked_add(plan.last)
+}
+
+fn time_advances<R: Clock>(
+    rt: &R,
+    buckets: &mut Buckets,
+    ids: &[BucketId],
+    plan: &Plan,
+) -> Option<Advances> {
+    let idle = idling(rt, buckets, plan.last, CALLSu64)?;
+    let one = reporting(
+        rt,
+        buckets,
+        ids,
+        100_000,
+        plan.step,
+        plan.count,
+        plan.rounds,
+    )?;
+    let from = moment_of_all(plan)?;
+    let all = reporting(rt, buckets, ids, from, 0, 1, plan.rounds)?;
+    Some(Advances { idle, one, all })
+}
+
+/// What is timed with one number of buckets.
+#[derive(Clone, Copy)]
+struct Row {
+    decisions: Decisions,
+    advances: Advances,
+}
+
+fn row_with<R: Clock>(
+    rt: &R,
+    buckets: &mut Buckets,
+    requests: &[Attributes],
+    ids: &[BucketId],
+    plan: &Plan,
+) -> Option<Row> {
+    let decisions = time_decisions(rt, buckets, requests, ids, plan.rounds)?;
+    let advances = time_advances(rt, buckets, ids, plan)?;
     Some(Row {
-        find,
-        decide,
-        request,
-        idle,
-        one,
-        all,
+        decisions,
+        advances,
     })
 }
 
-fn told(timed: &Timed, calls: u64) -> u64 {
-    if timed.count == calls { timed.nanos } else { 0 }
+fn row_of<R: Clock>(rt: &R, alloc: Global, plan: &Plan, requests: &[Attributes]) -> Option<Row> {
+    let ids = ids_of(alloc, requests)?;
+    let mut buckets = made(alloc, plan.count, plan.step)?;
+    row_with(rt, &mut buckets, requests, &ids, plan)
+}
+
+// A number for each call, or 0 where another number of answers was counted than of calls.
+fn told(timed: &Timed) -> u64 {
+    if timed.count == CALLSu64 {
+        timed.nanos
+    } else {
+        0
+    }
+}
+
+fn line_of(alloc: Global, count: u64, row: &Row) -> Option<String> {
+    let decisions = row.decisions;
+    let advances = row.advances;
+    format!(in alloc;
+        "{} {} {} {} {} {} {}",
+        count,
+        told(&decisions.find),
+        told(&decisions.decide),
+        told(&decisions.request),
+        told(&advances.idle),
+        told(&advances.one),
+        told(&advances.all)
+    )
+    .ok()
 }
 
 fn line<R: Clock>(rt: &R, alloc: Global, count: u64) -> Option<String> {
-    let row = row_of(rt, alloc, count, CALLSu64)?;
-    format!(in alloc;
-        "{count} {} {} {} {} {} {}",
-        told(&row.find, CALLSu64),
-        told(&row.decide, CALLSu64),
-        told(&row.request, CALLSu64),
-        told(&row.idle, CALLSu64),
-        told(&row.one, CALLSu64),
-        told(&row.all, CALLSu64)
-    )
-    .ok()
+    let plan = plan_of(count)?;
+    let requests = requests_of(alloc, count)?;
+    let row = row_of(rt, alloc, &plan, &requests)?;
+    line_of(alloc, count, &row)
 }
 
 fn main(rt: HostRuntime) -> std::io::Result<()> {
@@ -300,7 +388,7 @@ fn main(rt: HostRuntime) -> std::io::Result<()> {
 }
 RT
 sed -i "s/CALLSu64/${calls}u64/g" "$work/crates/quota_bench/src/main.rt"
-(cd "$work/crates/quota_bench" && rt run > "$work/run.txt" 2> "$work/run.err") || { tail -20 "$work/run.txt" "$work/run.err"; exit 1; }
+(cd "$work/crates/quota_bench" && rt run > "$work/run.txt" 2> "$work/run.err") || { tail -n 20 "$work/run.txt"; tail -n 20 "$work/run.err"; exit 1; }
 grep -E '^[0-9]+( [0-9]+){6}$' "$work/run.txt" > "$work/quota.txt" || { cat "$work/run.txt"; exit 1; }
 # A row that counted another number of answers than of calls has 0 there.
 awk -v n="$calls" '
