@@ -177,7 +177,7 @@ int main(int argc, char **argv) {
 C
 clang -O2 -pthread -o "$work/bare" "$work/bare.c"
 "$work/bare" "$rounds" > "$work/bare.txt"
-(cd "$work/crates/cells_bench" && rt run > "$work/run.txt" 2> "$work/run.err") || { tail -20 "$work/run.txt" "$work/run.err"; exit 1; }
+(cd "$work/crates/cells_bench" && rt run > "$work/run.txt" 2> "$work/run.err") || { tail -n 20 "$work/run.txt" "$work/run.err"; exit 1; }
 grep -E '^[0-9]+ [0-9]+ [0-9]+$' "$work/run.txt" > "$work/cells.txt"
 echo "threads cells  ns/round  bare ns/round  ratio"
 paste -d ' ' "$work/cells.txt" "$work/bare.txt" | awk -v n="$rounds" '{ printf "%7d %5d %9.1f %14.1f %6.2f\n", $1, $2, $3 / n, $6 / n, $3 / $6 }'

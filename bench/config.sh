@@ -90,6 +90,6 @@ fn main(rt: HostRuntime) -> anyhow::Result<()> {
 RT
 sed -i 's/^config_bench:.*/& anyhow/' "$work/crates.txt"
 cd "$work/crates/config_bench"
-rt run > "$work/out" 2> "$work/log" || { tail -20 "$work/log"; exit 1; }
+rt run > "$work/out" 2> "$work/log" || { tail -n 20 "$work/log"; exit 1; }
 printf '%8s %12s %12s %8s %14s\n' nodes parse_us read_us ratio read_ns_a_node
 awk 'NF == 3 { printf "%8d %12d %12d %8.2f %14.1f\n", $1, $2, $3, $3 / $2, 1000 * $3 / $1 }' "$work/out"

@@ -300,7 +300,7 @@ abbrev pub ghosts-both : goal.ghosts-both
 ghosts-both g a = record { table = table_of a.opened; setup = setup_of a.opened }
 PF
 sed 's/one_try/turns_of/; s/ghosts-both/ghosts-in_turns/g' "$bench/proofs/one_try/Invariants.antt" > "$bench/proofs/turns_of/Invariants.antt"
-(cd "$bench" && rt run > "$work/run.txt" 2> "$work/run.err") || { tail -20 "$work/run.txt" "$work/run.err"; exit 1; }
+(cd "$bench" && rt run > "$work/run.txt" 2> "$work/run.err") || { tail -n 20 "$work/run.txt" "$work/run.err"; exit 1; }
 grep -E '^[0-9]+ [0-9]+ [0-9]+ [0-9]+$' "$work/run.txt" | awk '
 BEGIN { print "    cells  new ns/name  again ns/name  in turns ns/name" }
 {
