@@ -1,5 +1,5 @@
 -- What counting on one counter leaves of a map of sums.
-use Rattle.std.proofs.Common.{◌≡◌, ℕ, ◌+◌, ◌<◌, ◌≤◌, ◌||◌, Bool, true, false, cond, [], ◌∷◌, Some, is_some, unwrap_or, if◌then◌else◌, refl, sym, ap, ◌∙◌, arith}
+use Rattle.std.proofs.Common.{◌≡◌, ℕ, ◌+◌, ◌<◌, ◌≤◌, ◌||◌, Bool, true, false, cond, [], ◌∷◌, Option, Some, None, true≢false, is_some, unwrap_or, if◌then◌else◌, refl, sym, ap, ◌∙◌, arith}
 use Rattle.std.specs.BTreeMap.{is_at, insert_entry}
 use Rattle.std.specs.Map.{lookup}
 use Rattle.rate_types.specs.Counters.{key_cmp, same_counter}
@@ -29,6 +29,14 @@ sum_put key c added old new puts = ap (λ o. unwrap_or o 0) (puts c) ∙ by (sam
     by : (b : Bool) → same_counter key c ≡ b → unwrap_or (cond b (Some (sum_on old key + added)) (lookup (is_at (key_cmp c)) old)) 0 ≡ sum_on old c + (0 + cond b added 0)
     by true is = let one : sum_on old key ≡ sum_on old c = ap (λ o. unwrap_or o 0) (lookup_same old c key (same_either c key ∙ is)) in omega (arith, one)
     by false is = omega arith
+
+-- a counter without a sum has the sum 0
+pub sum_absent : (sums : Sums) (key : CounterKey) → has_sum sums key ≡ false → sum_on sums key ≡ 0
+sum_absent sums key = by (lookup (is_at (key_cmp key)) sums)
+  where
+    by : (o : Option ℕ) → is_some o ≡ false → unwrap_or o 0 ≡ 0
+    by None absent = refl
+    by (Some n) absent = absurd (true≢false absent)
 
 pub counts : (key : CounterKey) (added : ℕ) (old : PlainState) (new : Sums) → Puts key (sum_on old.sums key + added) old.sums new
     → CountsEach (key ∷ []) added old (record { config = old.config; cells = old.cells; moment = old.moment; sums = new })

@@ -2,7 +2,7 @@
 use Rattle.std.proofs.Common.{◌≡◌, ℕ, ◌<◌, ◌≤◌, ◌&&◌, min, Bool, true, false, cond, [], ◌∷◌, filter, length, Ordering, Less, Equal, Greater, is_eq, is_some, unwrap_or, nat_lt, Option, Some, None, refl, ap, ◌∙◌, arith}
 use Rattle.std.proofs.lemmas.Bool.Decides.{nat_tests}
 use Rattle.std.specs.List.{AllByRecursion}
-use Rattle.std.specs.Map.{lookup}
+use Rattle.std.specs.Map.{lookup, set_value}
 use Rattle.std.specs.BTreeMap.{is_at, insert_entry}
 use Rattle.std.specs.Ordering.{match_ordering}
 use Rattle.rate_types.specs.Counters.{key_cmp, same_counter}
@@ -93,6 +93,15 @@ by_order P Greater a b c p q r = r
 pub all_insert : (P : CounterKey × ℕ → Type 0) (sums : Sums) (k : CounterKey) (v : ℕ) → ((c : CounterKey) (n : ℕ) → P (c, n) → (m : ℕ) → P (c, m)) → P (k, v) → AllByRecursion P sums → AllByRecursion P (insert_entry key_cmp sums k v)
 all_insert P [] k v keyed is h = (is, h)
 all_insert P (e ∷ sums) k v keyed is h = by_order P (key_cmp k e.0) _ _ _ (is, h) (keyed e.0 e.1 h.0 v, h.1) (h.0, all_insert P sums k v keyed is h.1)
+
+by_test : (P : CounterKey × ℕ → Type 0) (b : Bool) (one other : Sums) → AllByRecursion P one → AllByRecursion P other → AllByRecursion P (cond b one other)
+by_test P true one other p q = p
+by_test P false one other p q = q
+
+-- a new sum of a counter that has one leaves every window
+pub all_set : (P : CounterKey × ℕ → Type 0) (test : CounterKey → Bool) (sums : Sums) (v : ℕ) → ((c : CounterKey) (n : ℕ) → P (c, n) → (m : ℕ) → P (c, m)) → AllByRecursion P sums → AllByRecursion P (set_value test sums v)
+all_set P test [] v keyed h = tt
+all_set P test (e ∷ sums) v keyed h = by_test P (test e.0) _ _ (keyed e.0 e.1 h.0 v, h.1) (h.0, all_set P test sums v keyed h.1)
 
 pub lower_all : (less more : ℕ) (sums : Sums) → less ≤ more → AllByRecursion (λ e. more ≤ window_end_of e.0) sums → AllByRecursion (λ e. less ≤ window_end_of e.0) sums
 lower_all less more [] h all = tt

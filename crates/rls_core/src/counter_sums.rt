@@ -1,4 +1,4 @@
-ghost use Rattle.std.specs.Prelude.{◌≡◌, ◌≤◌, ◌+◌, [], nat_lt, filter, length, if◌then◌else◌, Some, IfOk, OnOk, OnErr};
+ghost use Rattle.std.specs.Prelude.{◌≡◌, ◌≤◌, ◌+◌, ℕ, true, false, [], nat_lt, filter, length, if◌then◌else◌, Some, IfOk, IfSome, IfNone, OnOk, OnErr};
 ghost use Rattle.std.specs.BTreeMap.{is_at, insert_entry};
 ghost use Rattle.std.specs.List.{AllByRecursion};
 ghost use Rattle.std.specs.List.Sorted.{IsStrictlySortedBy};
@@ -6,9 +6,12 @@ ghost use Rattle.std.specs.Map.{lookup, keys_of};
 ghost use Rattle.rate_types.specs.Counters.{key_cmp, same_counter};
 ghost use Rattle.rate_types.specs.declared.counter_key.CounterKey.{CounterKey};
 ghost use Rattle.window_keys.specs.Counter.{window_end_of};
-ghost use Rattle.rls_core.specs.Sums.{charged_totals, has_sum};
+ghost use Rattle.rls_core.specs.Plain.{hits_charged};
+ghost use Rattle.rls_core.specs.Sequential.{count_under};
+ghost use Rattle.rls_core.specs.Sums.{AreOpen, charged_totals, has_sum, sum_on};
 
-use crate::{Total, Totals};
+use crate::counted::counted;
+use crate::{Count, Total, Totals};
 use rate_types::{CounterKey, OutOfMemory};
 use std::alloc::Global;
 use std::collections::BTreeMap;
@@ -80,13 +83,6 @@ impl CounterSums {
         self.sums.len()
     }
 
-    /// The sum of a counter, where it has one.
-    pub fn get(&self, counter: &CounterKey) -> Option<u64>
-        ensures { result ≡ lookup (is_at (key_cmp counter.now)) self.now }
-    {
-        self.sums.get(counter).copied()
-    }
-
     /// Gives a counter a sum in place of its last one.
     pub fn put(&mut self, counter: CounterKey, sum: u64) -> Result<(), OutOfMemory>
         ensures entries { OnOk result (self.new ≡ insert_entry key_cmp self.old counter sum) }
@@ -99,6 +95,25 @@ impl CounterSums {
         self.sums.insert(counter, sum)?;
         self.next_end = self.next_end.min(end);
         Ok(())
+    }
+
+    /// Counts hits under a limit on a counter that has a sum. None where it has none.
+    pub fn recount(&mut self, counter: &CounterKey, limit: u32, hits: u32) -> Option<Count>
+        ensures absent { IfNone result (has_sum self.old counter.now ≡ false) }
+        ensures stays { IfNone result (self.new ≡ self.old) }
+        ensures present { IfSome result (λ _. has_sum self.old counter.now ≡ true) }
+        ensures count { IfSome result (λ n. n ≡ count_under limit hits (sum_on self.old counter.now)) }
+        ensures found { IfSome result (λ n. (c : CounterKey) → lookup (is_at (key_cmp c)) self.new
+            ≡ (if same_counter counter.now c then Some (sum_on self.old counter.now + hits_charged n hits) else lookup (is_at (key_cmp c)) self.old)) }
+        ensures open { (moment : ℕ) → AreOpen moment self.old → AreOpen moment self.new }
+        ensures len { length self.new ≡ length self.old }
+    {
+        let Some(sum) = self.sums.get_mut(counter) else {
+            return None;
+        };
+        let (count, charged) = counted(limit, hits, *sum);
+        *sum = charged;
+        Some(count)
     }
 
     /// Drops the counters whose windows end at a moment or before it.

@@ -1,4 +1,4 @@
-ghost use Rattle.std.specs.Prelude.{◌≡◌, ◌≤◌, ◌<◌, ◌+◌, max, false, [], ◌∷◌, length, IfOk, IfErr, OnOk, OnErr};
+ghost use Rattle.std.specs.Prelude.{◌≡◌, ◌≤◌, ◌<◌, ◌+◌, max, false, [], ◌∷◌, length, IfOk, IfErr, IfSome, IfNone, OnOk, OnErr};
 ghost use Rattle.window_keys.specs.Counter.{window_end_of};
 ghost use Rattle.rls_core.specs.Sequential.{count_under, count_for, charged_under, AreSequential, IsNumberOf, HasRoom};
 ghost use Rattle.rls_core.specs.Reply.{IsReplyOf, counter_under};
@@ -7,6 +7,7 @@ ghost use Rattle.rls_core.specs.Sums.{sum_on, has_sum};
 ghost use Rattle.rls_core.specs.Plain.{Drops, CountsEach, Charges, HasRoomFor, IsFullFor, IsFull, hits_charged};
 ghost use Rattle.rls_core.specs.declared.status.Count.TheVariants.{NoCount};
 
+use crate::counted::counted;
 use crate::counter_sums::CounterSums;
 use crate::reply::reply_of;
 use crate::{CheckFault, Count, Reply, Totals, status_for};
@@ -41,18 +42,6 @@ fn later_of(one: Seconds, other: Seconds) -> Seconds
     ensures { result ≡ max one other }
 {
     if one.get() < other.get() { other } else { one }
-}
-
-// The count of hits under a limit, and the sum that the counter then has.
-fn counted(limit: u32, hits: u32, value: u64) -> (Count, u64)
-    ensures count { result.0 ≡ count_under limit hits value }
-    ensures sum { result.1 ≡ value + hits_charged result.0 hits }
-{
-    if hits == 0 || u64::from(limit) < value {
-        (Count::Seen(value), value)
-    } else {
-        (Count::Before(value), value + u64::from(hits))
-    }
 }
 
 impl Plain {
@@ -172,17 +161,14 @@ impl Plain {
         self.sums.len() as u32
     }
 
-    // Whether a counter has a cell or there is one for it.
+    // Whether there is a cell for a counter that has none.
     fn make_room(&self, counter: &CounterKey) -> Result<(), CheckFault>
+        requires { has_sum self.now.sums counter.now ≡ false }
         ensures room { OnOk result (HasRoomFor (counter.now ∷ []) self.now) }
-        ensures space { OnOk result (has_sum self.now.sums counter.now ≡ false → length self.now.sums < self.now.cells) }
+        ensures space { OnOk result (length self.now.sums < self.now.cells) }
         ensures fault { IfErr result (IsFullFor (counter.now ∷ []) self.now) }
     {
         let live = self.live();
-        let has_cell = self.sums.get(counter).is_some();
-        if has_cell {
-            return Ok(());
-        }
         if live >= self.cells {
             return Err(CheckFault::CountersFull {
                 moment: self.moment,
@@ -194,9 +180,25 @@ impl Plain {
         Ok(())
     }
 
-    // Counts hits on a counter under a limit.
-    fn count(&mut self, counter: CounterKey, limit: u32, hits: u32) -> Result<Count, CheckFault>
-        requires { self.old.moment < window_end_of counter }
+    // Counts hits under a limit on a counter that has a cell. None where it has none.
+    fn recount(&mut self, counter: &CounterKey, limit: u32, hits: u32) -> Option<Count>
+        ensures absent { IfNone result (has_sum self.old.sums counter.now ≡ false) }
+        ensures stays { IfNone result (self.new ≡ self.old) }
+        ensures answer { IfSome result (λ n. n ≡ count_under limit hits (sum_on self.old.sums counter.now)) }
+        ensures counts { IfSome result (λ n. CountsEach (counter.now ∷ []) (hits_charged n hits) self.old self.new) }
+        ensures room { IfSome result (λ _. HasRoomFor (counter.now ∷ []) self.old) }
+    {
+        let _live = self.live();
+        let Some(count) = self.sums.recount(counter, limit, hits) else {
+            return None;
+        };
+        Some(count)
+    }
+
+    // Counts hits under a limit on a counter that has no cell.
+    fn count_new(&mut self, counter: CounterKey, limit: u32, hits: u32) -> Result<Count, CheckFault>
+        requires later { self.old.moment < window_end_of counter }
+        requires absent { has_sum self.old.sums counter ≡ false }
         ensures answer { IfOk result (λ n. n ≡ count_under limit hits (sum_on self.old.sums counter)) }
         ensures counts { IfOk result (λ n. CountsEach (counter ∷ []) (hits_charged n hits) self.old self.new) }
         ensures room { OnOk result (HasRoomFor (counter ∷ []) self.old) }
@@ -206,9 +208,23 @@ impl Plain {
         if let Err(fault) = self.make_room(&counter) {
             return Err(fault);
         }
-        let value = self.sums.get(&counter).unwrap_or(0);
-        let (count, sum) = counted(limit, hits, value);
+        let (count, sum) = counted(limit, hits, 0);
         self.sums.put(counter, sum)?;
         Ok(count)
+    }
+
+    // Counts hits on a counter under a limit.
+    fn count(&mut self, counter: CounterKey, limit: u32, hits: u32) -> Result<Count, CheckFault>
+        requires { self.old.moment < window_end_of counter }
+        ensures answer { IfOk result (λ n. n ≡ count_under limit hits (sum_on self.old.sums counter)) }
+        ensures counts { IfOk result (λ n. CountsEach (counter ∷ []) (hits_charged n hits) self.old self.new) }
+        ensures room { OnOk result (HasRoomFor (counter ∷ []) self.old) }
+        ensures fault { IfErr result (IsFullFor (counter ∷ []) self.old) }
+        ensures refused { OnErr result (self.new ≡ self.old) }
+    {
+        match self.recount(&counter, limit, hits) {
+            Some(count) => Ok(count),
+            None => self.count_new(counter, limit, hits),
+        }
     }
 }
