@@ -3,6 +3,7 @@ use Rattle.std.specs.Prelude.{ℕ, ◌+◌, ◌*◌, ◌-◌, ◌/◌, ◌%◌, 
 use Rattle.std.specs.Char.{is_ascii_digit}
 use Rattle.std.specs.List.{list_all, list_any}
 use Rattle.std.specs.Str.Parse.{digits_value}
+use Rattle.rate_types.specs.declared.limits.TheConstants.{LONGEST_DURATION}
 use Rattle.rate_types.specs.declared.duration.DurationFault.{DurationFault}
 use Rattle.rate_types.specs.declared.duration.DurationFault.TheVariants.{Bad, TooLong, TooFine}
 
@@ -41,7 +42,7 @@ millis_of (a ∷ b ∷ c ∷ more) = (a - 48) * 100 + (b - 48) * 10 + (c - 48)
 
 -- more than 1,000,000,000 seconds
 abbrev pub is_too_long : ℕ → List ℕ → Bool
-is_too_long seconds decimals = nat_lt 1000000000 seconds || (seconds == 1000000000 && list_any is_not_zero decimals)
+is_too_long seconds decimals = nat_lt LONGEST_DURATION seconds || (seconds == LONGEST_DURATION && list_any is_not_zero decimals)
 
 -- a digit other than 0 past the third decimal
 abbrev pub is_too_fine : List ℕ → Bool

@@ -6,3 +6,4 @@ pub mod Hashes
 pub mod Ledger
 pub mod Entries
 pub mod Requests
+pub mod Reading

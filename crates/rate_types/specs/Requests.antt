@@ -1,5 +1,6 @@
 -- What a request is made of, and when it is refused.
 use Rattle.std.specs.Prelude.{ℕ, max, ◌==◌, List, length, nat_lt, if◌then◌else◌, Result, Ok, Err}
+use Rattle.rate_types.specs.declared.limits.TheConstants.{MOST_DESCRIPTORS}
 use Rattle.rate_types.specs.declared.request.Descriptor.{Descriptor}
 use Rattle.rate_types.specs.declared.request.RequestFault.{RequestFault}
 use Rattle.rate_types.specs.declared.request.RequestFault.TheVariants.{EmptyDomain, NoDescriptors, TooMany}
@@ -14,5 +15,5 @@ pub record RequestParts : Type 0 where
 unfoldable pub request_of : List ℕ → List Descriptor → ℕ → Result RequestParts RequestFault
 request_of domain descriptors hits = if length domain == 0 then Err EmptyDomain
     else (if length descriptors == 0 then Err NoDescriptors
-    else (if nat_lt 32 (length descriptors) then Err (TooMany (length descriptors))
+    else (if nat_lt MOST_DESCRIPTORS (length descriptors) then Err (TooMany (length descriptors))
     else Ok (record { domain = domain; descriptors = descriptors; hits = max hits 1 })))

@@ -1,5 +1,6 @@
 ghost use Rattle.std.specs.Prelude.{◌≡◌};
 
+use crate::Items;
 use std::marker::Model;
 
 /// A list of bytes, as a file's content.
@@ -33,31 +34,4 @@ impl Blob {
 }
 
 /// A list of blobs.
-#[derive(Drop)]
-pub struct Blobs {
-    items: Vec<Blob>,
-}
-
-impl Model for Blobs {
-    ghost use Rattle.std.specs.Prelude.{List, ℕ};
-
-    ghost Value = { List (List ℕ) };
-
-    ghost view = { λ b. b.items.items };
-}
-
-impl Blobs {
-    /// The list of these blobs. It takes no memory.
-    pub fn of(items: Vec<Blob>) -> Blobs
-        ensures { result ≡ items.items }
-    {
-        Blobs { items }
-    }
-
-    /// The blobs.
-    pub fn items(&self) -> &[Blob]
-        ensures { result.now ≡ self.now }
-    {
-        &self.items
-    }
-}
+pub type Blobs = Items<Blob>;

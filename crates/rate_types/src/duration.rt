@@ -5,6 +5,7 @@ ghost use Rattle.std.specs.Char.{is_ascii_digit};
 ghost use Rattle.std.specs.Str.Parse.{digits_value};
 ghost use Rattle.rate_types.specs.Durations as durations;
 
+use crate::limits::LONGEST_DURATION;
 use crate::{Millis, OutOfMemory};
 use std::alloc::Global;
 
@@ -58,7 +59,7 @@ fn without_unit(bytes: &[u8]) -> Option<&[u8]>
 fn is_too_long(seconds: u64, decimals: &[u8]) -> bool
     ensures { result ≡ durations.is_too_long seconds decimals.now }
 {
-    seconds > 1_000_000_000 || (seconds == 1_000_000_000 && any_not_zero(decimals))
+    seconds > LONGEST_DURATION || (seconds == LONGEST_DURATION && any_not_zero(decimals))
 }
 
 fn is_too_fine(decimals: &[u8]) -> bool

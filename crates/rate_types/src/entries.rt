@@ -8,6 +8,7 @@ ghost use Rattle.rate_types.specs.Counters.{entry_cmp, same_entry, entries_cmp, 
 ghost use Rattle.rate_types.specs.Entries.{entries_of};
 ghost use Rattle.rate_types.specs.Hashes.{entry_writes, entry_alike, entries_writes, entries_alike};
 
+use crate::limits::MOST_ENTRIES;
 use crate::{OutOfMemory, Text};
 use std::alloc::Global;
 use std::cmp::Ordering;
@@ -109,7 +110,7 @@ impl Entries {
         if items.is_empty() {
             return Err(EntriesFault::NoEntries);
         }
-        if items.len() > 32 {
+        if items.len() > MOST_ENTRIES {
             return Err(EntriesFault::TooMany {
                 count: items.len() as u64,
             });
@@ -134,7 +135,7 @@ impl Entries {
     #[tactic(auto, unfolding(crate::specs::Entries::entries_of))]
     pub fn items(&self) -> &[Entry]
         ensures all { result.now ≡ self.now }
-        ensures bounds { (1 ≤ length result.now) × (length result.now ≤ 32) }
+        ensures bounds { (1 ≤ length result.now) × (length result.now ≤ MOST_ENTRIES) }
         ensures lawful { entries_of result.now ≡ Ok result.now }
     {
         &self.items

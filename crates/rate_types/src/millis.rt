@@ -1,5 +1,6 @@
 ghost use Rattle.std.specs.Prelude.{◌≡◌, ◌≤◌, ◌<◌, IfSome, IfNone};
 
+use crate::limits::LATEST_MOMENT;
 use std::marker::Model;
 
 /// A moment, or a span of time, in whole milliseconds: at most 1,000,000,000,000.
@@ -10,12 +11,13 @@ pub struct Millis {
 
 impl Model for Millis {
     ghost use Rattle.std.specs.Prelude.{ℕ, ◌≤◌};
+    ghost use Rattle.rate_types.specs.declared.limits.TheConstants.{LATEST_MOMENT};
 
     ghost Value = { ℕ };
 
     ghost view = { λ m. m.value };
 
-    ghost invariant = { λ m. m.value ≤ 1000000000000 };
+    ghost invariant = { λ m. m.value ≤ LATEST_MOMENT };
 
     ghost inverse = { λ n. record { value = n } };
 }
@@ -23,10 +25,10 @@ impl Model for Millis {
 impl Millis {
     /// None exactly above 1,000,000,000,000.
     pub fn new(value: u64) -> Option<Millis>
-        ensures within { IfSome result (λ m. (m ≡ value) × (value ≤ 1000000000000)) }
-        ensures above { IfNone result (1000000000000 < value) }
+        ensures within { IfSome result (λ m. (m ≡ value) × (value ≤ LATEST_MOMENT)) }
+        ensures above { IfNone result (LATEST_MOMENT < value) }
     {
-        if value <= 1_000_000_000_000 {
+        if value <= LATEST_MOMENT {
             Some(Millis { value })
         } else {
             None
@@ -36,7 +38,7 @@ impl Millis {
     /// The milliseconds.
     pub fn get(self) -> u64
         ensures value { result ≡ self }
-        ensures bound { result ≤ 1000000000000 }
+        ensures bound { result ≤ LATEST_MOMENT }
     {
         self.value
     }

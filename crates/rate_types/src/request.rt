@@ -1,6 +1,7 @@
 ghost use Rattle.std.specs.Prelude.{◌≡◌, ◌≤◌, IfOk, length};
 ghost use Rattle.rate_types.specs.Requests.{request_of};
 
+use crate::limits::MOST_DESCRIPTORS;
 use crate::{Entries, OutOfMemory, Text, Unit};
 use std::marker::Model;
 
@@ -68,7 +69,7 @@ impl Request {
         if descriptors.is_empty() {
             return Err(RequestFault::NoDescriptors);
         }
-        if descriptors.len() > 32 {
+        if descriptors.len() > MOST_DESCRIPTORS {
             return Err(RequestFault::TooMany {
                 count: descriptors.len() as u64,
             });
@@ -93,7 +94,7 @@ impl Request {
     #[tactic(auto, unfolding(crate::specs::Requests::request_of))]
     pub fn descriptors(&self) -> &[Descriptor]
         ensures all { result.now ≡ self.now.descriptors }
-        ensures bounds { (1 ≤ length result.now) × (length result.now ≤ 32) }
+        ensures bounds { (1 ≤ length result.now) × (length result.now ≤ MOST_DESCRIPTORS) }
     {
         &self.descriptors
     }

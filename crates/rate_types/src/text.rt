@@ -8,6 +8,7 @@ ghost use Rattle.rate_types.specs.declared.text.TextFault.TheVariants.{TooLong};
 ghost use Rattle.rate_types.specs.Hashes.{text_writes, text_alike};
 
 use crate::OutOfMemory;
+use crate::limits::LONGEST_TEXT;
 use std::alloc::Global;
 use std::cmp::Ordering;
 use std::hash::{Hash, Hasher};
@@ -30,21 +31,22 @@ pub struct Text {
 
 impl Model for Text {
     ghost use Rattle.std.specs.Prelude.{◌≤◌, List, ℕ, length, string_bytes};
+    ghost use Rattle.rate_types.specs.declared.limits.TheConstants.{LONGEST_TEXT};
 
     ghost Value = { List ℕ };
 
     ghost view = { λ t. string_bytes t.text };
 
-    ghost invariant = { λ t. length (string_bytes t.text) ≤ 1024 };
+    ghost invariant = { λ t. length (string_bytes t.text) ≤ LONGEST_TEXT };
 }
 
 impl Text {
     /// A copy of a text of at most 1,024 bytes.
     pub fn new(alloc: Global, text: &str) -> Result<Text, TextFault>
         ensures same { IfOk result (λ t. t ≡ text.now) }
-        ensures too_long { (len : ℕ) → (result ≡ Err (TextFault.TooLong len)) ↔ ((1024 < length text.now) × (len ≡ length text.now)) }
+        ensures too_long { (len : ℕ) → (result ≡ Err (TextFault.TooLong len)) ↔ ((LONGEST_TEXT < length text.now) × (len ≡ length text.now)) }
     {
-        if text.len() > 1024 {
+        if text.len() > LONGEST_TEXT {
             return Err(TextFault::TooLong {
                 len: text.len() as u64,
             });
@@ -66,10 +68,10 @@ impl Text {
 
     /// The text itself, where it isn't too long. It takes no memory.
     pub fn of(text: String) -> Option<Text>
-        ensures same { IfSome result (λ t. (t ≡ string_bytes text) × (length (string_bytes text) ≤ 1024)) }
-        ensures too_long { IfNone result (1024 < length (string_bytes text)) }
+        ensures same { IfSome result (λ t. (t ≡ string_bytes text) × (length (string_bytes text) ≤ LONGEST_TEXT)) }
+        ensures too_long { IfNone result (LONGEST_TEXT < length (string_bytes text)) }
     {
-        if text.len() > 1024 {
+        if text.len() > LONGEST_TEXT {
             return None;
         }
         Some(Text { text })
@@ -78,7 +80,7 @@ impl Text {
     /// The text as std has it.
     pub fn as_str(&self) -> &str
         ensures bytes { result.now ≡ self.now }
-        ensures bound { length self.now ≤ 1024 }
+        ensures bound { length self.now ≤ LONGEST_TEXT }
     {
         self.text.as_str()
     }

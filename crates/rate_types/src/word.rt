@@ -1,5 +1,6 @@
 ghost use Rattle.std.specs.Prelude.{◌≡◌, string_bytes};
 
+use crate::Items;
 use std::marker::Model;
 
 /// A text of any length, as a word of a command line.
@@ -33,31 +34,4 @@ impl Word {
 }
 
 /// A list of words.
-#[derive(Drop)]
-pub struct Names {
-    items: Vec<Word>,
-}
-
-impl Model for Names {
-    ghost use Rattle.std.specs.Prelude.{List, ℕ};
-
-    ghost Value = { List (List ℕ) };
-
-    ghost view = { λ n. n.items.items };
-}
-
-impl Names {
-    /// The list of these words. It takes no memory.
-    pub fn of(items: Vec<Word>) -> Names
-        ensures { result ≡ items.items }
-    {
-        Names { items }
-    }
-
-    /// The words.
-    pub fn items(&self) -> &[Word]
-        ensures { result.now ≡ self.now }
-    {
-        &self.items
-    }
-}
+pub type Names = Items<Word>;
