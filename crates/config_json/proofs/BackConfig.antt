@@ -20,7 +20,8 @@ use Rattle.descriptor_tree.specs.declared.tree.Tree.{Tree}
 use Rattle.descriptor_tree.specs.Trees.{NodeFields, Branch, branch, Branches, no_branches, and_branch, fields_of, branches_of, DomainTree, tree_view}
 use Rattle.descriptor_tree.specs.Nodes.{Standing, branch_nodes, forest_nodes, tree_nodes, config_nodes}
 use Rattle.descriptor_tree.specs.Config.{IsWellFormed, IsWellFormedBranch, AreWellFormed, IsLawfulNode, IsLawfulConfig}
-use Rattle.descriptor_tree.specs.Faults.{config_faults, first_or}
+use Rattle.rate_types.specs.Reading.{first_or}
+use Rattle.descriptor_tree.specs.Faults.{config_faults}
 use Rattle.rate_types.specs.declared.unit.Unit.{Unit}
 use Rattle.rate_types.specs.declared.unit.Unit.TheVariants.{Second, Minute, Hour, Day}
 use Rattle.config_json.specs.Bounds.{IsBoundedBranch, AreBounded}

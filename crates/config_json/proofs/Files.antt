@@ -6,14 +6,13 @@ use Rattle.std.proofs.lemmas.List.Elements.{All-push}
 use Rattle.std.specs.Option.{option_to_list}
 use Rattle.rate_types.specs.declared.refused.Refused.{Refused}
 use Rattle.rate_types.specs.declared.refused.At.{At}
-use Rattle.proto_json.specs.declared.fault.FormFault.{FormFault}
-use Rattle.proto_json.specs.declared.fault.FormFault.TheVariants as form
-use Rattle.proto_json.specs.Said.{Said, said, faults_of, value_of, reading_of, IsRefusal}
+use Rattle.rate_types.specs.declared.fault.Fault.{Fault}
+use Rattle.rate_types.specs.declared.fault.Fault.TheVariants as fault
+use Rattle.rate_types.specs.Reading.{IsRefusal, AnswersReading, first_or}
+use Rattle.proto_json.specs.Said.{Said, said, faults_of, value_of, reading_of}
 use Rattle.descriptor_tree.specs.Trees.{DomainTree}
-use Rattle.descriptor_tree.specs.Faults.{Answers, first_or, in_file, config_faults}
+use Rattle.descriptor_tree.specs.Faults.{in_file, config_faults}
 use Rattle.descriptor_tree.specs.Config.{AreWellFormed}
-use Rattle.descriptor_tree.specs.declared.fault.ConfigFault.{ConfigFault}
-use Rattle.descriptor_tree.specs.declared.fault.ConfigFault.TheVariants as config
 use Rattle.config_json.specs.Trees.{file}
 use Rattle.config_json.specs.Reading as files
 
@@ -51,10 +50,10 @@ rest_is : (all : List (List ℕ)) (index : ℕ) (bytes : List ℕ) → index < l
 rest_is all index bytes within is = rw (add-one index) (drop-cons all index bytes within ∙ ap (λ (b : List ℕ). b ∷ drop (suc index) all) (sym is))
 
 -- the file at hand is refused
-pub read_stops : (all : List (List ℕ)) (index : ℕ) (front : List DomainTree) (bytes : List ℕ) (e : FormFault) → Read all index front → index < length all → bytes ≡ get_or all index bytes
-    → IsRefusal e (reading_of (file bytes)) → Answers {X = List DomainTree} {Y = List DomainTree} (λ ts. ts) (Err (files.placed index e)) (behind [] 0 all)
-read_stops all index front bytes form.OutOfMemory w within is refused = tt
-read_stops all index front bytes (form.Refused r) w within is refused =
+pub read_stops : (all : List (List ℕ)) (index : ℕ) (front : List DomainTree) (bytes : List ℕ) (e : Fault Refused) → Read all index front → index < length all → bytes ≡ get_or all index bytes
+    → IsRefusal e (reading_of (file bytes)) → AnswersReading {X = List DomainTree} {Y = List DomainTree} (λ ts. ts) (Err (files.placed index e)) (behind [] 0 all)
+read_stops all index front bytes fault.OutOfMemory w within is refused = tt
+read_stops all index front bytes (fault.Refused r) w within is refused =
     sym w.answer ∙ ap (behind front index) (rest_is all index bytes within is) ∙ refused_first (file bytes) r index (files.file_faults (index + 1) (drop (index + 1) all)) (front ++ files.trees_of (bytes ∷ drop (index + 1) all)) refused
 
 -- the file at hand was read
@@ -89,6 +88,6 @@ reading_of_trees all ts is =
     ap (λ fs. first_or (fs ++ config_faults (files.trees_of all)) (files.trees_of all)) none.0 ∙ ap (λ us. first_or (config_faults us) us) none.1
 
 -- reading that fails
-pub reading_fails : {X Y : Type 0} (see : X → List DomainTree) (seen : Y → List DomainTree) (all : List (List ℕ)) (e : ConfigFault) → Answers seen (Err e) (behind [] 0 all) → Answers see (Err e) (files.reading_of all)
-reading_fails see seen all (config.Refused at) is = reading_refused all at is
-reading_fails see seen all config.OutOfMemory is = tt
+pub reading_fails : {X Y : Type 0} (see : X → List DomainTree) (seen : Y → List DomainTree) (all : List (List ℕ)) (e : Fault At) → AnswersReading seen (Err e) (behind [] 0 all) → AnswersReading see (Err e) (files.reading_of all)
+reading_fails see seen all (fault.Refused at) is = reading_refused all at is
+reading_fails see seen all fault.OutOfMemory is = tt

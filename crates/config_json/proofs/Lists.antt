@@ -3,9 +3,10 @@ use Rattle.std.proofs.Common.{◌≡◌, ℕ, ◌+◌, List, [], ◌∷◌, ◌+
 use Rattle.serde_json.specs.Data.{Data, Items, no_items, item}
 use Rattle.rate_types.specs.Places as places
 use Rattle.rate_types.specs.declared.refused.Refused.{Refused}
-use Rattle.proto_json.specs.declared.fault.FormFault.{FormFault}
-use Rattle.proto_json.specs.declared.fault.FormFault.TheVariants as fault
-use Rattle.proto_json.specs.Said.{reading_of, IsRefusal}
+use Rattle.rate_types.specs.declared.fault.Fault.{Fault}
+use Rattle.rate_types.specs.declared.fault.Fault.TheVariants as fault
+use Rattle.rate_types.specs.Reading.{IsRefusal}
+use Rattle.proto_json.specs.Said.{reading_of}
 use Rattle.proto_json.specs.Laws.{then_read}
 use Rattle.proto_json.specs.Laws.{reading_then}
 use Rattle.descriptor_tree.specs.Trees.{Branch, Branches, no_branches, and_branch, branches_of}
@@ -53,7 +54,7 @@ nodes_fail place index front d ds e is =
     let one : reading_of (nodes_at place index (item d ds)) ≡ Err e = simp (reading_then, is) in
     ap (behind front) one
 
-pub nodes_refused : (place : List ℕ) (index : ℕ) (front : List Branch) (d : Data) (ds : Items) (e : FormFault) → IsRefusal e (reading_of (node_at (places.item place index) d))
+pub nodes_refused : (place : List ℕ) (index : ℕ) (front : List Branch) (d : Data) (ds : Items) (e : Fault Refused) → IsRefusal e (reading_of (node_at (places.item place index) d))
     → IsRefusal e (behind front (reading_of (nodes_at place index (item d ds))))
 nodes_refused place index front d ds (fault.Refused r) is = nodes_fail place index front d ds r is
 nodes_refused place index front d ds fault.OutOfMemory is = tt

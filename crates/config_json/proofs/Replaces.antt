@@ -9,9 +9,10 @@ use Rattle.serde_json.specs.View.{view, items_view}
 use Rattle.serde_json.specs.declared.value.Value.{Value}
 use Rattle.rate_types.specs.Places as places
 use Rattle.rate_types.specs.declared.refused.Refused.{Refused}
-use Rattle.proto_json.specs.declared.fault.FormFault.{FormFault}
-use Rattle.proto_json.specs.declared.fault.FormFault.TheVariants as fault
-use Rattle.proto_json.specs.Said.{says, reading_of, IsRefusal}
+use Rattle.rate_types.specs.declared.fault.Fault.{Fault}
+use Rattle.rate_types.specs.declared.fault.Fault.TheVariants as fault
+use Rattle.rate_types.specs.Reading.{IsRefusal}
+use Rattle.proto_json.specs.Said.{says, reading_of}
 use Rattle.proto_json.specs.Laws.{then_read, reading_then, behind, items_none, items_more, items_refused}
 use Rattle.proto_json.specs.Lists.{items_from, each_item}
 use Rattle.config_json.specs.Rules.{replaced, names_in, those_there, is_there, replaces_itself}
@@ -60,7 +61,7 @@ named_all place all rest index kept n none = names_reading place all
     ∙ ap (λ ns. Ok (Some ns)) (sym n.kept_is)
 
 -- one of them is refused
-pub named_refused : (place : List ℕ) (all : List Value) (e : FormFault) → IsRefusal e (reading_of (items_from replaced place 0 (items_view all))) → IsRefusal e (reading_of (names_in place (items_view all)))
+pub named_refused : (place : List ℕ) (all : List Value) (e : Fault Refused) → IsRefusal e (reading_of (items_from replaced place 0 (items_view all))) → IsRefusal e (reading_of (names_in place (items_view all)))
 named_refused place all (fault.Refused r) is = names_reading place all ∙ ap (λ q. then_read q (λ ns. Ok (those_there ns))) is
 named_refused place all fault.OutOfMemory is = tt
 
@@ -98,7 +99,7 @@ named_more place all v more index kept after n w read pushed = record {
 }
 
 -- the next name is refused
-pub named_stops : (place : List ℕ) (all : List Value) (v : Value) (more : List Value) (index : ℕ) (kept : List (List ℕ)) (e : FormFault) → Named place all (v ∷ more) index kept
+pub named_stops : (place : List ℕ) (all : List Value) (v : Value) (more : List Value) (index : ℕ) (kept : List (List ℕ)) (e : Fault Refused) → Named place all (v ∷ more) index kept
     → IsRefusal e (reading_of (replaced (places.item place index) (view v))) → IsRefusal e (reading_of (names_in place (items_view all)))
 named_stops place all v more index kept e w is = named_refused place all e
     (subst (λ (r : Result (Option (List (List ℕ))) Refused). IsRefusal e r) w.answer (items_refused replaced place index w.front (view v) (items_view more) e is))

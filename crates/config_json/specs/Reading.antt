@@ -3,12 +3,12 @@ use Rattle.std.specs.Prelude.{ℕ, ◌+◌, List, [], ◌∷◌, ◌++◌, map, 
 use Rattle.std.specs.Option.{option_to_list}
 use Rattle.rate_types.specs.declared.refused.At.{At}
 use Rattle.proto_json.specs.Said as said
-use Rattle.proto_json.specs.declared.fault.FormFault.{FormFault}
-use Rattle.proto_json.specs.declared.fault.FormFault.TheVariants as form
-use Rattle.descriptor_tree.specs.declared.fault.ConfigFault.{ConfigFault}
-use Rattle.descriptor_tree.specs.declared.fault.ConfigFault.TheVariants as config
+use Rattle.rate_types.specs.declared.refused.Refused.{Refused}
+use Rattle.rate_types.specs.declared.fault.Fault.{Fault}
+use Rattle.rate_types.specs.declared.fault.Fault.TheVariants as fault
 use Rattle.descriptor_tree.specs.Trees.{DomainTree}
-use Rattle.descriptor_tree.specs.Faults.{in_file, config_faults, first_or}
+use Rattle.rate_types.specs.Reading.{first_or}
+use Rattle.descriptor_tree.specs.Faults.{in_file, config_faults}
 use Rattle.config_json.specs.Trees.{file}
 
 -- the faults of reading the files one after the other, the first of this index
@@ -30,6 +30,6 @@ unfoldable pub reading_of : List (List ℕ) → Result (List DomainTree) At
 reading_of files = first_or (faults_of files) (trees_of files)
 
 -- a fault of reading a file of this index
-abbrev pub placed : ℕ → FormFault → ConfigFault
-placed index (form.Refused refused) = config.Refused (in_file index refused)
-placed index form.OutOfMemory = config.OutOfMemory
+abbrev pub placed : ℕ → Fault Refused → Fault At
+placed index (fault.Refused refused) = fault.Refused (in_file index refused)
+placed index fault.OutOfMemory = fault.OutOfMemory

@@ -2,7 +2,8 @@ ghost use Rattle.std.specs.Prelude.{◌≡◌, [], IfOk, Some};
 ghost use Rattle.serde_json.specs.View.{view};
 ghost use Rattle.proto_json.specs.Document.{document};
 ghost use Rattle.proto_json.specs.Held.{object_of};
-ghost use Rattle.proto_json.specs.Said.{Answers, reading_of};
+ghost use Rattle.rate_types.specs.Reading.{AnswersReading};
+ghost use Rattle.proto_json.specs.Said.{reading_of};
 ghost use Rattle.descriptor_tree.specs.Config.{AreWellFormed};
 ghost use Rattle.descriptor_tree.specs.Trees.{tree_view};
 ghost use Rattle.config_json.specs.Trees as trees;
@@ -18,7 +19,7 @@ use std::alloc::Global;
 // The tree of a file's fields.
 #[tactic(auto, using(proto_json::specs::Laws::reading_then), unfolding(crate::specs::Trees::file_in))]
 fn tree_in(alloc: Global, mut fields: Fields) -> Result<Tree, FormFault>
-    ensures said { Answers (λ t. Some (tree_view t)) result
+    ensures said { AnswersReading (λ t. Some (tree_view t)) result
         (reading_of (trees.file_in (object_of fields))) }
     ensures formed { IfOk result (λ t. AreWellFormed (tree_view t).forest) }
 {
@@ -35,7 +36,7 @@ fn tree_in(alloc: Global, mut fields: Fields) -> Result<Tree, FormFault>
 /// the first fault of reading it; the rules of a lawful configuration are checked by `Config::build`.
 #[tactic(auto, using(proto_json::specs::Laws::reading_then), unfolding(crate::specs::Trees::file_at))]
 pub fn tree_of(alloc: Global, value: Value, place: Place) -> Result<Tree, FormFault>
-    ensures said { Answers (λ t. Some (tree_view t)) result
+    ensures said { AnswersReading (λ t. Some (tree_view t)) result
         (reading_of (trees.file_at place (view value))) }
     ensures formed { IfOk result (λ t. AreWellFormed (tree_view t).forest) }
 {
@@ -47,7 +48,7 @@ pub fn tree_of(alloc: Global, value: Value, place: Place) -> Result<Tree, FormFa
 /// Reads a configuration file.
 #[tactic(auto, using(proto_json::specs::Laws::reading_then), unfolding(crate::specs::Trees::file))]
 pub fn read_file(alloc: Global, bytes: &[u8]) -> Result<Tree, FormFault>
-    ensures said { Answers (λ t. Some (tree_view t)) result (reading_of (trees.file bytes.now)) }
+    ensures said { AnswersReading (λ t. Some (tree_view t)) result (reading_of (trees.file bytes.now)) }
     ensures formed { IfOk result (λ t. AreWellFormed (tree_view t).forest) }
 {
     let value = parse(alloc, bytes)?;

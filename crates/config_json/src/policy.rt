@@ -2,7 +2,8 @@ ghost use Rattle.std.specs.Prelude.{◌≡◌, ◌≢◌, [], Some, option_map};
 ghost use Rattle.std.specs.List.{list_any};
 ghost use Rattle.std.specs.Str.{bytes_eq};
 ghost use Rattle.proto_json.specs.Held.{object_of, Takes};
-ghost use Rattle.proto_json.specs.Said.{Answers, reading_of};
+ghost use Rattle.rate_types.specs.Reading.{AnswersReading};
+ghost use Rattle.proto_json.specs.Said.{reading_of};
 ghost use Rattle.config_json.specs.FieldNames as names;
 ghost use Rattle.config_json.specs.Rules as rules;
 ghost use Rattle.config_json.specs.Views.{rule_view};
@@ -43,7 +44,7 @@ fn rule_named(
     replaces: Replaced,
 ) -> Result<Rule, FormFault>
     requires { name ≢ Some [] }
-    ensures { Answers (λ r. Some (rule_view r)) result
+    ensures { AnswersReading (λ r. Some (rule_view r)) result
         (reading_of (rules.rule_named at policy name replaces)) }
 {
     if replaces_itself(&name, &replaces) {
@@ -67,7 +68,7 @@ fn policy_of(
     replaces: Replaced,
 ) -> Result<Rule, FormFault>
     requires { name ≢ Some [] }
-    ensures { Answers (λ r. Some (rule_view r)) result
+    ensures { AnswersReading (λ r. Some (rule_view r)) result
         (reading_of (rules.policy_rules at unit limit unlimited name replaces)) }
 {
     match (unit, unlimited) {
@@ -81,7 +82,7 @@ fn policy_of(
 // Reads a policy.
 #[tactic(auto, using(proto_json::specs::Laws::reading_then), unfolding(crate::specs::Rules::policy))]
 fn read_policy(alloc: Global, mut fields: Fields) -> Result<Rule, FormFault>
-    ensures { Answers (λ r. Some (rule_view r)) result (reading_of (rules.policy (object_of fields))) }
+    ensures { AnswersReading (λ r. Some (rule_view r)) result (reading_of (rules.policy (object_of fields))) }
 {
     let unit = take_unit(&mut fields)?;
     let limit = take_limit(&mut fields)?;

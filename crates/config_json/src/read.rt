@@ -1,5 +1,5 @@
 ghost use Rattle.std.specs.Prelude.{◌≡◌, map, IfOk, [], OnOk};
-ghost use Rattle.descriptor_tree.specs.Faults.{Answers, first_or};
+ghost use Rattle.rate_types.specs.Reading.{AnswersReading, first_or};
 ghost use Rattle.descriptor_tree.specs.Views.{config_view};
 ghost use Rattle.config_json.specs.Reading.{reading_of};
 ghost use Rattle.std.specs.List.{All};
@@ -26,7 +26,7 @@ fn in_file(file: u64, fault: FormFault) -> ConfigFault
 
 // Reads the files one after the other.
 fn read_files(alloc: Global, files: &[Blob]) -> Result<Vec<Tree>, ConfigFault>
-    ensures trees { Answers (λ v. map tree_view v.items) result
+    ensures trees { AnswersReading (λ v. map tree_view v.items) result
         (first_or (reading.file_faults 0 files.now) (reading.trees_of files.now)) }
     ensures formed { IfOk result (λ v. All (λ t. AreWellFormed t.forest) (map tree_view v.items)) }
 {
@@ -45,7 +45,7 @@ fn read_files(alloc: Global, files: &[Blob]) -> Result<Vec<Tree>, ConfigFault>
 /// their first fault with its file, counted from 0, its place in the file and its number: first those of reading each
 /// file, then those of the trees.
 pub fn read_config(alloc: Global, files: &Blobs) -> Result<Config, ConfigFault>
-    ensures { Answers config_view result (reading_of files.now) }
+    ensures { AnswersReading config_view result (reading_of files.now) }
 {
     match read_files(alloc, files.items()) {
         Ok(trees) => Config::build(alloc, trees),

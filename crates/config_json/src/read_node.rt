@@ -1,7 +1,8 @@
 ghost use Rattle.std.specs.Prelude.{◌≡◌, [], IfOk, IfSome, Some, option_map, unwrap_or};
 ghost use Rattle.serde_json.specs.View.{view, items_view};
 ghost use Rattle.proto_json.specs.Held.{object_of, Takes};
-ghost use Rattle.proto_json.specs.Said.{Answers, reading_of};
+ghost use Rattle.rate_types.specs.Reading.{AnswersReading};
+ghost use Rattle.proto_json.specs.Said.{reading_of};
 ghost use Rattle.descriptor_tree.specs.Config.{AreWellFormed, IsWellFormedBranch};
 ghost use Rattle.descriptor_tree.specs.Trees.{node_view, forest_view, no_branches, branch};
 ghost use Rattle.config_json.specs.FieldNames as names;
@@ -74,7 +75,7 @@ fn node_with(
 #[cycle(read)]
 #[tactic(auto, using(crate::proofs::Readings::node_at_reads))]
 fn read_node(alloc: Global, value: Value, place: Place) -> Result<Node, FormFault>
-    ensures said { Answers (λ n. Some (node_view n)) result
+    ensures said { AnswersReading (λ n. Some (node_view n)) result
         (reading_of (trees.node_at place (view value))) }
     ensures formed { IfOk result (λ n. IsWellFormedBranch (node_view n)) }
 {
@@ -87,7 +88,7 @@ fn read_node(alloc: Global, value: Value, place: Place) -> Result<Node, FormFaul
 #[cycle(read)]
 #[tactic(auto, using(crate::proofs::Readings::node_reads))]
 fn node_of(alloc: Global, mut fields: Fields) -> Result<Node, FormFault>
-    ensures said { let o = object_of fields in Answers (λ n. Some (node_view n)) result
+    ensures said { let o = object_of fields in AnswersReading (λ n. Some (node_view n)) result
         (reading_of (trees.node_in o (trees.below_in o.place o.members))) }
     ensures formed { IfOk result (λ n. IsWellFormedBranch (node_view n)) }
 {
@@ -124,7 +125,7 @@ pub fn take_below(alloc: Global, fields: &mut Fields) -> Result<Option<Forest>, 
 // Reads the nodes of a list.
 #[cycle(read)]
 fn read_nodes(alloc: Global, place: &Place, items: Vec<Value>) -> Result<Forest, FormFault>
-    ensures said { Answers (λ f. Some (forest_view f)) result
+    ensures said { AnswersReading (λ f. Some (forest_view f)) result
         (reading_of (trees.nodes_at place.now 0 (items_view items.items))) }
     ensures formed { IfOk result (λ f. AreWellFormed (forest_view f)) }
 {

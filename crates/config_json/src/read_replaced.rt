@@ -3,7 +3,8 @@ ghost use Rattle.std.specs.List.{All};
 ghost use Rattle.serde_json.specs.Data.{string};
 ghost use Rattle.serde_json.specs.View.{view, items_view};
 ghost use Rattle.proto_json.specs.Held.{object_of, Takes};
-ghost use Rattle.proto_json.specs.Said.{Answers, reading_of};
+ghost use Rattle.rate_types.specs.Reading.{AnswersReading};
+ghost use Rattle.proto_json.specs.Said.{reading_of};
 ghost use Rattle.proto_json.specs.Kinds as kinds;
 ghost use Rattle.config_json.specs.FieldNames as names;
 ghost use Rattle.config_json.specs.Rules as rules;
@@ -18,7 +19,7 @@ use std::alloc::Global;
 // The name in an object that names a rule.
 #[tactic(auto, using(proto_json::specs::Laws::reading_then), unfolding(crate::specs::Rules::named))]
 fn read_named(alloc: Global, mut fields: Fields) -> Result<Text, FormFault>
-    ensures { Answers (λ t. Some t) result (reading_of (rules.named (object_of fields))) }
+    ensures { AnswersReading (λ t. Some t) result (reading_of (rules.named (object_of fields))) }
 {
     let name = take_name(&mut fields)?;
     let _ = fields.end()?;
@@ -29,7 +30,7 @@ fn read_named(alloc: Global, mut fields: Fields) -> Result<Text, FormFault>
 // A text of at most 1,024 bytes, or 18 at its place.
 #[tactic(auto, unfolding(proto_json::specs::Kinds::short_text))]
 fn short_text(text: String, place: Place) -> Result<Text, FormFault>
-    ensures { Answers (λ t. Some t) result
+    ensures { AnswersReading (λ t. Some t) result
         (reading_of (kinds.short_text 18 place (string (string_bytes text)))) }
 {
     match Text::of(text) {
@@ -44,7 +45,7 @@ fn short_text(text: String, place: Place) -> Result<Text, FormFault>
 // The name in a value that is such an object.
 #[tactic(auto, using(proto_json::specs::Laws::reading_then), unfolding(crate::specs::Rules::object_named, proto_json::specs::Kinds::and_read))]
 fn read_object(alloc: Global, value: Value, place: Place) -> Result<Text, FormFault>
-    ensures { Answers (λ t. Some t) result (reading_of (rules.object_named place (view value))) }
+    ensures { AnswersReading (λ t. Some t) result (reading_of (rules.object_named place (view value))) }
 {
     let fields = Fields::of(value, place)?;
     let name = read_named(alloc, fields)?;
@@ -54,7 +55,7 @@ fn read_object(alloc: Global, value: Value, place: Place) -> Result<Text, FormFa
 // The name of a replaced rule.
 #[tactic(auto, unfolding(crate::specs::Rules::replaced))]
 fn read_replaced(alloc: Global, value: Value, place: Place) -> Result<Text, FormFault>
-    ensures { Answers (λ t. Some t) result (reading_of (rules.replaced place (view value))) }
+    ensures { AnswersReading (λ t. Some t) result (reading_of (rules.replaced place (view value))) }
 {
     match value {
         Value::String(text) => short_text(text, place),
@@ -80,7 +81,7 @@ fn push_there(names: &mut Vec<Text>, name: Text) -> Result<(), OutOfMemory>
 
 // The names in a list of replaced rules.
 fn read_names(alloc: Global, place: &Place, items: Vec<Value>) -> Result<Vec<Text>, FormFault>
-    ensures names { Answers (λ v. Some v.items) result
+    ensures names { AnswersReading (λ v. Some v.items) result
         (reading_of (rules.names_in place.now (items_view items.items))) }
     ensures few { IfOk result (λ v. length v.items ≤ length items.items) }
     ensures there { IfOk result (λ v. All (λ n. n ≢ []) v.items) }
@@ -102,7 +103,7 @@ fn read_names(alloc: Global, place: &Place, items: Vec<Value>) -> Result<Vec<Tex
 // The names in a list of at most 32 replaced rules.
 #[tactic(auto, using(crate::proofs::Replaces::items_len_view), unfolding(crate::specs::Rules::all_replaced))]
 fn read_all(alloc: Global, place: Place, items: Vec<Value>) -> Result<Replaced, FormFault>
-    ensures { Answers (λ r. Some r) result
+    ensures { AnswersReading (λ r. Some r) result
         (reading_of (rules.all_replaced place (items_view items.items))) }
 {
     if items.len() > 32 {

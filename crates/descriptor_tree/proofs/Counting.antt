@@ -4,7 +4,8 @@ use Rattle.std.specs.List.{slice_get}
 use Rattle.rate_types.specs.declared.refused.Refused.{Refused}
 use Rattle.rate_types.specs.declared.refused.At.{At}
 use Rattle.descriptor_tree.specs.Nodes.{Standing}
-use Rattle.descriptor_tree.specs.Faults.{first_or, counted, in_file, nodes_faults, node_faults}
+use Rattle.rate_types.specs.Reading.{first_or}
+use Rattle.descriptor_tree.specs.Faults.{counted, in_file, nodes_faults, node_faults}
 
 -- the first of some numbers at one place is the answer
 pub first_number : {X : Type 0} (ns : List ℕ) (n : ℕ) (at : ℕ → Refused) (to : Refused → At) (more : List Refused) (x : X) → slice_get ns 0 ≡ Some n → first_or (map to (map at ns ++ more)) x ≡ Err (to (at n))

@@ -8,11 +8,12 @@ use Rattle.std.specs.declared.hash.FoldHasher.{FoldHasher}
 use Rattle.std.specs.declared.hash.BuildHasherDefault.{BuildHasherDefault}
 use Rattle.rate_types.specs.declared.refused.At.{At}
 use Rattle.descriptor_tree.specs.declared.tree.Tree.{Tree}
-use Rattle.descriptor_tree.specs.declared.fault.ConfigFault.{ConfigFault}
-use Rattle.descriptor_tree.specs.declared.fault.ConfigFault.TheVariants as fault
+use Rattle.rate_types.specs.declared.fault.Fault.{Fault}
+use Rattle.rate_types.specs.declared.fault.Fault.TheVariants as fault
 use Rattle.descriptor_tree.specs.Trees.{tree_view}
 use Rattle.descriptor_tree.specs.Nodes.{tree_nodes}
-use Rattle.descriptor_tree.specs.Faults.{Answers, counted, in_file, is_empty, domain_numbers, domain_faults, nodes_faults, trees_faults, config_faults, first_or}
+use Rattle.rate_types.specs.Reading.{AnswersReading, first_or}
+use Rattle.descriptor_tree.specs.Faults.{counted, in_file, is_empty, domain_numbers, domain_faults, nodes_faults, trees_faults, config_faults}
 use Rattle.descriptor_tree.proofs.Seen.{Seen, seen_more, twin_from_new}
 use Rattle.descriptor_tree.proofs.Counting.{first_number, no_number, then_first, none_first}
 
@@ -52,7 +53,7 @@ twin_of : (all : List Tree) (i number : ℕ) (domains : Domains) (tree : Tree) (
     → not new ≡ list_any (λ d. bytes_eq d (tree_view tree).domain) w.earlier
 twin_of all i number domains tree k new w s = twin_from_new domain_eq has_domain domains w.earlier k new w.seen s.new_is ∙ ap (λ x. list_any (λ d. bytes_eq d x) w.earlier) s.domain
 
-is_answer : (e : ConfigFault) (at : At) (read : Result (Unit {0}) At) → ((x : At) → e ≡ fault.Refused x → x ≡ at) → read ≡ Err at → Answers {X = Unit {0}} {Y = Unit {0}} (λ u. u) (Err e) read
+is_answer : (e : Fault At) (at : At) (read : Result (Unit {0}) At) → ((x : At) → e ≡ fault.Refused x → x ≡ at) → read ≡ Err at → AnswersReading {X = Unit {0}} {Y = Unit {0}} (λ u. u) (Err e) read
 is_answer (fault.Refused x) at read only is = is ∙ ap Err (sym (only x refl))
 is_answer fault.OutOfMemory at read only is = tt
 
@@ -85,8 +86,8 @@ domain_passes all i number domains tree k new w s is =
 -- a node of the tree at hand is refused
 pub tree_stops : (all : List Tree) (i number : ℕ) (domains : Domains) (tree : Tree) (k : Domain) (new : Bool) (w : TreesWalked all i number domains) → Step domains all i tree k new
     → slice_get (domain_numbers (is_empty k.now) (not new)) 0 ≡ None
-    → (e : ConfigFault) → Answers {X = ℕ} {Y = ℕ} (λ n. n) (Err e) (counted i number (tree_nodes (tree_view tree)))
-    → Answers {X = Unit {0}} {Y = Unit {0}} (λ u. u) (Err e) (first_or (config_faults (map tree_view all)) tt)
+    → (e : Fault At) → AnswersReading {X = ℕ} {Y = ℕ} (λ n. n) (Err e) (counted i number (tree_nodes (tree_view tree)))
+    → AnswersReading {X = Unit {0}} {Y = Unit {0}} (λ u. u) (Err e) (first_or (config_faults (map tree_view all)) tt)
 tree_stops all i number domains tree k new w s none fault.OutOfMemory is = tt
 tree_stops all i number domains tree k new w s none (fault.Refused at) is =
     sym (domain_passes all i number domains tree k new w s none)

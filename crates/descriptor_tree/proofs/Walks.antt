@@ -10,11 +10,12 @@ use Rattle.std.specs.declared.hash.BuildHasherDefault.{BuildHasherDefault}
 use Rattle.rate_types.specs.Places.{child, item}
 use Rattle.rate_types.specs.declared.refused.At.{At}
 use Rattle.descriptor_tree.specs.declared.node.Node.{Node}
-use Rattle.descriptor_tree.specs.declared.fault.ConfigFault.{ConfigFault}
-use Rattle.descriptor_tree.specs.declared.fault.ConfigFault.TheVariants as fault
+use Rattle.rate_types.specs.declared.fault.Fault.{Fault}
+use Rattle.rate_types.specs.declared.fault.Fault.TheVariants as fault
 use Rattle.descriptor_tree.specs.Trees.{NodeFields, Branch, branch, Branches, and_branch, branches_of, fields_of, below_of, node_view}
 use Rattle.descriptor_tree.specs.Nodes.{Standing, forest_nodes}
-use Rattle.descriptor_tree.specs.Faults.{Answers, counted, in_file, is_empty, is_twin, node_numbers, nodes_faults, first_or}
+use Rattle.rate_types.specs.Reading.{AnswersReading, first_or}
+use Rattle.descriptor_tree.specs.Faults.{counted, in_file, is_empty, is_twin, node_numbers, nodes_faults}
 use Rattle.descriptor_tree.proofs.Seen.{Seen, seen_more, twin_from_new}
 use Rattle.descriptor_tree.proofs.Counting.{first_number, no_number, counted_then, counted_refused}
 
@@ -100,15 +101,15 @@ twin_of : (file : ℕ) (place : List ℕ) (level start : ℕ) (all : List Node) 
     → not new ≡ list_any (λ e. is_twin e (fields_of (node_view node))) w.earlier
 twin_of file place level start all i number names node k new w s = twin_is names w.earlier k (fields_of (node_view node)) new w.seen s.key s.value (twin_from_new name_eq has_name names w.earlier k new w.seen s.new_is)
 
-is_answer : (e : ConfigFault) (at : At) (read : Result ℕ At) → ((x : At) → e ≡ fault.Refused x → x ≡ at) → read ≡ Err at → Answers {X = ℕ} {Y = ℕ} (λ n. n) (Err e) read
+is_answer : (e : Fault At) (at : At) (read : Result ℕ At) → ((x : At) → e ≡ fault.Refused x → x ≡ at) → read ≡ Err at → AnswersReading {X = ℕ} {Y = ℕ} (λ n. n) (Err e) read
 is_answer (fault.Refused x) at read only is = is ∙ ap Err (sym (only x refl))
 is_answer fault.OutOfMemory at read only is = tt
 
 -- the node at hand is refused
 pub walk_stops : (file : ℕ) (place : List ℕ) (level start : ℕ) (all : List Node) (i number : ℕ) (names : Names) (node : Node) (k : Name) (new : Bool) (w : Walked file place level start all i number names) → Step names all i node k new
     → (n : ℕ) → slice_get (node_numbers (is_empty (fields_of (node_view node)).key) (not new) level number) 0 ≡ Some n
-    → (e : ConfigFault) → ((x : At) → e ≡ fault.Refused x → x ≡ in_file file (record { at = item place i; number = n }))
-    → Answers {X = ℕ} {Y = ℕ} (λ n. n) (Err e) (counted file start (forest_nodes place level 0 [] (branches_of (map node_view all))))
+    → (e : Fault At) → ((x : At) → e ≡ fault.Refused x → x ≡ in_file file (record { at = item place i; number = n }))
+    → AnswersReading {X = ℕ} {Y = ℕ} (λ n. n) (Err e) (counted file start (forest_nodes place level 0 [] (branches_of (map node_view all))))
 walk_stops file place level start all i number names node k new w s n is e only =
     is_answer e (in_file file (record { at = item place i; number = n })) _ only
     (sym (walked_node file place level start all i number names node w s.within s.at) ∙ node_refused file number place level i w.earlier (node_view node) _ (not new) n (twin_of file place level start all i number names node k new w s) is)
@@ -123,8 +124,8 @@ more_nodes place level i earlier all node = forest_nodes place level (i + 1) (fi
 -- a node below it is refused
 pub walk_below : (file : ℕ) (place : List ℕ) (level start : ℕ) (all : List Node) (i number : ℕ) (names : Names) (node : Node) (k : Name) (new : Bool) (w : Walked file place level start all i number names) → Step names all i node k new
     → slice_get (node_numbers (is_empty (fields_of (node_view node)).key) (not new) level number) 0 ≡ None
-    → (e : ConfigFault) → Answers {X = ℕ} {Y = ℕ} (λ n. n) (Err e) (counted file (number + 1) (forest_nodes (child (item place i) (codes "descriptors")) (level + 1) 0 [] (below_of (node_view node))))
-    → Answers {X = ℕ} {Y = ℕ} (λ n. n) (Err e) (counted file start (forest_nodes place level 0 [] (branches_of (map node_view all))))
+    → (e : Fault At) → AnswersReading {X = ℕ} {Y = ℕ} (λ n. n) (Err e) (counted file (number + 1) (forest_nodes (child (item place i) (codes "descriptors")) (level + 1) 0 [] (below_of (node_view node))))
+    → AnswersReading {X = ℕ} {Y = ℕ} (λ n. n) (Err e) (counted file start (forest_nodes place level 0 [] (branches_of (map node_view all))))
 walk_below file place level start all i number names node k new w s none fault.OutOfMemory below = tt
 walk_below file place level start all i number names node k new w s none (fault.Refused at) below =
     sym (walked_node file place level start all i number names node w s.within s.at)

@@ -3,10 +3,11 @@ use Rattle.std.specs.Prelude.{◌≡◌, ℕ, ◌+◌, ◌&&◌, List, [], ◌�
 use Rattle.std.specs.List.{list_any}
 use Rattle.std.specs.Option.{option_eq}
 use Rattle.std.specs.Str.{bytes_eq}
+use Rattle.rate_types.specs.Reading.{first_or}
 use Rattle.rate_types.specs.declared.refused.Refused.{Refused}
 use Rattle.rate_types.specs.declared.refused.At.{At}
-use Rattle.descriptor_tree.specs.declared.fault.ConfigFault.{ConfigFault}
-use Rattle.descriptor_tree.specs.declared.fault.ConfigFault.TheVariants as fault
+use Rattle.rate_types.specs.declared.fault.Fault.{Fault}
+use Rattle.rate_types.specs.declared.fault.Fault.TheVariants as fault
 use Rattle.descriptor_tree.specs.Trees.{NodeFields, DomainTree}
 use Rattle.descriptor_tree.specs.Nodes.{Standing, tree_nodes}
 
@@ -59,17 +60,6 @@ trees_faults file earlier number (tree ∷ more) =
 -- all faults of a configuration's trees
 unfoldable pub config_faults : List DomainTree → List At
 config_faults trees = trees_faults 0 [] 0 trees
-
--- the first fault, or this value where there is none
-abbrev pub first_or : {X : Type 0} → List At → X → Result X At
-first_or [] x = Ok x
-first_or (fault ∷ more) x = Err fault
-
--- A call answers the first fault, or the value as `see` sees it; want of memory is free.
-abbrev pub Answers : {X Y : Type 0} → (X → Y) → Result X ConfigFault → Result Y At → Type 0
-Answers see (Ok x) read = read ≡ Ok (see x)
-Answers see (Err (fault.Refused at)) read = read ≡ Err at
-Answers see (Err fault.OutOfMemory) read = ⊤
 
 -- the first fault of these nodes of a file, the first of them of this number, or the number of the next node
 abbrev pub counted : ℕ → ℕ → List Standing → Result ℕ At

@@ -5,11 +5,12 @@ ghost use Rattle.rate_types.specs.Places as places;
 ghost use Rattle.rate_types.specs.declared.refused.At.{At};
 ghost use Rattle.descriptor_tree.specs.Trees.{node_view, forest_view, fields_of, below_of, tree_view};
 ghost use Rattle.descriptor_tree.specs.Nodes.{forest_nodes, tree_nodes};
-ghost use Rattle.descriptor_tree.specs.Faults.{Answers, counted, in_file, is_empty, node_numbers, domain_numbers, config_faults, first_or};
+ghost use Rattle.rate_types.specs.Reading.{AnswersReading, first_or};
+ghost use Rattle.descriptor_tree.specs.Faults.{counted, in_file, is_empty, node_numbers, domain_numbers, config_faults};
 
 use crate::siblings::name_of;
 use crate::{ConfigFault, Forest, Node, Tree};
-use rate_types::{At, Place, Refused};
+use rate_types::{At, Fault, Place, Refused};
 use std::alloc::Global;
 use std::collections::HashSet;
 
@@ -33,15 +34,15 @@ fn first_number(node: &Node, twin: bool, level: u32, number: u64) -> Option<u32>
 
 // A refusal of an item of the list at this place.
 fn refused(alloc: Global, file: u64, place: &Place, index: u64, number: u32) -> ConfigFault
-    ensures { (at : At) → result ≡ ConfigFault.Refused at
+    ensures { (at : At) → result ≡ Fault.Refused at
         → at ≡ in_file file (record { at = item place.now index; number = number }) }
 {
     match place.item(alloc, index) {
-        Ok(at) => ConfigFault::Refused(At {
+        Ok(at) => Fault::Refused(At {
             file,
             refused: Refused { at, number },
         }),
-        Err(_) => ConfigFault::OutOfMemory,
+        Err(_) => Fault::OutOfMemory,
     }
 }
 
@@ -58,7 +59,7 @@ pub fn check_forest(
 ) -> Result<u64, ConfigFault>
     requires level { level ≤ 33 }
     requires number { number ≤ 65536 }
-    ensures first { Answers (λ n. n) result
+    ensures first { AnswersReading (λ n. n) result
         (counted file number (forest_nodes place.now level 0 [] (forest_view forest.now))) }
     ensures few { IfOk result (λ n. n ≤ 65536) }
 {
@@ -92,7 +93,7 @@ fn check_below(
 ) -> Result<u64, ConfigFault>
     requires level { level ≤ 32 }
     requires number { number ≤ 65536 }
-    ensures first { Answers (λ n. n) result
+    ensures first { AnswersReading (λ n. n) result
         (counted file number (forest_nodes (places.child (item place.now index) (codes "descriptors"))
         (level + 1) 0 [] (below_of (node_view node.now)))) }
     ensures few { IfOk result (λ n. n ≤ 65536) }
@@ -120,7 +121,7 @@ fn first_domain_number(domain: &str, twin: bool) -> Option<u32>
 // Checks the nodes of a tree.
 fn check_tree(alloc: Global, file: u64, tree: &Tree, number: u64) -> Result<u64, ConfigFault>
     requires number { number ≤ 65536 }
-    ensures first { Answers (λ n. n) result (counted file number (tree_nodes (tree_view tree.now))) }
+    ensures first { AnswersReading (λ n. n) result (counted file number (tree_nodes (tree_view tree.now))) }
     ensures few { IfOk result (λ n. n ≤ 65536) }
 {
     let at = Place::empty(alloc).child("descriptors")?;
@@ -129,9 +130,9 @@ fn check_tree(alloc: Global, file: u64, tree: &Tree, number: u64) -> Result<u64,
 
 // The refusal of a tree's domain.
 fn refused_domain(alloc: Global, file: u64, number: u32) -> ConfigFault
-    ensures { result ≡ ConfigFault.Refused (in_file file (record { at = []; number = number })) }
+    ensures { result ≡ Fault.Refused (in_file file (record { at = []; number = number })) }
 {
-    ConfigFault::Refused(At {
+    Fault::Refused(At {
         file,
         refused: Refused {
             at: Place::empty(alloc),
@@ -142,7 +143,7 @@ fn refused_domain(alloc: Global, file: u64, number: u32) -> ConfigFault
 
 /// Checks the trees one after the other.
 pub fn check_trees(alloc: Global, trees: &[Tree]) -> Result<(), ConfigFault>
-    ensures { Answers (λ u. u) result (first_or (config_faults (map tree_view trees.now)) tt) }
+    ensures { AnswersReading (λ u. u) result (first_or (config_faults (map tree_view trees.now)) tt) }
 {
     let mut domains = HashSet::new(alloc);
     let mut number = 0;

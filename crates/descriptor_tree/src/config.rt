@@ -17,7 +17,7 @@ pub struct Config {
 
 impl Config {
     ghost use Rattle.std.specs.List.{All};
-    ghost use Rattle.descriptor_tree.specs.Faults.{Answers, first_or};
+    ghost use Rattle.rate_types.specs.Reading.{AnswersReading, first_or};
     ghost use Rattle.descriptor_tree.specs.Config.{AreWellFormed};
     ghost use Rattle.descriptor_tree.specs.Views.{config_view};
 
@@ -28,7 +28,7 @@ impl Config {
     pub fn build(alloc: Global, trees: Vec<Tree>) -> Result<Config, ConfigFault>
         requires { All (λ t. AreWellFormed t.forest) (map tree_view trees.items) }
         ensures { let spelled = map tree_view trees.items in
-            Answers config_view result (first_or (config_faults spelled) spelled) }
+            AnswersReading config_view result (first_or (config_faults spelled) spelled) }
     {
         match check_trees(alloc, &trees) {
             Ok(()) => Ok(Config { trees }),

@@ -1,5 +1,5 @@
 -- The flat form of a configuration's trees: for each tree its domain, and a rule for each node of its only level.
-use Rattle.std.specs.Prelude.{◌≡◌, ℕ, ◌+◌, ◌==◌, ◌&&◌, List, [], ◌∷◌, length, codes, Bool, true, false, not, if◌then◌else◌, Option, None, Some, Result, Ok, Err, ⊤}
+use Rattle.std.specs.Prelude.{ℕ, ◌+◌, ◌==◌, ◌&&◌, List, [], ◌∷◌, length, codes, Bool, true, false, not, if◌then◌else◌, Option, None, Some, Result, Ok, Err}
 use Rattle.std.specs.List.{ends_with}
 use Rattle.std.specs.Option.{is_none}
 use Rattle.descriptor_tree.specs.declared.policy.Policy.{Policy}
@@ -8,8 +8,7 @@ use Rattle.descriptor_tree.specs.Trees.{NodeFields, Branch, branch, Branches, no
 use Rattle.descriptor_tree.specs.Nodes.{tree_nodes}
 use Rattle.rule_lookup.specs.declared.flat.FlatRule.{FlatRule}
 use Rattle.rule_lookup.specs.declared.flat.FlatConfig.{FlatConfig}
-use Rattle.flat_config.specs.declared.fault.FlatFault.{FlatFault}
-use Rattle.flat_config.specs.declared.fault.FlatFault.TheVariants as fault
+use Rattle.flat_config.specs.declared.fault.NotFlat.{NotFlat}
 
 -- a value that ends in `*`
 abbrev pub is_wildcard : Option (List ℕ) → Bool
@@ -47,23 +46,17 @@ rules_of number no_branches = Some []
 rules_of number (and_branch b more) = before (rule_of number b) (rules_of (number + 1) more)
 
 -- a tree of this index with its rules, before others; it comes first where it isn't flat
-abbrev pub tree_before : ℕ → List ℕ → Option (List FlatRule) → Result (List FlatConfig) ℕ → Result (List FlatConfig) ℕ
-tree_before index domain None more = Err index
+abbrev pub tree_before : ℕ → List ℕ → Option (List FlatRule) → Result (List FlatConfig) NotFlat → Result (List FlatConfig) NotFlat
+tree_before index domain None more = Err (record { tree = index })
 tree_before index domain (Some rules) (Err other) = Err other
 tree_before index domain (Some rules) (Ok more) = Ok (record { domain = domain; rules = rules } ∷ more)
 
 -- the flat form of trees from this index on, the first of their nodes having this number
-abbrev pub flat_from : ℕ → ℕ → List DomainTree → Result (List FlatConfig) ℕ
+abbrev pub flat_from : ℕ → ℕ → List DomainTree → Result (List FlatConfig) NotFlat
 flat_from index number [] = Ok []
 flat_from index number (tree ∷ more) = tree_before index tree.domain (rules_of number tree.forest) (flat_from (index + 1) (number + length (tree_nodes tree)) more)
 
 -- The flat form of a configuration's trees, or the index of the first tree with a node that isn't flat. A rule's number
 -- is its node's place among the nodes of all trees in preorder.
-unfoldable pub flat_of : List DomainTree → Result (List FlatConfig) ℕ
+unfoldable pub flat_of : List DomainTree → Result (List FlatConfig) NotFlat
 flat_of trees = flat_from 0 0 trees
-
--- A call answers the flat form, or the tree that has none; want of memory is free.
-abbrev pub Answers : Result (List FlatConfig) FlatFault → Result (List FlatConfig) ℕ → Type 0
-Answers (Ok made) flat = flat ≡ Ok made
-Answers (Err (fault.NotFlat tree)) flat = flat ≡ Err tree
-Answers (Err fault.OutOfMemory) flat = ⊤

@@ -10,7 +10,7 @@ mod fault;
 mod level;
 mod trees;
 
-pub use fault::FlatFault;
+pub use fault::{FlatFault, NotFlat};
 pub use trees::flatten;
 
 #[cfg(test)]

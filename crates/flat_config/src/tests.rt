@@ -2,7 +2,7 @@ ghost use Rattle.std.specs.Prelude.{◌≡◌, ◌≢◌, [], Some, IfOk};
 ghost use Rattle.descriptor_tree.specs.Trees.{node_view, tree_view};
 ghost use Rattle.descriptor_tree.specs.Config.{AreWellFormed, IsWellFormedBranch};
 
-use crate::{FlatFault, flatten};
+use crate::{FlatFault, NotFlat, flatten};
 use descriptor_tree::{Config, ConfigFault, Forest, Node, Policy, Texts, Tree};
 use rate_types::{Text, Unit};
 use std::alloc::Global;
@@ -81,7 +81,7 @@ fn shown(alloc: Global, config: &Config) -> Result<String, Fail> {
                 out.push_str(";")?;
             }
         }
-        Err(FlatFault::NotFlat { tree }) => {
+        Err(FlatFault::Refused(NotFlat { tree })) => {
             let refusal = format!(in alloc; "tree {} isn't flat", tree)?;
             out.push_str(refusal.as_str())?;
         }

@@ -1,7 +1,8 @@
 ghost use Rattle.descriptor_tree.specs.Views.{config_view};
-ghost use Rattle.flat_config.specs.Flat.{Answers, flat_of};
+ghost use Rattle.rate_types.specs.Reading.{AnswersReading};
+ghost use Rattle.flat_config.specs.Flat.{flat_of};
 
-use crate::FlatFault;
+use crate::{FlatFault, NotFlat};
 use crate::level::rules_of;
 use descriptor_tree::Config;
 use rule_lookup::{FlatConfig, FlatConfigs};
@@ -11,7 +12,7 @@ use std::alloc::Global;
 /// comes exactly where a tree has a node that isn't flat, and names the first such tree. Texts are copied; the
 /// configuration stays as it is. It takes linear time.
 pub fn flatten(alloc: Global, config: &Config) -> Result<FlatConfigs, FlatFault>
-    ensures { Answers result (flat_of (config_view config.now)) }
+    ensures { AnswersReading (λ made. made) result (flat_of (config_view config.now)) }
 {
     let trees = config.trees();
     let mut made = Vec::new(alloc);
@@ -20,7 +21,7 @@ pub fn flatten(alloc: Global, config: &Config) -> Result<FlatConfigs, FlatFault>
         let tree = &trees[index];
         let nodes = tree.forest.items();
         let Some(rules) = rules_of(alloc, nodes, number)? else {
-            return Err(FlatFault::NotFlat { tree: index as u64 });
+            return Err(FlatFault::Refused(NotFlat { tree: index as u64 }));
         };
         let domain = tree.domain.copy()?;
         made.push(FlatConfig { domain, rules })?;

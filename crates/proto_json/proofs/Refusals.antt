@@ -5,9 +5,10 @@ use Rattle.serde_json.specs.View.{members_view}
 use Rattle.serde_json.specs.declared.value.Value.{Value}
 use Rattle.rate_types.specs.declared.refused.Refused.{Refused}
 use Rattle.rate_types.specs.Places.{child}
-use Rattle.proto_json.specs.Said.{said, reading_of, IsRefusal}
-use Rattle.proto_json.specs.declared.fault.FormFault.{FormFault}
-use Rattle.proto_json.specs.declared.fault.FormFault.TheVariants as fault
+use Rattle.rate_types.specs.Reading.{IsRefusal}
+use Rattle.proto_json.specs.Said.{said, reading_of}
+use Rattle.rate_types.specs.declared.fault.Fault.{Fault}
+use Rattle.rate_types.specs.declared.fault.Fault.TheVariants as fault
 use Rattle.proto_json.specs.Fields.{left_over}
 
 pub least_left : (place : List ℕ) (es : List (String Global × Value)) (name : String Global) (value : Value) → slice_get es 0 ≡ Some (name, value)
@@ -21,6 +22,6 @@ least_left place (m ∷ es) name value is = ap (λ (k : String Global). Err (rec
     same : m.0 ≡ name
     same = cc
 
-pub is_refusal : {X : Type 0} (e : FormFault) (r : Refused) (read : Result X Refused) → ((x : Refused) → e ≡ fault.Refused x → x ≡ r) → read ≡ Err r → IsRefusal e read
+pub is_refusal : {X : Type 0} (e : Fault Refused) (r : Refused) (read : Result X Refused) → ((x : Refused) → e ≡ fault.Refused x → x ≡ r) → read ≡ Err r → IsRefusal e read
 is_refusal (fault.Refused x) r read only is = is ∙ ap Err (sym (only x refl))
 is_refusal fault.OutOfMemory r read only is = tt

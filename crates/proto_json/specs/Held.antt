@@ -2,9 +2,11 @@
 use Rattle.std.specs.Prelude.{List, ℕ, Option, Result}
 use Rattle.serde_json.specs.Data.{Data}
 use Rattle.serde_json.specs.View.{view, members_view}
-use Rattle.proto_json.specs.Said.{Said, Answers, reading_of}
+use Rattle.rate_types.specs.Reading.{AnswersReading}
+use Rattle.proto_json.specs.Said.{Said, reading_of}
 use Rattle.proto_json.specs.Fields.{Object, Name, Found, absent, once, twice, take}
-use Rattle.proto_json.specs.declared.fault.FormFault.{FormFault}
+use Rattle.rate_types.specs.declared.refused.Refused.{Refused}
+use Rattle.rate_types.specs.declared.fault.Fault.{Fault}
 use Rattle.proto_json.specs.declared.fields.Fields.{Fields}
 use Rattle.proto_json.specs.declared.fields.Standing.{Standing}
 use Rattle.proto_json.specs.declared.fields.Standing.TheVariants as standing
@@ -23,5 +25,5 @@ found_of (standing.Once spelling value) = once spelling.now (view value)
 found_of standing.Twice = twice
 
 -- A take answers what the field says, as a value of this kind, and leaves the object without the field.
-abbrev pub Takes : {R X : Type 0} → (Option R → Option X) → (List ℕ → Data → Said (Option X)) → Name → Object → Result (Option R) FormFault → Object → Type 0
-Takes see kind name before result left = Answers (λ o. (see o, left)) result (reading_of (take kind name before))
+abbrev pub Takes : {R X : Type 0} → (Option R → Option X) → (List ℕ → Data → Said (Option X)) → Name → Object → Result (Option R) (Fault Refused) → Object → Type 0
+Takes see kind name before result left = AnswersReading (λ o. (see o, left)) result (reading_of (take kind name before))

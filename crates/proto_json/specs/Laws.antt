@@ -10,9 +10,10 @@ use Rattle.rate_types.specs.declared.refused.Refused.{Refused}
 use Rattle.rate_types.specs.Places as places
 use Rattle.rate_types.specs.Places.{child}
 use Rattle.serde_json.specs.Data.{Data, null, boolean, number, string, array, object, Items, no_items, item, Members, no_members, member}
-use Rattle.proto_json.specs.declared.fault.FormFault.{FormFault}
-use Rattle.proto_json.specs.declared.fault.FormFault.TheVariants as fault
-use Rattle.proto_json.specs.Said.{Said, said, says, preceded, reading_of, IsRefusal, ◌>>=◌}
+use Rattle.rate_types.specs.declared.fault.Fault.{Fault}
+use Rattle.rate_types.specs.declared.fault.Fault.TheVariants as fault
+use Rattle.rate_types.specs.Reading.{IsRefusal}
+use Rattle.proto_json.specs.Said.{Said, said, says, preceded, reading_of, ◌>>=◌}
 use Rattle.proto_json.specs.Fields.{Name, Object, Found, absent, once, twice, found_by, find, without, without_both, standing_of, standing, field, take, after, read_as, field_place, found_place}
 use Rattle.proto_json.specs.Kinds.{and_read, read_some}
 use Rattle.serde_json.specs.Find.{get_member}
@@ -190,7 +191,7 @@ items_more {X = X} read place index front d ds x is = ap (behind front) one ∙ 
         ∙ reading_then (items_from read place (index + 1) ds) (λ xs. says (with_first (Some x) xs))
 
 -- an item is refused, and so is the list
-pub items_refused : {X : Type 0} (read : List ℕ → Data → Said (Option X)) (place : List ℕ) (index : ℕ) (front : List X) (d : Data) (ds : Items) (e : FormFault) → IsRefusal e (reading_of (read (places.item place index) d))
+pub items_refused : {X : Type 0} (read : List ℕ → Data → Said (Option X)) (place : List ℕ) (index : ℕ) (front : List X) (d : Data) (ds : Items) (e : Fault Refused) → IsRefusal e (reading_of (read (places.item place index) d))
     → IsRefusal e (behind front (reading_of (items_from read place index (item d ds))))
 unfolding items_from
 items_refused {X = X} read place index front d ds (fault.Refused r) is = ap (behind front) one

@@ -1,8 +1,7 @@
 -- What a part of a document says: all faults in it, in order, and its value.
-use Rattle.std.specs.Prelude.{◌≡◌, ℕ, List, [], ◌∷◌, ◌++◌, Option, None, Result, Ok, Err, ⊤}
+use Rattle.std.specs.Prelude.{ℕ, List, [], ◌∷◌, ◌++◌, Option, None, Result}
 use Rattle.rate_types.specs.declared.refused.Refused.{Refused}
-use Rattle.proto_json.specs.declared.fault.FormFault.{FormFault}
-use Rattle.proto_json.specs.declared.fault.FormFault.TheVariants as fault
+use Rattle.rate_types.specs.Reading.{first_or}
 
 -- All faults, in order, and the value that is read beside them. Behind a fault the value has no meaning: faults that
 -- follow from it may stand behind it, since the first one alone is the answer.
@@ -36,15 +35,4 @@ abbrev pub ◌>>=◌ : {X Y : Type 0} → Said X → (X → Said Y) → Said Y
 
 -- The reading: the first fault, or the value where there is none.
 abbrev pub reading_of : {X : Type 0} → Said X → Result X Refused
-reading_of (said [] x) = Ok x
-reading_of (said (fault ∷ more) x) = Err fault
-
--- A refusal is the reading; want of memory is free.
-abbrev pub IsRefusal : {X : Type 0} → FormFault → Result X Refused → Type 0
-IsRefusal (fault.Refused refused) read = read ≡ Err refused
-IsRefusal fault.OutOfMemory read = ⊤
-
--- A reader answers the reading, its value as `see` sees it.
-abbrev pub Answers : {X Y : Type 0} → (X → Y) → Result X FormFault → Result Y Refused → Type 0
-Answers see (Ok x) read = read ≡ Ok (see x)
-Answers see (Err e) read = IsRefusal e read
+reading_of (said found x) = first_or found x

@@ -1,6 +1,7 @@
 ghost use Rattle.std.specs.Prelude.{Some};
 ghost use Rattle.serde_json.specs.View.{view};
-ghost use Rattle.proto_json.specs.Said.{Answers, reading_of};
+ghost use Rattle.rate_types.specs.Reading.{AnswersReading};
+ghost use Rattle.proto_json.specs.Said.{reading_of};
 ghost use Rattle.proto_json.specs.Document.{document};
 
 use crate::FormFault;
@@ -12,7 +13,7 @@ use std::alloc::Global;
 /// BadJson at the empty place.
 #[tactic(auto, unfolding(crate::specs::Document::document))]
 pub fn parse(alloc: Global, bytes: &[u8]) -> Result<Value, FormFault>
-    ensures { Answers (λ v. Some (view v)) result (reading_of (document bytes.now)) }
+    ensures { AnswersReading (λ v. Some (view v)) result (reading_of (document bytes.now)) }
 {
     match Value::from_slice(alloc, bytes) {
         Ok(value) => Ok(value),

@@ -5,14 +5,17 @@ ghost use Rattle.serde_json.specs.Find.{get_member};
 ghost use Rattle.serde_json.specs.View.{view, items_view, members_view};
 ghost use Rattle.rate_types.specs.Places.{child};
 ghost use Rattle.rate_types.specs.declared.refused.Refused.{Refused};
-ghost use Rattle.proto_json.specs.Said.{Answers, reading_of};
+ghost use Rattle.rate_types.specs.Reading.{AnswersReading};
+ghost use Rattle.proto_json.specs.Said.{reading_of};
 ghost use Rattle.proto_json.specs.Held.{object_of, name_of, found_of, Takes};
 ghost use Rattle.proto_json.specs.Fields as fields;
 ghost use Rattle.proto_json.specs.Kinds as kinds;
 
 use crate::FormFault;
 use crate::kinds::{into_list, into_object, into_text, unit_named, whole_of};
-use rate_types::{DurationFault, Millis, OutOfMemory, Place, Refused, Text, Unit, read_duration};
+use rate_types::{
+    DurationFault, Fault, Millis, OutOfMemory, Place, Refused, Text, Unit, read_duration,
+};
 use serde_json::{Map, Value};
 
 /// What stands in an object for a field, with the spelling that stands there.
@@ -78,7 +81,7 @@ impl Fields {
     /// The fields of an object. Another value is refused with 2 NotObject at its place.
     #[tactic(auto, unfolding(crate::specs::Held::object_of, crate::specs::Kinds::message))]
     pub fn of(value: Value, place: Place) -> Result<Fields, FormFault>
-        ensures { Answers (λ f. Some (object_of f)) result (reading_of (kinds.message place (view value))) }
+        ensures { AnswersReading (λ f. Some (object_of f)) result (reading_of (kinds.message place (view value))) }
     {
         match into_object(value) {
             Some(members) => Ok(Fields { place, members }),
@@ -136,7 +139,7 @@ impl Fields {
         camel: &'a str,
         plain: &'a str,
     ) -> Result<Option<(&'a str, Value)>, FormFault>
-        ensures said { Answers (option_map (λ it. (it.0.now, view it.1))) result
+        ensures said { AnswersReading (option_map (λ it. (it.0.now, view it.1))) result
             (reading_of (fields.standing (name_of camel.now plain.now) (object_of self.old))) }
         ensures left { object_of self.new
             ≡ fields.after (name_of camel.now plain.now) (object_of self.old) }
@@ -154,7 +157,7 @@ impl Fields {
     // The refusal of a field.
     #[tactic(auto, unfolding(crate::specs::Held::object_of))]
     fn refused(&self, spelling: &str, number: u32) -> FormFault
-        ensures { (refused : Refused) → result ≡ FormFault.Refused refused
+        ensures { (refused : Refused) → result ≡ Fault.Refused refused
             → refused ≡ record { at = child (object_of self.now).place spelling.now; number = number } }
     {
         match self.place.child(spelling) {
@@ -359,7 +362,7 @@ impl Fields {
     /// UnknownField.
     #[tactic(auto, unfolding(crate::specs::Held::object_of, crate::specs::Fields::ends))]
     pub fn end(self) -> Result<Place, FormFault>
-        ensures { Answers (λ p. p) result (reading_of (fields.ends (object_of self))) }
+        ensures { AnswersReading (λ p. p) result (reading_of (fields.ends (object_of self))) }
     {
         match self.members.first_key_value() {
             None => Ok(self.place),

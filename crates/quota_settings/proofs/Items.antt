@@ -5,8 +5,9 @@ use Rattle.rate_types.specs.declared.refused.Refused.{Refused}
 use Rattle.serde_json.specs.Data.{Data}
 use Rattle.serde_json.specs.View.{view, items_view}
 use Rattle.serde_json.specs.declared.value.Value.{Value}
-use Rattle.proto_json.specs.declared.fault.FormFault.{FormFault}
-use Rattle.proto_json.specs.Said.{Said, reading_of, IsRefusal}
+use Rattle.rate_types.specs.declared.fault.Fault.{Fault}
+use Rattle.rate_types.specs.Reading.{IsRefusal}
+use Rattle.proto_json.specs.Said.{Said, reading_of}
 use Rattle.proto_json.specs.Laws.{behind, items_none, items_more, items_refused}
 use Rattle.proto_json.specs.Lists.{items_from}
 
@@ -19,7 +20,7 @@ pub items_so_far_more : {X : Type 0} (read : List ℕ → Data → Said (Option 
 items_so_far_more read place all rest more index xs v x so_far is one =
     sym (items_more read place index xs (view v) (items_view more) x one) ∙ subst (λ (vs : List Value). ItemsSoFar read place all vs index xs) is so_far
 
-pub items_so_far_refused : {X : Type 0} (read : List ℕ → Data → Said (Option X)) (place : List ℕ) (all rest more : List Value) (index : ℕ) (xs : List X) (v : Value) (e : FormFault)
+pub items_so_far_refused : {X : Type 0} (read : List ℕ → Data → Said (Option X)) (place : List ℕ) (all rest more : List Value) (index : ℕ) (xs : List X) (v : Value) (e : Fault Refused)
     → ItemsSoFar read place all rest index xs → rest ≡ v ∷ more → IsRefusal e (reading_of (read (places.item place index) (view v))) → IsRefusal e (reading_of (items_from read place 0 (items_view all)))
 items_so_far_refused {X = X} read place all rest more index xs v e so_far is refused =
     subst (λ (r : Result (Option (List X)) Refused). IsRefusal e r) (subst (λ (vs : List Value). ItemsSoFar read place all vs index xs) is so_far) (items_refused read place index xs (view v) (items_view more) e refused)

@@ -13,9 +13,10 @@ use Rattle.rate_types.specs.declared.refused.Refused.{Refused}
 use Rattle.serde_json.specs.Data.{Data, Members, no_members, member}
 use Rattle.serde_json.specs.View.{view, members_view}
 use Rattle.serde_json.specs.declared.value.Value.{Value}
-use Rattle.proto_json.specs.declared.fault.FormFault.{FormFault}
-use Rattle.proto_json.specs.declared.fault.FormFault.TheVariants as fault
-use Rattle.proto_json.specs.Said.{Said, says, refuses, reading_of, IsRefusal, ◌>>=◌}
+use Rattle.rate_types.specs.declared.fault.Fault.{Fault}
+use Rattle.rate_types.specs.declared.fault.Fault.TheVariants as fault
+use Rattle.rate_types.specs.Reading.{IsRefusal}
+use Rattle.proto_json.specs.Said.{Said, says, refuses, reading_of, ◌>>=◌}
 use Rattle.proto_json.specs.Laws.{then_read, reading_then, behind}
 use Rattle.proto_json.specs.Lists.{with_first}
 use Rattle.quota_settings.specs.NamedMembers.{members_in, short_name, named}
@@ -53,7 +54,7 @@ members_more read place name front d ms x is =
     ∙ behind_more front x (reading_of (members_in read place ms))
 
 -- a member is refused, and so is the object
-pub members_refused : {X : Type 0} (read : List ℕ → List ℕ → Data → Said (Option X)) (place name : List ℕ) (front : List X) (d : Data) (ms : Members) (e : FormFault) → IsRefusal e (reading_of (read place name d))
+pub members_refused : {X : Type 0} (read : List ℕ → List ℕ → Data → Said (Option X)) (place name : List ℕ) (front : List X) (d : Data) (ms : Members) (e : Fault Refused) → IsRefusal e (reading_of (read place name d))
     → IsRefusal e (behind front (reading_of (members_in read place (member name d ms))))
 members_refused read place name front d ms (fault.Refused r) is =
     ap (behind front) (members_step read place name d ms ∙ ap (λ q. then_read q (λ y. then_read (reading_of (members_in read place ms)) (λ xs. Ok (with_first y xs)))) is)
@@ -75,7 +76,7 @@ pub so_far_more : {X : Type 0} (read : List ℕ → List ℕ → Data → Said (
 so_far_more read place all rest more xs name v x so_far is one =
     sym (members_more read place (string_bytes name) xs (view v) (members_view more) x one) ∙ subst (λ (es : List Entry). ReadSoFar read place all es xs) is so_far
 
-pub so_far_refused : {X : Type 0} (read : List ℕ → List ℕ → Data → Said (Option X)) (place : List ℕ) (all rest more : List Entry) (xs : List X) (name : String Global) (v : Value) (e : FormFault)
+pub so_far_refused : {X : Type 0} (read : List ℕ → List ℕ → Data → Said (Option X)) (place : List ℕ) (all rest more : List Entry) (xs : List X) (name : String Global) (v : Value) (e : Fault Refused)
     → ReadSoFar read place all rest xs → rest ≡ (name, v) ∷ more → IsRefusal e (reading_of (read place (string_bytes name) (view v))) → IsRefusal e (reading_of (members_in read place (members_view all)))
 so_far_refused {X = X} read place all rest more xs name v e so_far is refused =
     subst (λ (r : Result (Option (List X)) Refused). IsRefusal e r) (subst (λ (es : List Entry). ReadSoFar read place all es xs) is so_far) (members_refused read place (string_bytes name) xs (view v) (members_view more) e refused)

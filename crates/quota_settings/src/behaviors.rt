@@ -1,6 +1,7 @@
 ghost use Rattle.std.specs.Prelude.{◌≡◌, Some};
 ghost use Rattle.proto_json.specs.Held.{object_of, Takes};
-ghost use Rattle.proto_json.specs.Said.{Answers, reading_of};
+ghost use Rattle.rate_types.specs.Reading.{AnswersReading};
+ghost use Rattle.proto_json.specs.Said.{reading_of};
 ghost use Rattle.quota_settings.specs.FieldNames as names;
 ghost use Rattle.quota_settings.specs.ReadBehaviors as reading;
 
@@ -14,7 +15,7 @@ use rate_types::{Millis, Place, Refused};
 // The strategy before the first assignment.
 #[tactic(auto, using(proto_json::specs::Laws::reading_then), unfolding(crate::specs::ReadBehaviors::unassigned_in))]
 fn unassigned_in(mut fields: Fields) -> Result<Strategy, FormFault>
-    ensures { Answers (λ s. Some s) result (reading_of (reading.unassigned_in (object_of fields))) }
+    ensures { AnswersReading (λ s. Some s) result (reading_of (reading.unassigned_in (object_of fields))) }
 {
     let fallback = take_fallback(&mut fields)?;
     let _ = fields.end()?;
@@ -39,7 +40,7 @@ pub fn take_unassigned(fields: &mut Fields) -> Result<Option<Strategy>, FormFaul
 // The place of an object without fields.
 #[tactic(auto, using(proto_json::specs::Laws::reading_then), unfolding(crate::specs::ReadBehaviors::empty_in))]
 fn read_empty(fields: Fields) -> Result<Place, FormFault>
-    ensures { Answers (λ p. Some p) result (reading_of (reading.empty_in (object_of fields))) }
+    ensures { AnswersReading (λ p. Some p) result (reading_of (reading.empty_in (object_of fields))) }
 {
     let place = fields.end()?;
     Ok(place)
@@ -89,7 +90,7 @@ fn expiry_of(
     fallback: Option<Strategy>,
     reuse: Option<Place>,
 ) -> Result<Expiry, FormFault>
-    ensures { Answers (λ e. Some e) result
+    ensures { AnswersReading (λ e. Some e) result
         (reading_of (reading.expiry_rules at timeout fallback reuse)) }
 {
     let Some(behavior) = at_expiry(fallback, reuse) else {
@@ -104,7 +105,7 @@ fn expiry_of(
 // What a bucket does after its assignment expired, of the behaviour's fields.
 #[tactic(auto, using(proto_json::specs::Laws::reading_then), unfolding(crate::specs::ReadBehaviors::expiry_in))]
 fn expiry_in(mut fields: Fields) -> Result<Expiry, FormFault>
-    ensures { Answers (λ e. Some e) result (reading_of (reading.expiry_in (object_of fields))) }
+    ensures { AnswersReading (λ e. Some e) result (reading_of (reading.expiry_in (object_of fields))) }
 {
     let timeout = take_timeout(&mut fields)?;
     let fallback = take_fallback(&mut fields)?;

@@ -2,7 +2,8 @@ ghost use Rattle.std.specs.Prelude.{◌≡◌, IfOk, Some};
 ghost use Rattle.serde_json.specs.View.{view, members_view};
 ghost use Rattle.proto_json.specs.Fields.{field_place};
 ghost use Rattle.proto_json.specs.Held.{object_of, Takes};
-ghost use Rattle.proto_json.specs.Said.{Answers, reading_of};
+ghost use Rattle.rate_types.specs.Reading.{AnswersReading};
+ghost use Rattle.proto_json.specs.Said.{reading_of};
 ghost use Rattle.quota_settings.specs.FieldNames as names;
 ghost use Rattle.quota_settings.specs.NamedMembers.{members_in};
 ghost use Rattle.quota_settings.specs.Pairs.{IsSorted};
@@ -20,7 +21,7 @@ use std::alloc::Global;
 // The pair of a name and its value.
 #[tactic(auto, using(proto_json::specs::Laws::reading_then), unfolding(crate::specs::ReadAttributes::pair_at, crate::specs::NamedMembers::named, crate::specs::NamedMembers::short_name))]
 fn read_pair(place: &Place, name: Text, value: Value) -> Result<Pair, FormFault>
-    ensures { Answers (λ p. Some p) result (reading_of (reading.pair_at place.now name (view value))) }
+    ensures { AnswersReading (λ p. Some p) result (reading_of (reading.pair_at place.now name (view value))) }
 {
     let at = place.child(name.as_str())?;
     let value = read_text(value, at)?;
@@ -33,7 +34,7 @@ fn read_pairs(
     place: Place,
     members: Map<String, Value>,
 ) -> Result<Vec<Pair>, FormFault>
-    ensures said { Answers (λ v. Some v.items) result
+    ensures said { AnswersReading (λ v. Some v.items) result
         (reading_of (members_in reading.pair_at place (members_view members.entries))) }
     ensures sorted { IfOk result (λ v. IsSorted v.items) }
 {
@@ -84,7 +85,7 @@ impl Attributes {
     /// object with 2 NotObject.
     #[tactic(auto, using(proto_json::specs::Laws::reading_then), unfolding(crate::specs::ReadAttributes::attributes, crate::specs::ReadAttributes::pairs_in, proto_json::specs::Kinds::and_read, proto_json::specs::Kinds::message))]
     pub fn read(alloc: Global, value: Value, place: Place) -> Result<Attributes, FormFault>
-        ensures { Answers (λ a. Some a) result (reading_of (reading.attributes place (view value))) }
+        ensures { AnswersReading (λ a. Some a) result (reading_of (reading.attributes place (view value))) }
     {
         match value {
             Value::Object(members) => {

@@ -1,7 +1,8 @@
 ghost use Rattle.std.specs.Prelude.{◌≡◌, [], Some, unwrap_or};
 ghost use Rattle.serde_json.specs.View.{view};
 ghost use Rattle.proto_json.specs.Held.{object_of};
-ghost use Rattle.proto_json.specs.Said.{Answers, reading_of};
+ghost use Rattle.rate_types.specs.Reading.{AnswersReading};
+ghost use Rattle.proto_json.specs.Said.{reading_of};
 ghost use Rattle.quota_settings.specs.ReadSettings as reading;
 
 use crate::attributes::Attributes;
@@ -39,7 +40,7 @@ fn bucket_of(
     unassigned: Strategy,
     expiry: Expiry,
 ) -> Result<BucketSettings, FormFault>
-    ensures { Answers (λ s. Some s) result
+    ensures { AnswersReading (λ s. Some s) result
         (reading_of (reading.bucket_rules at matches parts (unwrap_or interval 0) unassigned expiry)) }
 {
     let Some(reporting) = positive(interval) else {
@@ -63,7 +64,7 @@ fn bucket_of(
 // The settings of one kind of bucket, of their fields.
 #[tactic(auto, using(proto_json::specs::Laws::reading_then), unfolding(crate::specs::ReadSettings::bucket_in))]
 fn bucket_in(alloc: Global, mut fields: Fields) -> Result<BucketSettings, FormFault>
-    ensures { Answers (λ s. Some s) result (reading_of (reading.bucket_in (object_of fields))) }
+    ensures { AnswersReading (λ s. Some s) result (reading_of (reading.bucket_in (object_of fields))) }
 {
     let matches = take_match(alloc, &mut fields)?;
     let parts = take_builder(alloc, &mut fields)?;
@@ -85,7 +86,7 @@ fn bucket_in(alloc: Global, mut fields: Fields) -> Result<BucketSettings, FormFa
 /// Reads the settings of one kind of bucket.
 #[tactic(auto, using(proto_json::specs::Laws::reading_then), unfolding(proto_json::specs::Kinds::and_read))]
 pub fn read_bucket(alloc: Global, value: Value, at: Place) -> Result<BucketSettings, FormFault>
-    ensures { Answers (λ s. Some s) result (reading_of (reading.bucket at (view value))) }
+    ensures { AnswersReading (λ s. Some s) result (reading_of (reading.bucket at (view value))) }
 {
     let fields = Fields::of(value, at)?;
     let bucket = bucket_in(alloc, fields)?;

@@ -2,7 +2,8 @@ ghost use Rattle.std.specs.Prelude.{◌≡◌, IfOk, Some, option_map};
 ghost use Rattle.serde_json.specs.View.{view, members_view};
 ghost use Rattle.proto_json.specs.Fields.{field_place};
 ghost use Rattle.proto_json.specs.Held.{object_of, Takes};
-ghost use Rattle.proto_json.specs.Said.{Answers, reading_of};
+ghost use Rattle.rate_types.specs.Reading.{AnswersReading};
+ghost use Rattle.proto_json.specs.Said.{reading_of};
 ghost use Rattle.quota_settings.specs.FieldNames as names;
 ghost use Rattle.quota_settings.specs.NamedMembers.{members_in};
 ghost use Rattle.quota_settings.specs.Parts.{ArePartsSorted};
@@ -22,7 +23,7 @@ fn source_of(
     text: Option<Text>,
     attribute: Option<Text>,
 ) -> Result<PartSource, FormFault>
-    ensures { Answers (λ s. Some s) result (reading_of (reading.source_rules at text attribute)) }
+    ensures { AnswersReading (λ s. Some s) result (reading_of (reading.source_rules at text attribute)) }
 {
     match (text, attribute) {
         (Some(text), None) => Ok(PartSource::Fixed(text)),
@@ -34,7 +35,7 @@ fn source_of(
 // Where a part's value comes from, of its fields.
 #[tactic(auto, using(proto_json::specs::Laws::reading_then), unfolding(crate::specs::ReadParts::source_in))]
 fn source_in(mut fields: Fields) -> Result<PartSource, FormFault>
-    ensures { Answers (λ s. Some s) result (reading_of (reading.source_in (object_of fields))) }
+    ensures { AnswersReading (λ s. Some s) result (reading_of (reading.source_in (object_of fields))) }
 {
     let text = take_string_value(&mut fields)?;
     let attribute = take_attribute(&mut fields)?;
@@ -46,7 +47,7 @@ fn source_in(mut fields: Fields) -> Result<PartSource, FormFault>
 // Where a part's value comes from.
 #[tactic(auto, using(proto_json::specs::Laws::reading_then), unfolding(proto_json::specs::Kinds::and_read))]
 fn read_source(value: Value, at: Place) -> Result<PartSource, FormFault>
-    ensures { Answers (λ s. Some s) result (reading_of (reading.source at (view value))) }
+    ensures { AnswersReading (λ s. Some s) result (reading_of (reading.source at (view value))) }
 {
     let fields = Fields::of(value, at)?;
     let source = source_in(fields)?;
@@ -56,7 +57,7 @@ fn read_source(value: Value, at: Place) -> Result<PartSource, FormFault>
 // The part of a name and its value.
 #[tactic(auto, using(proto_json::specs::Laws::reading_then), unfolding(crate::specs::ReadParts::part_at, crate::specs::NamedMembers::named, crate::specs::NamedMembers::short_name))]
 fn read_part(place: &Place, name: Text, value: Value) -> Result<Part, FormFault>
-    ensures { Answers (λ p. Some p) result (reading_of (reading.part_at place.now name (view value))) }
+    ensures { AnswersReading (λ p. Some p) result (reading_of (reading.part_at place.now name (view value))) }
 {
     let at = place.child(name.as_str())?;
     let source = read_source(value, at)?;
@@ -69,7 +70,7 @@ fn read_members(
     place: Place,
     members: Map<String, Value>,
 ) -> Result<Vec<Part>, FormFault>
-    ensures said { Answers (λ v. Some v.items) result
+    ensures said { AnswersReading (λ v. Some v.items) result
         (reading_of (members_in reading.part_at place (members_view members.entries))) }
     ensures sorted { IfOk result (λ v. ArePartsSorted v.items) }
 {
@@ -93,7 +94,7 @@ fn read_members(
 // The parts of a value that is an object of parts.
 #[tactic(auto, using(proto_json::specs::Laws::reading_then), unfolding(crate::specs::ReadParts::parts, crate::specs::ReadParts::parts_in, proto_json::specs::Kinds::and_read, proto_json::specs::Kinds::message))]
 fn read_parts(alloc: Global, value: Value, place: Place) -> Result<PartList, FormFault>
-    ensures { Answers (λ p. Some p) result (reading_of (reading.parts place (view value))) }
+    ensures { AnswersReading (λ p. Some p) result (reading_of (reading.parts place (view value))) }
 {
     match value {
         Value::Object(members) => {
@@ -133,7 +134,7 @@ fn take_parts(alloc: Global, fields: &mut Fields) -> Result<Option<PartList>, Fo
 // The parts of a builder's fields.
 #[tactic(auto, using(proto_json::specs::Laws::reading_then), unfolding(crate::specs::ReadParts::builder_in))]
 fn parts_of(alloc: Global, mut fields: Fields) -> Result<PartList, FormFault>
-    ensures { Answers (λ p. Some p) result (reading_of (reading.builder_in (object_of fields))) }
+    ensures { AnswersReading (λ p. Some p) result (reading_of (reading.builder_in (object_of fields))) }
 {
     let parts = take_parts(alloc, &mut fields)?;
     let _ = fields.end()?;

@@ -4,7 +4,8 @@ ghost use Rattle.proto_json.specs.Document.{document};
 ghost use Rattle.proto_json.specs.Fields.{field_place};
 ghost use Rattle.proto_json.specs.Held.{object_of, Takes};
 ghost use Rattle.proto_json.specs.Lists.{each_item};
-ghost use Rattle.proto_json.specs.Said.{Answers, reading_of};
+ghost use Rattle.rate_types.specs.Reading.{AnswersReading};
+ghost use Rattle.proto_json.specs.Said.{reading_of};
 ghost use Rattle.quota_settings.specs.FieldNames as names;
 ghost use Rattle.quota_settings.specs.ReadSettings as reading;
 
@@ -22,7 +23,7 @@ fn read_buckets(
     place: &Place,
     items: Vec<Value>,
 ) -> Result<Vec<BucketSettings>, FormFault>
-    ensures { Answers (λ v. Some v.items) result
+    ensures { AnswersReading (λ v. Some v.items) result
         (reading_of (each_item reading.bucket place.now (items_view items.items))) }
 {
     let mut buckets = Vec::new(alloc);
@@ -60,7 +61,7 @@ fn take_buckets(
 
 // The settings of a domain that isn't empty.
 fn settings_of(at: Place, domain: Text, buckets: Vec<BucketSettings>) -> Result<Settings, FormFault>
-    ensures { Answers (λ s. Some s) result
+    ensures { AnswersReading (λ s. Some s) result
         (reading_of (reading.settings_rules at domain buckets.items)) }
 {
     if domain.as_str().is_empty() {
@@ -72,7 +73,7 @@ fn settings_of(at: Place, domain: Text, buckets: Vec<BucketSettings>) -> Result<
 // The settings of their fields.
 #[tactic(auto, using(proto_json::specs::Laws::reading_then), unfolding(crate::specs::ReadSettings::settings_in))]
 fn settings_in(alloc: Global, mut fields: Fields) -> Result<Settings, FormFault>
-    ensures { Answers (λ s. Some s) result (reading_of (reading.settings_in (object_of fields))) }
+    ensures { AnswersReading (λ s. Some s) result (reading_of (reading.settings_in (object_of fields))) }
 {
     let domain = take_domain(&mut fields)?;
     let buckets = take_buckets(alloc, &mut fields)?;
@@ -86,7 +87,7 @@ fn settings_in(alloc: Global, mut fields: Fields) -> Result<Settings, FormFault>
 // The settings of an object at this place.
 #[tactic(auto, using(proto_json::specs::Laws::reading_then), unfolding(crate::specs::ReadSettings::settings_at))]
 fn settings_at(alloc: Global, value: Value, place: Place) -> Result<Settings, FormFault>
-    ensures { Answers (λ s. Some s) result (reading_of (reading.settings_at place (view value))) }
+    ensures { AnswersReading (λ s. Some s) result (reading_of (reading.settings_at place (view value))) }
 {
     let fields = Fields::of(value, place)?;
     let settings = settings_in(alloc, fields)?;
@@ -100,7 +101,7 @@ fn settings_at(alloc: Global, value: Value, place: Place) -> Result<Settings, Fo
 /// with a timeout of 0, and those of attributes, strategies and every message.
 #[tactic(auto, using(proto_json::specs::Laws::reading_then), unfolding(crate::specs::ReadSettings::settings))]
 pub fn read_settings(alloc: Global, bytes: &[u8]) -> Result<Settings, FormFault>
-    ensures { Answers (λ s. Some s) result (reading_of (reading.settings bytes.now)) }
+    ensures { AnswersReading (λ s. Some s) result (reading_of (reading.settings bytes.now)) }
 {
     let value = parse(alloc, bytes)?;
     let settings = settings_at(alloc, value, Place::empty(alloc))?;

@@ -2,7 +2,8 @@ ghost use Rattle.std.specs.Prelude.{◌≡◌, IfOk, Some, unwrap_or, string_byt
 ghost use Rattle.serde_json.specs.View.{view};
 ghost use Rattle.proto_json.specs.Fields.{field_place};
 ghost use Rattle.proto_json.specs.Held.{object_of, Takes};
-ghost use Rattle.proto_json.specs.Said.{Answers, reading_of};
+ghost use Rattle.rate_types.specs.Reading.{AnswersReading};
+ghost use Rattle.proto_json.specs.Said.{reading_of};
 ghost use Rattle.quota_settings.specs.FieldNames as names;
 ghost use Rattle.quota_settings.specs.ReadStrategy as reading;
 
@@ -18,7 +19,7 @@ use serde_json::Value;
 // The blanket rule of a name.
 #[tactic(auto, unfolding(crate::specs::ReadStrategy::blanket_named))]
 fn blanket_named(at: Place, name: String) -> Result<Strategy, FormFault>
-    ensures { Answers (λ s. Some s) result
+    ensures { AnswersReading (λ s. Some s) result
         (reading_of (reading.blanket_named at (string_bytes name))) }
 {
     match name.as_str() {
@@ -53,7 +54,7 @@ fn take_blanket_rule(fields: &mut Fields) -> Result<Option<Strategy>, FormFault>
 
 // So many requests per unit.
 fn per_unit_of(at: Place, count: u64, unit: Option<Unit>) -> Result<Strategy, FormFault>
-    ensures { Answers (λ s. Some s) result (reading_of (reading.per_unit_rules at count unit)) }
+    ensures { AnswersReading (λ s. Some s) result (reading_of (reading.per_unit_rules at count unit)) }
 {
     match unit {
         Some(unit) => Ok(Strategy::PerUnit { count, unit }),
@@ -64,7 +65,7 @@ fn per_unit_of(at: Place, count: u64, unit: Option<Unit>) -> Result<Strategy, Fo
 // Reads a limit per unit.
 #[tactic(auto, using(proto_json::specs::Laws::reading_then), unfolding(crate::specs::ReadStrategy::per_unit))]
 fn read_per_unit(mut fields: Fields) -> Result<Strategy, FormFault>
-    ensures { Answers (λ s. Some s) result (reading_of (reading.per_unit (object_of fields))) }
+    ensures { AnswersReading (λ s. Some s) result (reading_of (reading.per_unit (object_of fields))) }
 {
     let count = take_count(&mut fields)?;
     let unit = take_time_unit(&mut fields)?;
@@ -96,7 +97,7 @@ fn tokens_of(
     per_fill: u32,
     interval: Option<Millis>,
 ) -> Result<Strategy, FormFault>
-    ensures { Answers (λ s. Some s) result (reading_of (reading.token_rules at max per_fill (unwrap_or interval 0))) }
+    ensures { AnswersReading (λ s. Some s) result (reading_of (reading.token_rules at max per_fill (unwrap_or interval 0))) }
 {
     if max == 0 {
         return Err(FormFault::Refused(Refused { at, number: 44 }));
@@ -117,7 +118,7 @@ fn tokens_of(
 // Reads a token bucket.
 #[tactic(auto, using(proto_json::specs::Laws::reading_then), unfolding(crate::specs::ReadStrategy::token_bucket))]
 fn read_tokens(mut fields: Fields) -> Result<Strategy, FormFault>
-    ensures { Answers (λ s. Some s) result (reading_of (reading.token_bucket (object_of fields))) }
+    ensures { AnswersReading (λ s. Some s) result (reading_of (reading.token_bucket (object_of fields))) }
 {
     let max = take_max_tokens(&mut fields)?;
     let per_fill = take_tokens_per_fill(&mut fields)?;
@@ -149,7 +150,7 @@ fn one_of(
     per_unit: Option<Strategy>,
     tokens: Option<Strategy>,
 ) -> Result<Strategy, FormFault>
-    ensures { Answers (λ s. Some s) result (reading_of (reading.one_of at blanket per_unit tokens)) }
+    ensures { AnswersReading (λ s. Some s) result (reading_of (reading.one_of at blanket per_unit tokens)) }
 {
     match (blanket, per_unit, tokens) {
         (None, None, None) => Ok(Strategy::AllowAll),
@@ -163,7 +164,7 @@ fn one_of(
 // The strategy of an object's fields.
 #[tactic(auto, using(proto_json::specs::Laws::reading_then), unfolding(crate::specs::ReadStrategy::strategy_in))]
 fn strategy_of(mut fields: Fields) -> Result<Strategy, FormFault>
-    ensures { Answers (λ s. Some s) result (reading_of (reading.strategy_in (object_of fields))) }
+    ensures { AnswersReading (λ s. Some s) result (reading_of (reading.strategy_in (object_of fields))) }
 {
     let blanket = take_blanket_rule(&mut fields)?;
     let per_unit = take_per_unit(&mut fields)?;
@@ -179,7 +180,7 @@ fn strategy_of(mut fields: Fields) -> Result<Strategy, FormFault>
 /// message. A strategy without any field allows all.
 #[tactic(auto, using(proto_json::specs::Laws::reading_then), unfolding(proto_json::specs::Kinds::and_read))]
 pub fn read_strategy(value: Value, place: Place) -> Result<Strategy, FormFault>
-    ensures { Answers (λ s. Some s) result (reading_of (reading.strategy place (view value))) }
+    ensures { AnswersReading (λ s. Some s) result (reading_of (reading.strategy place (view value))) }
 {
     let fields = Fields::of(value, place)?;
     let strategy = strategy_of(fields)?;

@@ -8,8 +8,9 @@ ghost use Rattle.ratelimit_cli.specs.Parts.{IsOfFiles, IsOfConfig};
 use crate::Exit;
 use config_json::read_config;
 use descriptor_tree::{Config, ConfigFault};
-use flat_config::{FlatFault, flatten};
+use flat_config::{FlatFault, NotFlat, flatten};
 use rate_io::{FileFault, Files};
+use rate_types::refusals::NOT_BUILT;
 use rate_types::{At, Blob, Blobs, Place, Refused, Word};
 use rls_core::FlatConfigs;
 use std::alloc::Global;
@@ -44,11 +45,11 @@ fn flat_trees(alloc: Global, config: &Config) -> Result<FlatConfigs, Exit>
 {
     match flatten(alloc, config) {
         Ok(trees) => Ok(trees),
-        Err(FlatFault::NotFlat { tree }) => Err(Exit::ConfigRefused(At {
+        Err(FlatFault::Refused(NotFlat { tree })) => Err(Exit::ConfigRefused(At {
             file: tree,
             refused: Refused {
                 at: Place::empty(alloc),
-                number: 9,
+                number: NOT_BUILT,
             },
         })),
         Err(FlatFault::OutOfMemory) => Err(Exit::OutOfMemory),

@@ -2,7 +2,8 @@ use Rattle.std.proofs.Common.{◌≡◌, ℕ, List, Err, map, subst}
 use Rattle.descriptor_tree.specs.declared.tree.Tree.{Tree}
 use Rattle.std.specs.Prelude.{Vec}
 use Rattle.std.specs.declared.alloc.Global.{Global}
-use Rattle.descriptor_tree.specs.Faults.{Answers, first_or, config_faults}
+use Rattle.rate_types.specs.Reading.{AnswersReading, first_or}
+use Rattle.descriptor_tree.specs.Faults.{config_faults}
 use Rattle.descriptor_tree.specs.Trees.{tree_view}
 use Rattle.descriptor_tree.specs.Views.{config_view}
 use Rattle.config_json.specs.Reading.{reading_of}
@@ -18,5 +19,5 @@ returns-in-Ok c =
 
 pub returns-in-Err : goal.returns-in-Err
 returns-in-Err c =
-    subst (λ (files : List (List ℕ)). Answers config_view (Err c.in-Err.fault) (reading_of files)) c.items.ensures
+    subst (λ (files : List (List ℕ)). AnswersReading config_view (Err c.in-Err.fault) (reading_of files)) c.items.ensures
     (reading_fails config_view (λ (v : Vec Tree Global). map tree_view v.items) c.items.result.now c.in-Err.fault c.in-Err.ensures.trees)

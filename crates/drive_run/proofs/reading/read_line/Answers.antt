@@ -1,5 +1,6 @@
 use Rattle.std.proofs.Common.{Err, ap, sym, subst, ◌≡◌, ◌∙◌}
-use Rattle.proto_json.specs.Said.{IsRefusal, reading_of}
+use Rattle.rate_types.specs.Reading.{IsRefusal}
+use Rattle.proto_json.specs.Said.{reading_of}
 use Rattle.proto_json.specs.Document.{document}
 use Rattle.proto_json.specs.Laws.{document_value, document_refused}
 use Rattle.drive_run.specs.Script.{event_of, line_of}

@@ -1,8 +1,9 @@
 use Rattle.std.proofs.Common.{◌≡◌, Ok, Some, sym, ap, ◌∙◌}
 use Rattle.std.specs.Prelude.{string_bytes, Err}
 use Rattle.serde_json.specs.View.{view}
-use Rattle.proto_json.specs.Said.{reading_of, IsRefusal}
-use Rattle.proto_json.specs.declared.fault.FormFault.TheVariants as fault
+use Rattle.rate_types.specs.Reading.{IsRefusal}
+use Rattle.proto_json.specs.Said.{reading_of}
+use Rattle.rate_types.specs.declared.fault.Fault.TheVariants as fault
 use Rattle.rate_types.specs.declared.refused.Refused.{Refused}
 use Rattle.quota_settings.specs.ReadAttributes.{pair_at}
 use Rattle.quota_settings.proofs.Members.{so_far_more, so_far_refused, so_far_all}
