@@ -2,8 +2,8 @@ ghost use Rattle.descriptor_tree.specs.Views.{config_view};
 ghost use Rattle.rate_types.specs.Reading.{AnswersReading};
 ghost use Rattle.flat_config.specs.Flat.{flat_of};
 
-use crate::{FlatFault, NotFlat};
 use crate::level::rules_of;
+use crate::{FlatFault, NotFlat};
 use descriptor_tree::Config;
 use rule_lookup::{FlatConfig, FlatConfigs};
 use std::alloc::Global;

@@ -13,7 +13,7 @@ use std::hash::{Hash, Hasher};
 
 /// A counter: a name and the window that starts at `start`, in seconds.
 /// Counters are ordered by these, in this order.
-#[derive(Drop)]
+#[derive(Clone, Drop)]
 pub struct CounterKey {
     pub name: CounterName,
     pub start: Seconds,
@@ -24,10 +24,7 @@ impl CounterKey {
     pub fn copy(&self) -> Result<CounterKey, OutOfMemory>
         ensures { IfOk result (λ k. k ≡ self.now) }
     {
-        Ok(CounterKey {
-            name: self.name.copy()?,
-            start: self.start,
-        })
+        Ok(self.clone()?)
     }
 }
 

@@ -13,7 +13,7 @@ use std::hash::{Hash, Hasher};
 
 /// What a counter is called in every window: its domain, the entries with their values, and the unit.
 /// Names are ordered by these, in this order.
-#[derive(Drop)]
+#[derive(Clone, Drop)]
 pub struct CounterName {
     pub domain: Text,
     pub entries: Entries,
@@ -25,11 +25,7 @@ impl CounterName {
     pub fn copy(&self) -> Result<CounterName, OutOfMemory>
         ensures { IfOk result (λ n. n ≡ self.now) }
     {
-        Ok(CounterName {
-            domain: self.domain.copy()?,
-            entries: self.entries.copy()?,
-            unit: self.unit,
-        })
+        Ok(self.clone()?)
     }
 }
 

@@ -8,15 +8,19 @@ ghost use Rattle.rate_types.specs.Durations as durations;
 use crate::limits::LONGEST_DURATION;
 use crate::{Millis, OutOfMemory};
 use std::alloc::Global;
+use thiserror::Error;
 
 /// Why a text is no duration. They are tried in this order.
-#[derive(Clone, Copy, Debug, PartialEq, Eq)]
+#[derive(Clone, Copy, Debug, PartialEq, Eq, Error)]
 pub enum DurationFault {
     /// The text isn't 1 to 12 digits, perhaps `.` and 1 to 9 digits, and then `s`.
+    #[error("not a duration")]
     Bad,
     /// It is more than 1,000,000,000 seconds.
+    #[error("more than {LONGEST_DURATION} seconds")]
     TooLong,
     /// It has a digit other than 0 past the third decimal.
+    #[error("finer than a millisecond")]
     TooFine,
 }
 

@@ -14,9 +14,10 @@ use std::alloc::Global;
 use std::cmp::Ordering;
 use std::hash::{Hash, Hasher};
 use std::marker::Model;
+use thiserror::Error;
 
 /// A key with its value: one entry of a descriptor.
-#[derive(Drop)]
+#[derive(Clone, Drop)]
 pub struct Entry {
     pub key: Text,
     pub value: Text,
@@ -27,10 +28,7 @@ impl Entry {
     pub fn copy(&self) -> Result<Entry, OutOfMemory>
         ensures { IfOk result (λ e. e ≡ self.now) }
     {
-        Ok(Entry {
-            key: self.key.copy()?,
-            value: self.value.copy()?,
-        })
+        Ok(self.clone()?)
     }
 }
 
@@ -73,7 +71,7 @@ impl PartialOrd for Entry {
 }
 
 /// The entries of a descriptor: 1 to 32, in order, each with a key that isn't empty.
-#[derive(Drop)]
+#[derive(Clone, Drop)]
 pub struct Entries {
     items: Vec<Entry>,
 }
@@ -91,13 +89,16 @@ impl Model for Entries {
 }
 
 /// Why a list isn't the entries of a descriptor. They are tried in this order.
-#[derive(Clone, Copy, Debug, PartialEq, Eq)]
+#[derive(Clone, Copy, Debug, PartialEq, Eq, Error)]
 pub enum EntriesFault {
     /// The list is empty.
+    #[error("no entry")]
     NoEntries,
     /// The list has `count` entries, more than 32.
+    #[error("{count} entries, more than {MOST_ENTRIES}")]
     TooMany { count: u64 },
     /// The entry at `index`, from 0, is the first with an empty key.
+    #[error("entry {index} has an empty key")]
     EmptyKey { index: u32 },
 }
 
@@ -127,8 +128,7 @@ impl Entries {
     pub fn copy(&self) -> Result<Entries, OutOfMemory>
         ensures { IfOk result (λ e. e ≡ self.now) }
     {
-        let items = copies(&self.items)?;
-        Ok(Entries { items })
+        Ok(self.clone()?)
     }
 
     /// The entries in order, 1 to 32.
@@ -185,16 +185,6 @@ impl PartialOrd for Entries {
     fn partial_cmp(&self, other: &Entries) -> Option<Ordering> {
         Some(self.cmp(other))
     }
-}
-
-fn copies(entries: &Vec<Entry>) -> Result<Vec<Entry>, OutOfMemory>
-    ensures { IfOk result (λ v. v.items ≡ entries.now.items) }
-{
-    let mut copies = Vec::new(*entries.allocator());
-    for entry in entries {
-        copies.push(entry.copy()?)?;
-    }
-    Ok(copies)
 }
 
 impl Hash for Entry {

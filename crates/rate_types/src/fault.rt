@@ -1,12 +1,17 @@
 use crate::OutOfMemory;
 use std::alloc::{AllocError, AllocFailed};
+use std::fmt::Display;
+use thiserror::Error;
 
 /// Why a value isn't made.
-#[derive(Drop)]
+#[derive(Debug, Drop, Error)]
+#[error_bound(E: Display)]
 pub enum Fault<E> {
     /// It is refused, for this cause.
+    #[error("{0}")]
     Refused(E),
     /// There was no memory to read or to make it.
+    #[error("out of memory")]
     OutOfMemory,
 }
 

@@ -6,10 +6,11 @@ ghost use Rattle.rate_types.specs.Places as places;
 
 use crate::OutOfMemory;
 use std::alloc::Global;
+use std::fmt;
 use std::marker::Model;
 
 /// A place in a document: a JSON pointer (RFC 6901). The empty text is the whole document.
-#[derive(Drop)]
+#[derive(Debug, Drop)]
 pub struct Place {
     text: String,
 }
@@ -57,6 +58,12 @@ impl Place {
         ensures { result.now ≡ self.now }
     {
         &self.text
+    }
+}
+
+impl fmt::Display for Place {
+    fn fmt<W: fmt::Write>(&self, f: &mut fmt::Formatter<W>) -> fmt::Result {
+        write!(f, "{}", self.text)
     }
 }
 

@@ -4,6 +4,7 @@ ghost use Rattle.rate_types.specs.Requests.{request_of};
 use crate::limits::MOST_DESCRIPTORS;
 use crate::{Entries, OutOfMemory, Text, Unit};
 use std::marker::Model;
+use thiserror::Error;
 
 /// A limit: so many hits in each window of a unit. A descriptor may carry one of its own (Envoy's
 /// `RateLimitDescriptor.limit`).
@@ -24,13 +25,16 @@ pub struct Descriptor {
 }
 
 /// Why a request isn't made. They are tried in this order.
-#[derive(Clone, Copy, Debug, PartialEq, Eq)]
+#[derive(Clone, Copy, Debug, PartialEq, Eq, Error)]
 pub enum RequestFault {
     /// The domain is empty.
+    #[error("the domain is empty")]
     EmptyDomain,
     /// There is no descriptor.
+    #[error("no descriptor")]
     NoDescriptors,
     /// There are `count` descriptors, more than 32.
+    #[error("{count} descriptors, more than {MOST_DESCRIPTORS}")]
     TooMany { count: u64 },
 }
 

@@ -13,18 +13,21 @@ use std::alloc::Global;
 use std::cmp::Ordering;
 use std::hash::{Hash, Hasher};
 use std::marker::Model;
+use thiserror::Error;
 
 /// Why a text isn't made.
-#[derive(Clone, Copy, Debug, PartialEq, Eq)]
+#[derive(Clone, Copy, Debug, PartialEq, Eq, Error)]
 pub enum TextFault {
     /// The text has `len` bytes, more than 1,024.
+    #[error("{len} bytes, more than {LONGEST_TEXT}")]
     TooLong { len: u64 },
     /// There was no memory for its bytes.
+    #[error("out of memory")]
     OutOfMemory,
 }
 
 /// A text of at most 1,024 bytes, in UTF-8: a domain, a key, a value or a name. Texts are compared byte by byte.
-#[derive(Drop)]
+#[derive(Clone, Drop)]
 pub struct Text {
     text: String,
 }
@@ -89,8 +92,7 @@ impl Text {
     pub fn copy(&self) -> Result<Text, OutOfMemory>
         ensures { IfOk result (λ t. t ≡ self.now) }
     {
-        let text = self.text.clone()?;
-        Ok(Text { text })
+        Ok(self.clone()?)
     }
 }
 
