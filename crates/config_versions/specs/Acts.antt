@@ -1,11 +1,11 @@
--- What each act does to the versions.
+-- Inside: what each act does to the versions.
 use Rattle.std.specs.Prelude.{◌≡◌, ℕ, ◌+◌, ◌<◌, ◌≤◌, List, [], ◌∷◌, ◌++◌, length}
 use Rattle.std.specs.Arc.{arc_value}
 use Rattle.config_versions.specs.declared.install.Installed.{Installed}
 use Rattle.config_versions.specs.declared.install.Installed.TheVariants as installed
 use Rattle.config_versions.specs.declared.refresh.Refreshed.{Refreshed}
 use Rattle.config_versions.specs.declared.refresh.Refreshed.TheVariants as refreshed
-use Rattle.config_versions.specs.Turns.{most_versions, IsVersion}
+use Rattle.config_versions.specs.PassState.{most_versions, IsVersion}
 
 module _ {I : Type 0} where
   -- `next` is added, or the list is full, or there is no memory

@@ -4,16 +4,16 @@ use Rattle.std.specs.declared.result.Result.{Result}
 use Rattle.rate_types.specs.declared.memory.OutOfMemory.{OutOfMemory}
 use Rattle.config_versions.specs.declared.fault.InstallFault.{InstallFault}
 use Rattle.config_versions.specs.declared.fault.InstallFault.TheVariants as fault
-use Rattle.config_versions.specs.Turns.{most_versions, Stand, HasInstalled, IsNewest, HasStayed}
+use Rattle.config_versions.specs.PassState.{most_versions, PassState, HasInstalled, IsNewest, HasStayed}
 
 module _ {I : Type 0} where
   -- `next` got this number, or the list found was full, or there was no memory
-  abbrev pub AnswersInstall : I → Result ℕ InstallFault → Stand I → Stand I → Type 0
+  abbrev pub AnswersInstall : I → Result ℕ InstallFault → PassState I → PassState I → Type 0
   AnswersInstall next (Ok number) s t = HasInstalled next number s t
   AnswersInstall next (Err (fault.VersionsFull versions)) s t = (versions ≡ most_versions) × (length t.view.known ≡ most_versions) × IsNewest s t
   AnswersInstall next (Err fault.OutOfMemory) s t = HasStayed s t
 
   -- the pass is at the newest version, or stayed below it
-  abbrev pub AnswersRefresh : Result (Unit {0}) OutOfMemory → Stand I → Stand I → Type 0
+  abbrev pub AnswersRefresh : Result (Unit {0}) OutOfMemory → PassState I → PassState I → Type 0
   AnswersRefresh (Ok _) s t = IsNewest s t
   AnswersRefresh (Err _) s t = HasStayed s t × (t.version + 1 < length t.view.known)

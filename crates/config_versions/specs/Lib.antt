@@ -1,4 +1,4 @@
-pub mod Turns
+pub mod PassState
 pub mod Acts
 pub mod Answers
 pub mod Passes

@@ -4,7 +4,7 @@ use Rattle.std.specs.Arc.{arc_value}
 use Rattle.told_list.specs.Tokens.{list_id, list_of, tokens, view}
 use Rattle.config_versions.specs.declared.pass.VersionPass.{VersionPass}
 use Rattle.config_versions.specs.declared.versions.Versions.{Versions}
-use Rattle.config_versions.specs.Turns.{Stand}
+use Rattle.config_versions.specs.PassState.{PassState}
 
 module _ {I : Type 0} where
   -- the pass was made with these versions
@@ -15,6 +15,6 @@ module _ {I : Type 0} where
   abbrev pub pass_count : Versions I → ℕ
   pass_count versions = tokens versions.told
 
-  -- how a pass stands
-  abbrev pub stand : VersionPass I → Stand I
-  stand pass = record { version = pass.version; index = arc_value pass.index; view = view pass.seen }
+  -- the state of a pass
+  abbrev pub pass_state : VersionPass I → PassState I
+  pass_state pass = record { version = pass.version; index = arc_value pass.index; view = view pass.seen }

@@ -1,4 +1,4 @@
-use crate::book::Book;
+use crate::version_list::VersionList;
 use std::sync::Arc;
 use told_list::Act;
 
@@ -18,7 +18,7 @@ pub struct Install<I> {
     pub next: Arc<I>,
 }
 
-impl<I: Drop> Act<Book<I>> for Install<I> {
+impl<I: Drop> Act<VersionList<I>> for Install<I> {
     ghost use Rattle.std.specs.Prelude.{◌≡◌, map};
     ghost use Rattle.std.specs.Arc.{arc_value};
     ghost use Rattle.config_versions.specs.Acts.{Installs};
@@ -29,7 +29,7 @@ impl<I: Drop> Act<Book<I>> for Install<I> {
 
     ghost did = { λ p b r q c. (arc_value q.next ≡ arc_value p.next) × Installs (arc_value p.next) (map arc_value b.versions.items) r (map arc_value c.versions.items) };
 
-    fn act(&mut self, kept: &mut Book<I>) -> Installed<I> {
+    fn act(&mut self, kept: &mut VersionList<I>) -> Installed<I> {
         kept.install(&self.next)
     }
 }

@@ -13,12 +13,12 @@
 //! nothing is said of how long.
 #![tactic(auto)]
 
-mod book;
 mod fault;
 mod install;
 mod pass;
 mod passes;
 mod refresh;
+mod version_list;
 mod versions;
 
 pub use fault::InstallFault;

@@ -1,4 +1,4 @@
-use crate::book::Book;
+use crate::version_list::VersionList;
 use std::sync::Arc;
 use told_list::Act;
 
@@ -18,7 +18,7 @@ pub struct Refresh {
     pub version: u32,
 }
 
-impl<I: Drop> Act<Book<I>> for Refresh {
+impl<I: Drop> Act<VersionList<I>> for Refresh {
     ghost use Rattle.std.specs.Prelude.{map};
     ghost use Rattle.std.specs.Arc.{arc_value};
     ghost use Rattle.config_versions.specs.Acts.{Refreshes};
@@ -29,7 +29,7 @@ impl<I: Drop> Act<Book<I>> for Refresh {
 
     ghost did = { λ p b r q c. Refreshes p.version (map arc_value b.versions.items) r (map arc_value c.versions.items) };
 
-    fn act(&mut self, kept: &mut Book<I>) -> Refreshed<I> {
+    fn act(&mut self, kept: &mut VersionList<I>) -> Refreshed<I> {
         kept.newer_than(self.version)
     }
 }

@@ -1,13 +1,13 @@
 ghost use Rattle.std.specs.Prelude.{◌≡◌, length, map};
 ghost use Rattle.std.specs.Arc.{arc_value};
-ghost use Rattle.told_list.specs.Tokens.{opening};
+ghost use Rattle.told_list.specs.Tokens.{first_value};
 
-use crate::book::{Book, MOST};
 use crate::fault::InstallFault;
 use crate::install::{Install, Installed};
 use crate::pass::VersionPass;
 use crate::passes::{passes_of, tokens_of};
 use crate::refresh::{Refresh, Refreshed};
+use crate::version_list::{MOST, VersionList};
 use rate_types::OutOfMemory;
 use std::alloc::Global;
 use std::sync::{Arc, Wait};
@@ -16,17 +16,17 @@ use told_list::Told;
 /// The versions of what the passes use, in the order in which they were installed, behind their lock.
 #[derive(Drop)]
 pub struct Versions<I: Drop> {
-    pub(crate) told: Told<Book<I>>,
-    ghost first: { length (map arc_value (opening told).versions.items) ≡ 1 },
+    pub(crate) told: Told<VersionList<I>>,
+    ghost first: { length (map arc_value (first_value told).versions.items) ≡ 1 },
 }
 
 impl<I: Drop> Versions<I> {
     ghost use Rattle.std.specs.Prelude.{◌≡◌, ◌≤◌, ◌<◌, ◌+◌, ℕ, All, IfOk, MatchOption, vec_len};
     ghost use mathlib.Core.List.{IsPrefix};
     ghost use Rattle.told_list.specs.Lists.{total, times, IsOwnedOnce};
-    ghost use Rattle.config_versions.specs.Turns.{IsFirst, HasLoaded};
+    ghost use Rattle.config_versions.specs.PassState.{IsFirst, HasLoaded};
     ghost use Rattle.config_versions.specs.Answers.{AnswersInstall, AnswersRefresh};
-    ghost use Rattle.config_versions.specs.Passes.{IsPassOf, pass_count, stand};
+    ghost use Rattle.config_versions.specs.Passes.{IsPassOf, pass_count, pass_state};
 
     /// The version 0, which is `first`, and 1 to 1,024 passes that are at it.
     pub fn make(
@@ -36,11 +36,11 @@ impl<I: Drop> Versions<I> {
     ) -> Result<(Versions<I>, Vec<VersionPass<I>>), OutOfMemory>
         requires passes { (1 ≤ passes) × (passes ≤ 1024) }
         ensures count { IfOk result (λ r. (pass_count r.0 ≡ passes) × (vec_len r.1 ≡ passes)) }
-        ensures first { IfOk result (λ r. All (λ p. IsPassOf r.0 p × IsFirst (arc_value first) (stand p)) r.1.items) }
+        ensures first { IfOk result (λ r. All (λ p. IsPassOf r.0 p × IsFirst (arc_value first) (pass_state p)) r.1.items) }
     {
         let own = Arc::try_clone(&first)?;
-        let book = Book::of(alloc, own)?;
-        let (told, seats) = Told::make(alloc, book, passes)?;
+        let version_list = VersionList::of(alloc, own)?;
+        let (told, seats) = Told::make(alloc, version_list, passes)?;
         let passes = passes_of(alloc, seats, &first)?;
         Ok((Versions { told }, passes))
     }
@@ -55,7 +55,7 @@ impl<I: Drop> Versions<I> {
     ) -> Result<u32, InstallFault>
         requires pass { IsPassOf self.now pass.old }
         ensures pass { IsPassOf self.now pass.new }
-        ensures answer { AnswersInstall (arc_value next) result (stand pass.old) (stand pass.new) }
+        ensures answer { AnswersInstall (arc_value next) result (pass_state pass.old) (pass_state pass.new) }
     {
         let mut act = Install { next };
         match self.told.with(rt, &mut pass.seen, &mut act) {
@@ -79,7 +79,7 @@ impl<I: Drop> Versions<I> {
     pub fn refresh<R: Wait>(&self, rt: &R, pass: &mut VersionPass<I>) -> Result<(), OutOfMemory>
         requires pass { IsPassOf self.now pass.old }
         ensures pass { IsPassOf self.now pass.new }
-        ensures answer { AnswersRefresh result (stand pass.old) (stand pass.new) }
+        ensures answer { AnswersRefresh result (pass_state pass.old) (pass_state pass.new) }
     {
         let mut act = Refresh {
             version: pass.version,
@@ -100,8 +100,8 @@ impl<I: Drop> Versions<I> {
     pub fn is_behind(&self, pass: &mut VersionPass<I>) -> Option<u32>
         requires pass { IsPassOf self.now pass.old }
         ensures pass { IsPassOf self.now pass.new }
-        ensures answer { MatchOption result ((stand pass.new).view.shown ≡ (stand pass.old).version + 1) (λ n. (n + 1 ≡ (stand pass.new).view.shown) × ((stand pass.old).version < n)) }
-        ensures loaded { HasLoaded (stand pass.old) (stand pass.new) }
+        ensures answer { MatchOption result ((pass_state pass.new).view.shown ≡ (pass_state pass.old).version + 1) (λ n. (n + 1 ≡ (pass_state pass.new).view.shown) × ((pass_state pass.old).version < n)) }
+        ensures loaded { HasLoaded (pass_state pass.old) (pass_state pass.new) }
     {
         let length = match self.told.behind(&mut pass.seen) {
             Some(length) => length,
@@ -125,12 +125,12 @@ impl<I: Drop> Versions<I> {
     ) -> Result<Vec<Arc<I>>, OutOfMemory>
         requires passes { All (λ p. IsPassOf self p) passes.items }
         requires every { vec_len passes ≡ pass_count self }
-        ensures prefixes { IfOk result (λ v. All (λ p. IsPrefix (stand p).view.known (map arc_value v.items)) passes.items) }
-        ensures owned { IfOk result (λ v. (n : ℕ) → IsOwnedOnce 1 (vec_len v) n (total (λ p. times n (stand p).view.own) passes.items)) }
+        ensures prefixes { IfOk result (λ v. All (λ p. IsPrefix (pass_state p).view.known (map arc_value v.items)) passes.items) }
+        ensures owned { IfOk result (λ v. (n : ℕ) → IsOwnedOnce 1 (vec_len v) n (total (λ p. times n (pass_state p).view.own) passes.items)) }
     {
         let Versions { told } = self;
         let seats = tokens_of(alloc, passes)?;
-        let Book { versions } = told.close(seats);
+        let VersionList { versions } = told.close(seats);
         Ok(versions)
     }
 }

@@ -3,7 +3,7 @@ use Rattle.std.proofs.Common.{◌≡◌, ℕ, ◌≤◌, List, sym, subst}
 use Rattle.std.specs.Prelude.{Result}
 use Rattle.rate_types.specs.declared.counter_name.CounterName.{CounterName}
 use Rattle.counter_cells.specs.declared.view.View as cell_view
-use Rattle.told_list.specs.declared.rule.View as told_view
+use Rattle.told_list.specs.declared.rule.TokenView as told_view
 use Rattle.told_list.specs.Tokens.{HasTurned}
 use Rattle.counter_directory.specs.declared.claim.Claim.{Claim}
 use Rattle.counter_directory.specs.declared.acquired.Acquired.{Acquired}
@@ -12,7 +12,7 @@ use Rattle.counter_directory.specs.Claims.{IsLawfulClaims, last_of}
 use Rattle.counter_directory.specs.Acquired.{Bounds, Desk, Acquires}
 use Rattle.counter_directory.specs.Turns.{Turned}
 
-pub turns : (b b' : Bounds) (most : ℕ) (names : List CounterName) (hand hand1 hand' : cell_view.View) (found left : Desk) (r : Result Acquired AcquireFault) (pass pass' : told_view.View Claim) → b ≡ b' → most ≡ b'.claims → hand' ≡ hand1 → Acquires b names hand found r hand1 left → IsLawfulClaims b'.cells most left.claims → last_of 0 found.claims ≤ hand1.moment → HasTurned found.claims left.claims pass pass' → Turned b' names hand r hand' pass pass'
+pub turns : (b b' : Bounds) (most : ℕ) (names : List CounterName) (hand hand1 hand' : cell_view.View) (found left : Desk) (r : Result Acquired AcquireFault) (pass pass' : told_view.TokenView Claim) → b ≡ b' → most ≡ b'.claims → hand' ≡ hand1 → Acquires b names hand found r hand1 left → IsLawfulClaims b'.cells most left.claims → last_of 0 found.claims ≤ hand1.moment → HasTurned found.claims left.claims pass pass' → Turned b' names hand r hand' pass pass'
 turns b b' most names hand hand1 hand' found left r pass pass' same claims at did law later turn = record {
   found = found;
   left = left;

@@ -3,7 +3,7 @@ use Rattle.std.specs.Prelude.{ℕ, ◌≤◌, List, Result}
 use Rattle.rate_types.specs.declared.counter_name.CounterName.{CounterName}
 use Rattle.atomic_table.specs.Seated.{TableId}
 use Rattle.counter_cells.specs.declared.view.View as cell_view
-use Rattle.told_list.specs.declared.rule.View as told_view
+use Rattle.told_list.specs.declared.rule.TokenView as told_view
 use Rattle.told_list.specs.Tokens.{HasTurned}
 use Rattle.counter_directory.specs.declared.claim.Claim.{Claim}
 use Rattle.counter_directory.specs.declared.acquired.Acquired.{Acquired}
@@ -19,7 +19,7 @@ pub record Office : Type 0 where
 
 -- One turn at the lock. The pass then knows the list that the turn left, of which it had known a prefix. That list is
 -- lawful, and the hand's moment is no earlier than that of the last claim found
-pub record Turned (b : Bounds) (names : List CounterName) (hand : cell_view.View) (result : Result Acquired AcquireFault) (hand' : cell_view.View) (pass pass' : told_view.View Claim) : Type 0 where
+pub record Turned (b : Bounds) (names : List CounterName) (hand : cell_view.View) (result : Result Acquired AcquireFault) (hand' : cell_view.View) (pass pass' : told_view.TokenView Claim) : Type 0 where
   pub found : Desk
   pub left : Desk
   pub did : Acquires b names hand found result hand' left

@@ -1,5 +1,5 @@
 ghost use Rattle.std.specs.Prelude.{◌≡◌, ◌≤◌, [], length, All, vec_len, vec_capacity};
-ghost use Rattle.told_list.specs.Tokens.{list_of, list_id, opening, tokens, view, known};
+ghost use Rattle.told_list.specs.Tokens.{list_of, list_id, first_value, tokens, view, known};
 
 use crate::acquire::Acquire;
 use crate::acquired::{AcquireFault, Acquired};
@@ -26,14 +26,14 @@ pub struct Directory<N: CellNaming> {
 
 impl<N: CellNaming> Model for Directory<N> {
     ghost use Rattle.std.specs.Prelude.{◌≡◌, ◌≤◌, []};
-    ghost use Rattle.told_list.specs.Tokens.{list_id, opening, tokens};
+    ghost use Rattle.told_list.specs.Tokens.{list_id, first_value, tokens};
     ghost use Rattle.counter_directory.specs.Turns.{Office};
 
     ghost Value = { Office };
 
-    ghost view = { λ d. record { list_id = list_id d.told; passes = tokens d.told; claims_max = (opening d.told).shelf.most } };
+    ghost view = { λ d. record { list_id = list_id d.told; passes = tokens d.told; claims_max = (first_value d.told).shelf.most } };
 
-    ghost invariant = { λ d. (d.passes ≡ tokens d.told) × (1 ≤ d.passes) × (d.passes ≤ 1024) × ((opening d.told).shelf.claims.items ≡ []) };
+    ghost invariant = { λ d. (d.passes ≡ tokens d.told) × (1 ≤ d.passes) × (d.passes ≤ 1024) × ((first_value d.told).shelf.claims.items ≡ []) };
 }
 
 /// What is left of a directory that is closed.

@@ -1,3 +1,3 @@
 pub mod Sums
 pub mod Steps
-pub mod Gathering
+pub mod Joining

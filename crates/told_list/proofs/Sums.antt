@@ -106,14 +106,14 @@ pub times_append : (p : ℕ) (xs ys : List ℕ) → times p (xs ++ ys) ≡ times
 times_append p xs ys = total_append (λ x. one_if (p == x)) xs ys
 
 -- a turn's places come behind those that were there
-pub owned_more : (opening len now p old new after k : ℕ) → IsOwnedOnce opening len p old → IsOwnedOnce len (len + k) p new → after ≡ old + new → now ≡ len + k → opening ≤ len → IsOwnedOnce opening now p after
-owned_more opening len now p old new after k r n sum is le = record {
+pub owned_more : (first len now p old new after k : ℕ) → IsOwnedOnce first len p old → IsOwnedOnce len (len + k) p new → after ≡ old + new → now ≡ len + k → first ≤ len → IsOwnedOnce first now p after
+owned_more first len now p old new after k r n sum is le = record {
   early = λ h. let a = r.early h in let b = n.early (omega arith) in omega arith;
   there = λ a b. split (dec_lt p len) a b;
   late = λ h. let a = r.late (omega arith) in let b = n.late (omega arith) in omega arith;
 }
   where
-    split : Dec (p < len) → opening ≤ p → p < now → after ≡ 1
+    split : Dec (p < len) → first ≤ p → p < now → after ≡ 1
     split (yes d) a b = let x = r.there a d in let y = n.early d in omega arith
     split (no d) a b = let x = r.late (omega arith) in let y = n.there (omega arith) (omega arith) in omega arith
 

@@ -1,3 +1,3 @@
 pub mod Lists
-pub mod Told
+pub mod Rule
 pub mod Tokens

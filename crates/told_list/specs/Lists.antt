@@ -19,8 +19,8 @@ count_from n (suc k) = n ∷ count_from (suc n) k
 abbrev pub times : ℕ → List ℕ → ℕ
 times p xs = total (λ x. one_if (p == x)) xs
 
--- a place was owned this many times: once where it lies past the opening list and within the list, and else never
-pub record IsOwnedOnce (opening len p owned : ℕ) : Type 0 where
-  pub early : p < opening → owned ≡ 0
-  pub there : opening ≤ p → p < len → owned ≡ 1
+-- a place was owned this many times: once where it lies past the first list and within the list, and else never
+pub record IsOwnedOnce (first len p owned : ℕ) : Type 0 where
+  pub early : p < first → owned ≡ 0
+  pub there : first ≤ p → p < len → owned ≡ 1
   pub late : len ≤ p → owned ≡ 0

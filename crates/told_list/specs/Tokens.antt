@@ -2,7 +2,7 @@
 use Rattle.std.specs.Prelude.{◌≡◌, ℕ, ◌+◌, ◌-◌, ◌≤◌, List, [], ◌++◌, length, map, false}
 use mathlib.Core.List.{IsPrefix}
 use Rattle.atomic_table.specs.Seated.{TableId}
-use Rattle.told_list.specs.declared.rule.View.{View}
+use Rattle.told_list.specs.declared.rule.TokenView.{TokenView}
 use Rattle.told_list.specs.declared.seen.Seen.{Seen}
 use Rattle.told_list.specs.declared.told.Told.{Told}
 use Rattle.told_list.specs.Lists.{total, times, count_from}
@@ -13,8 +13,8 @@ module _ {K T : Type 0} where
   list_id told = told.table.shared.table_id
 
   -- the kept value that it was made of
-  abbrev pub opening : Told K T → K
-  opening told = told.table.shared.key.kept
+  abbrev pub first_value : Told K T → K
+  first_value told = told.table.shared.key.kept
 
   -- how many tokens were given
   abbrev pub tokens : Told K T → ℕ
@@ -25,7 +25,7 @@ module _ {K T : Type 0} where
   list_of seen = seen.seat.table_id
 
   -- what a token knows: the list `known`, the number of `loads` and what the last one `shown`, the number of `turns`, and its `own` places
-  abbrev pub view : Seen K T → View T
+  abbrev pub view : Seen K T → TokenView T
   view seen = seen.seat.me.0
 
   -- the list that a token knows
@@ -33,15 +33,15 @@ module _ {K T : Type 0} where
   known seen = seen.seat.me.0.known
 
   -- a view that stands for these tokens
-  pub record Gathers (seats : List (Seen K T)) (v : View T) : Type 0 where
+  pub record JoinsTokens (seats : List (Seen K T)) (v : TokenView T) : Type 0 where
     pub tokens : v.tokens ≡ length seats
-    pub heard : v.heard ≡ map known seats
+    pub joined_lists : v.joined_lists ≡ map known seats
     pub own : (p : ℕ) → times p v.own ≡ total (λ s. times p (view s).own) seats
-    pub rests : (v.holds ≡ false) × (v.opens ≡ false)
+    pub rests : (v.holds ≡ false) × (v.unfilled ≡ false)
 
 module _ {T : Type 0} where
   -- a token that knows this list and has done nothing yet
-  pub record IsFresh (xs : List T) (v : View T) : Type 0 where
+  pub record IsFresh (xs : List T) (v : TokenView T) : Type 0 where
     pub known : v.known ≡ xs
     pub loads : v.loads ≡ 0
     pub shown : v.shown ≡ 0
@@ -49,7 +49,7 @@ module _ {T : Type 0} where
     pub own : v.own ≡ []
 
   -- one load, which showed at least what is known and at most the bound
-  pub record HasLooked (most : ℕ) (v w : View T) : Type 0 where
+  pub record HasLoaded (most : ℕ) (v w : TokenView T) : Type 0 where
     pub loads : w.loads ≡ v.loads + 1
     pub shown : (length v.known ≤ w.shown) × (w.shown ≤ most)
     pub known : w.known ≡ v.known
@@ -58,7 +58,7 @@ module _ {T : Type 0} where
 
   -- one turn, which found one list and left another: what was known is a prefix of the list found, which no load of the token had shown to be longer,
   -- the list left is known, and the places of what was added are the token's own
-  pub record HasTurned (found left : List T) (v w : View T) : Type 0 where
+  pub record HasTurned (found left : List T) (v w : TokenView T) : Type 0 where
     pub knew : IsPrefix v.known found
     pub saw : v.shown ≤ length found
     pub grew : IsPrefix found left

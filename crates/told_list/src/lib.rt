@@ -7,7 +7,7 @@
 //! kept value back.
 //!
 //! The promise: what a token knew is a prefix of each list that a later turn finds, which is at least as long as what
-//! its last load showed; every place past the opening list belongs to exactly one token, the one whose turn added it;
+//! its last load showed; every place past the first list belongs to exactly one token, the one whose turn added it;
 //! and nothing that the kept value declares fixed ever changes. None of this names a thread or a lock: it is said of
 //! tokens, through the words of `specs/Tokens.antt`.
 //!

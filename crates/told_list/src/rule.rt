@@ -1,4 +1,4 @@
-// The rule of the table, what each step tells, and how a view is cut and joined.
+// The rule of the table, what each step tells, and how a view is split and joined.
 use crate::kept::Kept;
 use atomic_table::{Join, Play, Split, TableRule};
 use std::collections::LinkedList;
@@ -8,15 +8,15 @@ use std::marker::{Brand, PhantomData};
 pub const LENGTH: usize = 0;
 
 /// The word that says where the value is.
-pub const GATE: usize = 1;
+pub const LOCK: usize = 1;
 
-/// The gate while the value lies in the table.
+/// The lock word while the value lies in the table.
 pub const FREE: u64 = 0;
 
-/// The gate while one seat has the value.
+/// The lock word while one seat has the value.
 pub const TAKEN: u64 = 1;
 
-/// The gate until the value is put in.
+/// The lock word until the value is put in.
 pub const AWAITED: u64 = 2;
 
 /// The slot of the value.
@@ -24,13 +24,13 @@ pub const VALUE: usize = 0;
 
 /// What the table is told when it is made: the kept value, and the number of tokens.
 #[derive(Drop)]
-pub struct Opening<K> {
+pub struct Setup<K> {
     pub kept: K,
     pub tokens: u64,
 }
 
 /// What a seat knows. No value of it is made.
-pub struct View<T> {
+pub struct TokenView<T> {
     /// The list that it knows.
     pub known: LinkedList<T>,
     /// How many loads it has done.
@@ -44,32 +44,32 @@ pub struct View<T> {
     /// How many tokens it stands for.
     pub tokens: u64,
     /// Whether it has yet to put the value into the table.
-    pub opens: bool,
+    pub unfilled: bool,
     /// Whether it has the value.
     pub holds: bool,
-    /// The lists that the tokens knew for which it stands.
-    pub heard: LinkedList<LinkedList<T>>,
+    /// The lists that the joined tokens knew, in order.
+    pub joined_lists: LinkedList<LinkedList<T>>,
 }
 
 /// The rule of the table.
-pub struct Telling;
+pub struct ListRule;
 
-impl<K: Kept> TableRule<Option<K>, View<K::Item>, Opening<K>> for Telling {
-    ghost use Rattle.told_list.specs.Told.{IsLawful, opener};
+impl<K: Kept> TableRule<Option<K>, TokenView<K::Item>, Setup<K>> for ListRule {
+    ghost use Rattle.told_list.specs.Rule.{IsLawful, first_view};
 
     ghost holds = { λ o s. IsLawful K.items K.fixed K.MOST o s };
 
-    ghost first = { λ o. opener (K.items o.kept) o.tokens };
+    ghost first = { λ o. first_view (K.items o.kept) o.tokens };
 }
 
 /// What a turn learns of the value that it finds, and where it finds that another turn goes on. The caller picks both.
-pub trait Lesson<K> {
+pub trait TurnFacts<K> {
     ghost fact: { K → Type 0 };
 
     ghost busy: { Type 0 };
 }
 
-impl<K> Lesson<K> for Brand {
+impl<K> TurnFacts<K> for Brand {
     ghost fact = { λ _. Unit {0} };
 
     ghost busy = { Unit {0} };
@@ -89,41 +89,41 @@ impl<T> Adding<T> for Brand {
 }
 
 /// A load of the length.
-pub struct Looks<K>(PhantomData<K>);
+pub struct Loads<K>(PhantomData<K>);
 
-impl<K: Kept> Play<Option<K>, View<K::Item>> for Looks<K> {
+impl<K: Kept> Play<Option<K>, TokenView<K::Item>> for Loads<K> {
     ghost use Rattle.std.specs.Prelude.{◌≡◌};
-    ghost use Rattle.told_list.specs.Told.{Looked};
+    ghost use Rattle.told_list.specs.Rule.{Loaded};
 
-    ghost then = { λ s v n w. Looked K.MOST v.0 n w.0 × (w.1 ≡ v.1) };
+    ghost then = { λ s v n w. Loaded K.MOST v.0 n w.0 × (w.1 ≡ v.1) };
 }
 
 /// A seat that stands for no token.
 pub struct Enters;
 
-impl<K, T> Play<Option<K>, View<T>> for Enters {
+impl<K, T> Play<Option<K>, TokenView<T>> for Enters {
     ghost use Rattle.std.specs.Prelude.{◌≡◌, []};
-    ghost use Rattle.told_list.specs.Told.{nobody};
+    ghost use Rattle.told_list.specs.Rule.{empty_view};
 
-    ghost then = { λ s v n w. w ≡ (nobody, []) };
+    ghost then = { λ s v n w. w ≡ (empty_view, []) };
 }
 
-/// The first seat gets the place of the value, which is empty yet.
-pub struct Opens;
+/// The first seat gets the slot of the value, which is empty yet.
+pub struct TakesSlot;
 
-impl<K, T> Play<Option<K>, View<T>> for Opens {
+impl<K, T> Play<Option<K>, TokenView<T>> for TakesSlot {
     ghost use Rattle.std.specs.Prelude.{◌≡◌, [], ◌∷◌};
     ghost use Rattle.std.specs.declared.option.Option.TheVariants.{None};
-    ghost use Rattle.told_list.specs.Told.{opened};
+    ghost use Rattle.told_list.specs.Rule.{slot_taken};
 
-    ghost then = { λ s v n w. w ≡ (opened v.0, (0, None) ∷ []) };
+    ghost then = { λ s v n w. w ≡ (slot_taken v.0, (0, None) ∷ []) };
 }
 
 /// A turn begins, where none goes on.
 pub struct Begins<K, M>(PhantomData<(K, M)>);
 
-impl<K: Kept, M: Lesson<K>> Play<Option<K>, View<K::Item>> for Begins<K, M> {
-    ghost use Rattle.told_list.specs.Told.{Began};
+impl<K: Kept, M: TurnFacts<K>> Play<Option<K>, TokenView<K::Item>> for Begins<K, M> {
+    ghost use Rattle.told_list.specs.Rule.{Began};
 
     ghost then = { λ s v n w. Began K.items K.fixed M.fact M.busy v n w };
 }
@@ -131,9 +131,9 @@ impl<K: Kept, M: Lesson<K>> Play<Option<K>, View<K::Item>> for Begins<K, M> {
 /// The length grows by the items that the turn added.
 pub struct Adds<M>(PhantomData<M>);
 
-impl<K, T, M: Adding<T>> Play<Option<K>, View<T>> for Adds<M> {
+impl<K, T, M: Adding<T>> Play<Option<K>, TokenView<T>> for Adds<M> {
     ghost use Rattle.std.specs.Prelude.{◌≡◌};
-    ghost use Rattle.told_list.specs.Told.{added};
+    ghost use Rattle.told_list.specs.Rule.{added};
 
     ghost then = { λ s v n w. w ≡ (added M.items v.0, v.1) };
 }
@@ -141,28 +141,28 @@ impl<K, T, M: Adding<T>> Play<Option<K>, View<T>> for Adds<M> {
 /// A turn ends: the value goes back.
 pub struct Ends;
 
-impl<K, T> Play<Option<K>, View<T>> for Ends {
+impl<K, T> Play<Option<K>, TokenView<T>> for Ends {
     ghost use Rattle.std.specs.Prelude.{◌≡◌, []};
-    ghost use Rattle.told_list.specs.Told.{ended};
+    ghost use Rattle.told_list.specs.Rule.{ended};
 
     ghost then = { λ s v n w. w ≡ (ended v.0, []) };
 }
 
-/// A token is handed out, and in the end taken back.
+/// A token is split off, and at closing joined.
 pub struct Tokens;
 
-impl<T> Split<View<T>> for Tokens {
-    ghost use Rattle.told_list.specs.Told.{keeping, handed};
+impl<T> Split<TokenView<T>> for Tokens {
+    ghost use Rattle.told_list.specs.Rule.{one_less, one_token};
 
-    ghost left = { keeping };
+    ghost left = { one_less };
 
-    ghost right = { handed };
+    ghost right = { one_token };
 }
 
-impl<T> Join<View<T>> for Tokens {
-    ghost use Rattle.told_list.specs.Told.{joined, nobody};
+impl<T> Join<TokenView<T>> for Tokens {
+    ghost use Rattle.told_list.specs.Rule.{joined, empty_view};
 
     ghost both = { joined };
 
-    ghost spent = { nobody };
+    ghost spent = { empty_view };
 }

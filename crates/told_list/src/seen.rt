@@ -1,17 +1,17 @@
 ghost use Rattle.std.specs.Prelude.{◌≡◌, [], false, length};
 
-use crate::rule::View;
+use crate::rule::TokenView;
 use atomic_table::Seat;
 
 /// A token of one list of items `T`, of which it knows a prefix. It goes with the [`Told`](crate::Told) that it was made
 /// with, whose kept value is a `K`.
 #[derive(Drop)]
 pub struct Seen<K, T> {
-    pub(crate) seat: Seat<Option<K>, View<T>>,
+    pub(crate) seat: Seat<Option<K>, TokenView<T>>,
     pub(crate) len: u64,
     ghost len_is: { len ≡ length seat.me.0.known },
     ghost bare: { seat.me.1 ≡ [] },
-    ghost rests: { (seat.me.0.holds ≡ false) × (seat.me.0.opens ≡ false) },
+    ghost rests: { (seat.me.0.holds ≡ false) × (seat.me.0.unfilled ≡ false) },
     ghost one: { seat.me.0.tokens ≡ 1 },
 }
 

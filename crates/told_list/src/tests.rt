@@ -1,5 +1,5 @@
 ghost use Rattle.std.specs.Prelude.{◌≡◌, ◌≤◌, ℕ, All, IfOk, vec_len};
-ghost use Rattle.told_list.specs.Tokens.{list_of, list_id, opening, tokens};
+ghost use Rattle.told_list.specs.Tokens.{list_of, list_id, first_value, tokens};
 
 use crate::{Act, Kept, Seen, Told};
 use rate_types::OutOfMemory;
@@ -34,10 +34,10 @@ impl Kept for Numbers {
     }
 }
 
-/// Writes the next number of a hand that is borrowed.
+/// Writes the next number of a variable that is borrowed.
 #[derive(Drop)]
 pub struct Push<'a> {
-    hand: &'a mut u64,
+    next: &'a mut u64,
     owner: u64,
 }
 
@@ -48,21 +48,21 @@ impl<'a> Act<Numbers> for Push<'a> {
 
     ghost ready = { λ p n. p.owner ≡ n.owner };
 
-    ghost did = { λ p n done q m. (q.hand.ghost_name ≡ p.hand.ghost_name) × (q.hand.now ≡ p.hand.now) × MatchBool done (m.items.items ≡ n.items.items ++ p.hand.now ∷ []) (m.items.items ≡ n.items.items) };
+    ghost did = { λ p n done q m. (q.next.ghost_name ≡ p.next.ghost_name) × (q.next.now ≡ p.next.now) × MatchBool done (m.items.items ≡ n.items.items ++ p.next.now ∷ []) (m.items.items ≡ n.items.items) };
 
     fn act(&mut self, kept: &mut Numbers) -> bool {
         prove!(self.owner == kept.owner);
         if kept.items.len() >= 100 || kept.items.reserve(1).is_err() {
             return false;
         }
-        kept.items.push_reserved(*self.hand);
+        kept.items.push_reserved(*self.next);
         true
     }
 }
 
 /// A list of two tokens, and a number that each of them writes.
 fn two_of(alloc: Global) -> Result<(Told<Numbers>, Vec<Seen<Numbers, u64>>), OutOfMemory>
-    ensures owner { IfOk result (λ r. (opening r.0).owner ≡ 7) }
+    ensures owner { IfOk result (λ r. (first_value r.0).owner ≡ 7) }
     ensures tokens { IfOk result (λ r. (tokens r.0 ≡ 2) × (vec_len r.1 ≡ 2) × All (λ s. list_of s ≡ list_id r.0) r.1.items) }
 {
     let kept = Numbers {
@@ -73,19 +73,19 @@ fn two_of(alloc: Global) -> Result<(Told<Numbers>, Vec<Seen<Numbers, u64>>), Out
     Ok((told, seats))
 }
 
-fn write_down<R: Wait>(
+fn push_next<R: Wait>(
     rt: &R,
     told: &Told<Numbers>,
     seen: &mut Seen<Numbers, u64>,
     owner: u64,
-    hand: &mut u64,
+    next: &mut u64,
 ) -> bool
     requires seen { list_of seen.old ≡ list_id told.now }
-    requires owner { owner ≡ (opening told.now).owner }
+    requires owner { owner ≡ (first_value told.now).owner }
     ensures seen { list_of seen.new ≡ list_of seen.old }
-    ensures hand { hand.new ≡ hand.old }
+    ensures next { next.new ≡ next.old }
 {
-    told.with(rt, seen, &mut Push { hand, owner })
+    told.with(rt, seen, &mut Push { next, owner })
 }
 
 fn close_two(
@@ -110,13 +110,13 @@ fn a_token_is_told_of_what_another_added(rt: HostRuntime) -> Result<(), Fail> {
         unreachable!()
     };
     let at_first = told.behind(&mut two);
-    let mut hand = 5;
-    let first = write_down(&rt, &told, &mut one, 7, &mut hand);
+    let mut next = 5;
+    let first = push_next(&rt, &told, &mut one, 7, &mut next);
     let lengths = (one.length(), two.length());
     let shown = told.behind(&mut two);
     let known = two.length();
-    hand = 6;
-    let second = write_down(&rt, &told, &mut two, 7, &mut hand);
+    next = 6;
+    let second = push_next(&rt, &told, &mut two, 7, &mut next);
     let at_last = (told.behind(&mut one), told.behind(&mut two));
     let numbers = close_two(rt.alloc(), told, one, two)?;
     assert!(rt; first && second);
@@ -145,11 +145,11 @@ fn write_one<R: Wait>(
     number: u64,
 ) -> Seen<Numbers, u64>
     requires seen { list_of seen ≡ list_id told.now }
-    requires owner { (opening told.now).owner ≡ 7 }
+    requires owner { (first_value told.now).owner ≡ 7 }
     ensures seen { list_of result ≡ list_id told.now }
 {
-    let mut hand = number;
-    write_down(rt, told, &mut seen, 7, &mut hand);
+    let mut next = number;
+    push_next(rt, told, &mut seen, 7, &mut next);
     seen
 }
 
@@ -163,11 +163,11 @@ fn two_threads_add_one_item_each(rt: HostRuntime) -> Result<(), Fail> {
     let (one, two) = join(
         &rt,
         || -> Seen<Numbers, u64>
-            requires { (list_of one ≡ list_id told) × ((opening told).owner ≡ 7) }
+            requires { (list_of one ≡ list_id told) × ((first_value told).owner ≡ 7) }
             ensures { list_of result ≡ list_id told }
         { write_one(&rt, &told, one, 1) },
         || -> Seen<Numbers, u64>
-            requires { (list_of two ≡ list_id told) × ((opening told).owner ≡ 7) }
+            requires { (list_of two ≡ list_id told) × ((first_value told).owner ≡ 7) }
             ensures { list_of result ≡ list_id told }
         { write_one(&rt, &told, two, 2) },
     );

@@ -4,8 +4,8 @@ use Rattle.std.proofs.lemmas.List.{map-append}
 use Rattle.std.proofs.lemmas.Grind.{common_steps}
 use Rattle.std.specs.Arc.{arc_value}
 use Rattle.told_list.specs.Tokens.{view, IsFresh}
-use Rattle.config_versions.specs.Turns.{IsFirst}
-use Rattle.config_versions.specs.Passes.{stand}
+use Rattle.config_versions.specs.PassState.{IsFirst}
+use Rattle.config_versions.specs.Passes.{pass_state}
 use Rattle.config_versions.proofs.Lists.{all_rest}
 use Rattle.config_versions.proofs.passes.passes_of.Goals as goal
 
@@ -21,8 +21,8 @@ loop-seen-preserved g c =
       whole = append_assoc c.loop-seen.yielded (s ∷ []) c.next.new.self.rest.items ∙ ap (λ l. c.loop-seen.yielded ++ l) (sym steps) ∙ i.whole;
       same = ap (map (λ p. p.seen)) c.push_reserved.ensures.items ∙ map-append (λ p. p.seen) c.loop-seen.passes.items (pass ∷ []) ∙ ap (λ l. l ++ pass.seen ∷ []) i.same ∙ ap (λ x. c.loop-seen.yielded ++ x ∷ []) c.first_pass-pass.ensures.token;
       first =
-          subst (All (λ p. IsFirst (arc_value first) (stand p))) (sym c.push_reserved.ensures.items)
-          (All-push (λ p. IsFirst (arc_value first) (stand p)) c.loop-seen.passes.items pass i.first (subst (λ v. IsFirst v (stand pass)) c.in_ok-index.ensures c.first_pass-pass.ensures.first));
+          subst (All (λ p. IsFirst (arc_value first) (pass_state p))) (sym c.push_reserved.ensures.items)
+          (All-push (λ p. IsFirst (arc_value first) (pass_state p)) c.loop-seen.passes.items pass i.first (subst (λ v. IsFirst v (pass_state pass)) c.in_ok-index.ensures c.first_pass-pass.ensures.first));
       rest = all_rest (λ x. IsFresh (arc_value first ∷ []) (view x)) s c.next.new.self.rest.items rest;
       room = grind (arith, common_steps);
     }

@@ -3,7 +3,7 @@ use Rattle.told_list.proofs.Steps.{begins, one_carried}
 use Rattle.told_list.proofs.turn.begin.Goals as goal
 
 pub compare_exchange-requires : goal.compare_exchange-requires
-compare_exchange-requires g c = (c.requires.here.0, omega (arith, c.requires.here.1), begins _ _ _ _ _ _ _ _ _ c.requires.bare c.requires.token c.requires.shows)
+compare_exchange-requires g c = (c.requires.here.0, omega (arith, c.requires.here.1), begins _ _ _ _ _ _ _ _ _ c.requires.bare c.requires.token c.requires.justified)
 
 pub exchange-requires : goal.exchange-requires
 exchange-requires g c =

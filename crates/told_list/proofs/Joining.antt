@@ -6,11 +6,11 @@ use mathlib.Core.Option.{some}
 use mathlib.Core.List.{IsPrefix}
 use lib.ListN.{get_elem?}
 use Rattle.atomic_table.proofs.Lists.{at_map}
-use Rattle.told_list.specs.declared.rule.View.{View}
+use Rattle.told_list.specs.declared.rule.TokenView.{TokenView}
 use Rattle.told_list.specs.declared.seen.Seen.{Seen}
 use Rattle.told_list.specs.Lists.{times}
-use Rattle.told_list.specs.Told.{joined}
-use Rattle.told_list.specs.Tokens.{view, known, Gathers}
+use Rattle.told_list.specs.Rule.{joined}
+use Rattle.told_list.specs.Tokens.{view, known, JoinsTokens}
 use Rattle.told_list.proofs.Sums.{total_append, times_append}
 
 at_or : {A : Type 0} (l : List A) (k : ℕ) (d : A) → k < length l → get_elem? l k ≡ some (slice_index_or l k d)
@@ -20,16 +20,16 @@ at_or (x ∷ xs) (suc k) d h = at_or xs k d (omega arith)
 
 module _ {K T : Type 0} where
   -- one token more
-  pub gathers_more : (seats : List (Seen K T)) (v : View T) (s : Seen K T) → Gathers seats v → Gathers (seats ++ s ∷ []) (joined v (view s))
-  gathers_more seats v s g = record {
+  pub joins_more : (seats : List (Seen K T)) (v : TokenView T) (s : Seen K T) → JoinsTokens seats v → JoinsTokens (seats ++ s ∷ []) (joined v (view s))
+  joins_more seats v s g = record {
     tokens = omega (arith, g.tokens, s.one, length-append seats (s ∷ []));
-    heard = ap (λ (l : List (List T)). l ++ known s ∷ []) g.heard ∙ sym (map-append known seats (s ∷ []));
+    joined_lists = ap (λ (l : List (List T)). l ++ known s ∷ []) g.joined_lists ∙ sym (map-append known seats (s ∷ []));
     own = λ p. omega (arith, g.own p, times_append p v.own (view s).own, total_append (λ (x : Seen K T). times p (view x).own) seats (s ∷ []));
     rests = g.rests;
   }
 
-  pub prefixes_of : (seats : List (Seen K T)) (v : View T) (ys : List T) → Gathers seats v → ((i : ℕ) (xs : List T) → get_elem? v.heard i ≡ some xs → IsPrefix xs ys) → All (λ s. IsPrefix (known s) ys) seats
-  prefixes_of seats v ys g h k d le = h k (known (slice_index_or seats k d)) (ap (λ (l : List (List T)). get_elem? l k) g.heard ∙ at_map known seats k (slice_index_or seats k d) (at_or seats k d le))
+  pub prefixes_of : (seats : List (Seen K T)) (v : TokenView T) (ys : List T) → JoinsTokens seats v → ((i : ℕ) (xs : List T) → get_elem? v.joined_lists i ≡ some xs → IsPrefix xs ys) → All (λ s. IsPrefix (known s) ys) seats
+  prefixes_of seats v ys g h k d le = h k (known (slice_index_or seats k d)) (ap (λ (l : List (List T)). get_elem? l k) g.joined_lists ∙ at_map known seats k (slice_index_or seats k d) (at_or seats k d le))
 
 at_length : {A : Type 0} (xs ys : List A) (y : A) → slice_index_or (xs ++ y ∷ ys) (length xs) y ≡ y
 at_length [] ys y = refl

@@ -11,13 +11,13 @@ pub const MOST: u32 = 1_048_576;
 
 /// The versions, in the order in which they were installed.
 #[derive(Drop)]
-pub struct Book<I> {
+pub struct VersionList<I> {
     pub versions: Vec<Arc<I>>,
     ghost some: { 1 ≤ vec_len versions },
     ghost few: { vec_len versions ≤ 1048576 },
 }
 
-impl<I> Kept for Book<I> {
+impl<I> Kept for VersionList<I> {
     ghost use Rattle.std.specs.Prelude.{map};
     ghost use Rattle.std.specs.Arc.{arc_value};
 
@@ -38,19 +38,19 @@ impl<I> Kept for Book<I> {
     }
 }
 
-impl<I: Drop> Book<I> {
+impl<I: Drop> VersionList<I> {
     ghost use Rattle.std.specs.Prelude.{◌≡◌, ◌<◌, [], ◌∷◌, IfOk, map};
     ghost use Rattle.std.specs.Arc.{arc_value};
-    ghost use Rattle.config_versions.specs.Turns.{IsVersion};
+    ghost use Rattle.config_versions.specs.PassState.{IsVersion};
     ghost use Rattle.config_versions.specs.Acts.{Installs, Refreshes};
 
     /// Only the first version.
-    pub fn of(alloc: Global, first: Arc<I>) -> Result<Book<I>, AllocError>
+    pub fn of(alloc: Global, first: Arc<I>) -> Result<VersionList<I>, AllocError>
         ensures { IfOk result (λ b. map arc_value b.versions.items ≡ arc_value first ∷ []) }
     {
         let mut versions = Vec::with_capacity(alloc, 1)?;
         versions.push_reserved(first);
-        Ok(Book { versions })
+        Ok(VersionList { versions })
     }
 
     /// The version with this number.
