@@ -6,7 +6,7 @@ use mathlib.Core.Option.{some, some-injective}
 use lib.ListN.{get_elem?}
 use Rattle.counter_cells.specs.declared.view.Charge.{Charge}
 use Rattle.counter_cells.specs.declared.view.Cell.{Cell}
-use Rattle.counter_cells.specs.declared.view.View.{View}
+use Rattle.counter_cells.specs.declared.view.CellView.{CellView}
 use Rattle.counter_cells.specs.declared.setup.Setup.{Setup}
 use Rattle.counter_cells.specs.Sums.{total, one_if, times}
 use Rattle.counter_cells.specs.Gates.{gate_word}
@@ -21,7 +21,7 @@ ever_open : (st : Cell) → (st.ever ≡ false → (st.is_open ≡ false) × (st
 ever_open st never opn true e = e
 ever_open st never opn false e = absurd (true≢false (sym opn ∙ (never e).0))
 
-module _ (a : Setup) (t : Register) (gate count : ℕ → ℕ) (views : List View) (r : Rule a t gate count views) where
+module _ (a : Setup) (t : Register) (gate count : ℕ → ℕ) (views : List CellView) (r : Rule a t gate count views) where
   pub is_ever : (k : ℕ) (st : Cell) → get_elem? t.cells k ≡ some st → st.is_open ≡ true → st.ever ≡ true
   is_ever k st at opn = ever_open st (r.cells k st at).never opn st.ever refl
 
@@ -30,7 +30,7 @@ module _ (a : Setup) (t : Register) (gate count : ℕ → ℕ) (views : List Vie
   one_cell k j st u at at' opn ever same = r.truth.apart j k u st at' at ever (is_ever k st at opn) same
 
   -- the good pin under an unused look
-  pub cell_under : (k id : ℕ) (v : View) → get_elem? views id ≡ some v → 1 ≤ unused_on k v → (st : Cell) × (get_elem? t.cells k ≡ some st) × (st.is_open ≡ true) × (st.claim ≡ claim_on k v.good) × (1 ≤ pair_at k (claim_on k v.good) v)
+  pub cell_under : (k id : ℕ) (v : CellView) → get_elem? views id ≡ some v → 1 ≤ unused_on k v → (st : Cell) × (get_elem? t.cells k ≡ some st) × (st.is_open ≡ true) × (st.claim ≡ claim_on k v.good) × (1 ≤ pair_at k (claim_on k v.good) v)
   cell_under k id v at one = (r.each id v at).good k (claim_on k v.good) (claimed k v.good ((r.each id v at).under k one))
 
   pub none_at : (k : ℕ) (st : Cell) → get_elem? t.cells k ≡ some st → st.is_open ≡ true → total (charges_at st.claim (count k)) views ≡ 0
@@ -41,8 +41,8 @@ module _ (a : Setup) (t : Register) (gate count : ℕ → ℕ) (views : List Vie
   whole_below k st at opn = (r.cells k st at).sum opn ∙ sym (total_eq (hits_below st.claim (count k)) (hits_of st.claim) views
       (λ j u e. all_below st.claim (count k) u.charges ((r.each j u e).caps k st at opn).charges (each_map (λ (x : Charge). (1 ≤ x.hits) × (x.before ≡ total (hits_below x.claim x.before) views)) (λ (x : Charge). 1 ≤ x.hits) u.charges (λ x p. p.0) (r.lawful j u e).charges)))
 
-module _ (a : Setup) (t : Register) (gate count count' : ℕ → ℕ) (views : List View) (r : Rule a t gate count views) (id k h : ℕ) (v : View) (at : get_elem? views id ≡ some v) (one : 1 ≤ small_on k v) (hits : (1 ≤ h) × (h ≤ most_hits)) (here : count' k ≡ count k + h) (else : (j : ℕ) → (j ≡ k → ⊥) → count' j ≡ count j) where
-  abbrev W : View
+module _ (a : Setup) (t : Register) (gate count count' : ℕ → ℕ) (views : List CellView) (r : Rule a t gate count views) (id k h : ℕ) (v : CellView) (at : get_elem? views id ≡ some v) (one : 1 ≤ small_on k v) (hits : (1 ≤ h) × (h ≤ most_hits)) (here : count' k ≡ count k + h) (else : (j : ℕ) → (j ≡ k → ⊥) → count' j ≡ count j) where
+  abbrev W : CellView
   W = charged k (count k) h v
 
   abbrev C : ℕ
@@ -55,8 +55,8 @@ module _ (a : Setup) (t : Register) (gate count count' : ℕ → ℕ) (views : L
   mine = cell_under a t gate count views r k id v at (let s = small_le k v.unused in omega arith)
 
   -- a sum over charges grows by the new one
-  grows : (f : Charge → ℕ) → total (λ (u : View). total f u.charges) (set views id W) ≡ total (λ (u : View). total f u.charges) views + f new
-  grows f = omega (arith, total_set (λ (u : View). total f u.charges) views id v W at, total_push f v.charges new)
+  grows : (f : Charge → ℕ) → total (λ (u : CellView). total f u.charges) (set views id W) ≡ total (λ (u : CellView). total f u.charges) views + f new
+  grows f = omega (arith, total_set (λ (u : CellView). total f u.charges) views id v W at, total_push f v.charges new)
 
   small_here : small_on k W ≡ 0
   small_here = omega (arith, small_le k (without k v.unused), without_here k v.unused)
@@ -101,7 +101,7 @@ module _ (a : Setup) (t : Register) (gate count count' : ℕ → ℕ) (views : L
         room = let m = f.room in let s = total_set (small_on j) views id v W at in let z = small_else j n in omega arith;
       }
 
-  old_caps : (j : ℕ) (u : Cell) (x : View) → get_elem? t.cells j ≡ some u → u.is_open ≡ true → Capped u.claim (count j) x → Dec (j ≡ k) → Capped u.claim (count' j) x
+  old_caps : (j : ℕ) (u : Cell) (x : CellView) → get_elem? t.cells j ≡ some u → u.is_open ≡ true → Capped u.claim (count j) x → Dec (j ≡ k) → Capped u.claim (count' j) x
   old_caps j u x e opn p (yes d) =
       let now : count' j ≡ count j + h = ap count' d ∙ here ∙ sym (ap (λ i. count i + h) d) in
       record {
@@ -114,10 +114,10 @@ module _ (a : Setup) (t : Register) (gate count count' : ℕ → ℕ) (views : L
   new_cap j u e opn (yes d) s = let now : count' j ≡ count k + h = ap count' d ∙ here in omega arith
   new_cap j u e opn (no n) s = absurd (n (one_cell a t gate count views r k j mine.0 u mine.1 e mine.2 (is_ever a t gate count views r j u e opn) (sym s ∙ sym mine.3)))
 
-  drawn_here : 1 ≤ times C t.drawn
-  drawn_here = ((r.each id v at).past k C mine.4).0
+  claims_used_here : 1 ≤ times C t.used_claims
+  claims_used_here = ((r.each id v at).past k C mine.4).0
 
-  fits_other : (j : ℕ) (x : View) → (j ≡ id → ⊥) → get_elem? views j ≡ some x → ViewFits t count' x
+  fits_other : (j : ℕ) (x : CellView) → (j ≡ id → ⊥) → get_elem? views j ≡ some x → ViewFits t count' x
   fits_other j x n e =
       let f = r.each j x e in
       record {
@@ -142,7 +142,7 @@ module _ (a : Setup) (t : Register) (gate count count' : ℕ → ℕ) (views : L
         under = λ j o. f.under j (let l = without_le (λ p. one_if (p.0 == j)) k v.unused in omega arith);
         once = λ j. let l = without_le (λ p. one_if (p.0 == j)) k v.unused in let m = f.once j in (omega arith, omega arith);
         past = f.past;
-        charges = λ d o. drawn_now d (total_push (λ (x : Charge). one_if (x.claim == d)) v.charges new) o (ℕ_discrete C d) (f.charges d);
+        charges = λ d o. claims_used_now d (total_push (λ (x : Charge). one_if (x.claim == d)) v.charges new) o (ℕ_discrete C d) (f.charges d);
         looks = f.looks;
         idle = λ _ z. absurd (let o = f.once k in let s = small_le k v.unused in let q = o.1 in omega arith);
         claimer = f.claimer;
@@ -151,9 +151,9 @@ module _ (a : Setup) (t : Register) (gate count count' : ℕ → ℕ) (views : L
             record { charges = each_push (λ (y : Charge). y.claim ≡ u.claim → y.before + y.hits ≤ count' j) v.charges new p.charges (λ s. new_cap j u e opn (ℕ_discrete j k) s); looks = p.looks };
       }
     where
-      drawn_now : (d : ℕ) → total (λ (x : Charge). one_if (x.claim == d)) (v.charges ++ new ∷ []) ≡ charges_of d v + one_if (C == d) → 1 ≤ total (λ (x : Charge). one_if (x.claim == d)) (v.charges ++ new ∷ []) → Dec (C ≡ d) → (1 ≤ charges_of d v → 1 ≤ times d t.drawn) → 1 ≤ times d t.drawn
-      drawn_now d g o (yes e) f = subst (λ i. 1 ≤ times i t.drawn) e drawn_here
-      drawn_now d g o (no n) f = let z = cond_no C d 1 0 n in f (omega arith)
+      claims_used_now : (d : ℕ) → total (λ (x : Charge). one_if (x.claim == d)) (v.charges ++ new ∷ []) ≡ charges_of d v + one_if (C == d) → 1 ≤ total (λ (x : Charge). one_if (x.claim == d)) (v.charges ++ new ∷ []) → Dec (C ≡ d) → (1 ≤ charges_of d v → 1 ≤ times d t.used_claims) → 1 ≤ times d t.used_claims
+      claims_used_now d g o (yes e) f = subst (λ i. 1 ≤ times i t.used_claims) e claims_used_here
+      claims_used_now d g o (no n) f = let z = cond_no C d 1 0 n in f (omega arith)
 
   once_new : (d b : ℕ) → total (charges_at d b) (set views id W) ≤ 1
   once_new d b = pick (ℕ_discrete C d) (ℕ_discrete (count k) b) (grows (λ (x : Charge). cond (x.claim == d) (one_if (x.before == b)) 0)) (r.once d b)
@@ -176,7 +176,7 @@ module _ (a : Setup) (t : Register) (gate count count' : ℕ → ℕ) (views : L
       pick (yes e) g = let y = cond_yes C d (cond (ltb (count k) b) h 0) 0 e in let y' = below_no (count k) b h 0 (le e) in omega arith
       pick (no n) g = let y = cond_no C d (cond (ltb (count k) b) h 0) 0 n in omega arith
 
-  lawful_old : (j : ℕ) (x : View) → get_elem? views j ≡ some x → ViewLawful (set views id W) x
+  lawful_old : (j : ℕ) (x : CellView) → get_elem? views j ≡ some x → ViewLawful (set views id W) x
   lawful_old j x e =
       let l = r.lawful j x e in
       let p = (r.each j x e).caps k mine.0 mine.1 mine.2 in
@@ -204,7 +204,7 @@ module _ (a : Setup) (t : Register) (gate count count' : ℕ → ℕ) (views : L
     each = each_set (ViewFits t count') views id W fits_other fits_mine;
     once = once_new;
     lawful = each_set (ViewLawful (set views id W)) views id W (λ j x _ e. lawful_old j x e) lawful_mine;
-    claimer = total_same (λ (x : View). one_if x.claimer) views id v W at refl ∙ r.claimer;
-    parts = total_same (λ (x : View). length x.numbers + x.unmade) views id v W at refl ∙ r.parts;
+    claimer = total_same (λ (x : CellView). one_if x.claimer) views id v W at refl ∙ r.claimer;
+    parts = total_same (λ (x : CellView). length x.numbers + x.unmade) views id v W at refl ∙ r.parts;
     few = r.few;
   }

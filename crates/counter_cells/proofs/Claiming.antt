@@ -5,7 +5,7 @@ use mathlib.Core.Option.{some, some-injective, some-ne-none}
 use lib.ListN.{get_elem?}
 use Rattle.atomic_table.proofs.Lists.{at_set, set_here, set_else}
 use Rattle.counter_cells.specs.declared.view.Cell.{Cell}
-use Rattle.counter_cells.specs.declared.view.View.{View}
+use Rattle.counter_cells.specs.declared.view.CellView.{CellView}
 use Rattle.counter_cells.specs.declared.setup.Setup.{Setup}
 use Rattle.counter_cells.specs.Sums.{total, one_if, times}
 use Rattle.counter_cells.specs.Gates.{gate_word}
@@ -26,12 +26,12 @@ pair_on k c (p ∷ ps) = keep (p.0 == k) (p.1 == c) (pair_on k c ps)
     keep true false r = omega arith
     keep false d r = omega arith
 
-module _ (a : Setup) (t : Register) (gate gate' count count' : ℕ → ℕ) (views : List View) (r : Rule a t gate count views) (id k : ℕ) (v : View) (at : get_elem? views id ≡ some v) (role : v.claimer ≡ true) (st st' : Cell) (cell : get_elem? t.cells k ≡ some st) (drawn' : List ℕ) (held' : List (ℕ × ℕ)) where
+module _ (a : Setup) (t : Register) (gate gate' count count' : ℕ → ℕ) (views : List CellView) (r : Rule a t gate count views) (id k : ℕ) (v : CellView) (at : get_elem? views id ≡ some v) (role : v.claimer ≡ true) (st st' : Cell) (cell : get_elem? t.cells k ≡ some st) (drawn' : List ℕ) (held' : List (ℕ × ℕ)) where
   abbrev T' : Register
-  T' = record { cells = set t.cells k st'; drawn = drawn' }
+  T' = record { cells = set t.cells k st'; used_claims = drawn' }
 
-  abbrev W : View
-  W = record v { cells = set v.cells k st'; drawn = drawn'; held = held' }
+  abbrev W : CellView
+  W = record v { cells = set v.cells k st'; used_claims = drawn'; held = held' }
 
   within : (l : List Cell) (i : ℕ) (s : Cell) → get_elem? l i ≡ some s → i < length l
   within [] i s e = absurd (some-ne-none s (sym e))
@@ -45,11 +45,11 @@ module _ (a : Setup) (t : Register) (gate gate' count count' : ℕ → ℕ) (vie
   kept j s n e = set_else t.cells k j st' n ∙ e
 
   pub claim_keeps :
-      ((j : ℕ) (x : View) → get_elem? views j ≡ some x → good_on k x ≡ 0)
-      → st'.ever ≡ true → RegisterFits T' → ((c : ℕ) → 1 ≤ times c t.drawn → 1 ≤ times c drawn')
+      ((j : ℕ) (x : CellView) → get_elem? views j ≡ some x → good_on k x ≡ 0)
+      → st'.ever ≡ true → RegisterFits T' → ((c : ℕ) → 1 ≤ times c t.used_claims → 1 ≤ times c drawn')
       → cell_fits a.passes st' (gate' k) (count' k) (set views id W) k
       → ((j : ℕ) → (j ≡ k → ⊥) → gate' j ≡ gate j) → ((j : ℕ) → (j ≡ k → ⊥) → count' j ≡ count j)
-      → (st'.is_open ≡ true → (j : ℕ) (x : View) → get_elem? views j ≡ some x → Capped st'.claim (count' k) x)
+      → (st'.is_open ≡ true → (j : ℕ) (x : CellView) → get_elem? views j ≡ some x → Capped st'.claim (count' k) x)
       → Rule a T' gate' count' (set views id W)
   claim_keeps bare ever truth draws fits gates counts caps = record {
     truth = truth;
@@ -57,19 +57,19 @@ module _ (a : Setup) (t : Register) (gate gate' count count' : ℕ → ℕ) (vie
         (λ (q : (j ≡ k) × (st' ≡ u)). subst (λ (i : ℕ × Cell). cell_fits a.passes i.1 (gate' i.0) (count' i.0) (set views id W) i.0) (λ i. (sym q.0 i, q.1 i)) fits)
         (λ (q : (j ≢ k) × (get_elem? t.cells j ≡ some u)). other j u q.0 q.1)
         (at_set t.cells k j st' u e);
-    each = each_set (ViewFits T' count') views id W (λ j x n e. view_fits j x e x.cells x.drawn x.held (λ c. absurd (one_claimer j x n e c))) (view_fits id v at (set v.cells k st') drawn' held' (λ _. (ap (λ l. set l k st') ((r.each id v at).claimer role).0, refl)));
+    each = each_set (ViewFits T' count') views id W (λ j x n e. view_fits j x e x.cells x.used_claims x.held (λ c. absurd (one_claimer j x n e c))) (view_fits id v at (set v.cells k st') drawn' held' (λ _. (ap (λ l. set l k st') ((r.each id v at).claimer role).0, refl)));
     once = λ c b. let s = total_same (charges_at c b) views id v W at refl in let o = r.once c b in omega arith;
     lawful = each_set (ViewLawful (set views id W)) views id W (λ j x _ e. law j x e) (let m = law id v at in record { charges = m.charges; looks = m.looks });
-    claimer = total_same (λ (x : View). one_if x.claimer) views id v W at refl ∙ r.claimer;
-    parts = total_same (λ (x : View). length x.numbers + x.unmade) views id v W at refl ∙ r.parts;
+    claimer = total_same (λ (x : CellView). one_if x.claimer) views id v W at refl ∙ r.claimer;
+    parts = total_same (λ (x : CellView). length x.numbers + x.unmade) views id v W at refl ∙ r.parts;
     few = r.few;
   }
     where
-      law : (j : ℕ) (x : View) → get_elem? views j ≡ some x → ViewLawful (set views id W) x
+      law : (j : ℕ) (x : CellView) → get_elem? views j ≡ some x → ViewLawful (set views id W) x
       law j x e = lawful_same views id v W x at (λ f. refl) (r.lawful j x e)
 
-      one_claimer : (j : ℕ) (x : View) → (j ≡ id → ⊥) → get_elem? views j ≡ some x → x.claimer ≡ true → ⊥
-      one_claimer j x n e c = let two = total_two (λ (y : View). one_if y.claimer) views id j v x n at e in let y : one_if v.claimer ≡ 1 = ap one_if role in let z : one_if x.claimer ≡ 1 = ap one_if c in omega (arith, r.claimer)
+      one_claimer : (j : ℕ) (x : CellView) → (j ≡ id → ⊥) → get_elem? views j ≡ some x → x.claimer ≡ true → ⊥
+      one_claimer j x n e c = let two = total_two (λ (y : CellView). one_if y.claimer) views id j v x n at e in let y : one_if v.claimer ≡ 1 = ap one_if role in let z : one_if x.claimer ≡ 1 = ap one_if c in omega (arith, r.claimer)
 
       other : (j : ℕ) (u : Cell) → (j ≡ k → ⊥) → get_elem? t.cells j ≡ some u → cell_fits a.passes u (gate' j) (count' j) (set views id W) j
       other j u n e =
@@ -85,7 +85,7 @@ module _ (a : Setup) (t : Register) (gate gate' count count' : ℕ → ℕ) (vie
             room = let m = f.room in let s = total_same (small_on j) views id v W at refl in omega arith;
           }
 
-      view_fits : (j : ℕ) (x : View) → get_elem? views j ≡ some x → (c1 : List Cell) (d1 : List ℕ) (h1 : List (ℕ × ℕ)) → (x.claimer ≡ true → (c1 ≡ set t.cells k st') × (d1 ≡ drawn')) → ViewFits T' count' (record x { cells = c1; drawn = d1; held = h1 })
+      view_fits : (j : ℕ) (x : CellView) → get_elem? views j ≡ some x → (c1 : List Cell) (d1 : List ℕ) (h1 : List (ℕ × ℕ)) → (x.claimer ≡ true → (c1 ≡ set t.cells k st') × (d1 ≡ drawn')) → ViewFits T' count' (record x { cells = c1; used_claims = d1; held = h1 })
       view_fits j x e c1 d1 h1 cl =
           let f = r.each j x e in
           let none = bare j x e in
@@ -113,21 +113,21 @@ module _ (a : Setup) (t : Register) (gate gate' count count' : ℕ → ℕ) (vie
           still i s (no n) = (s.0, kept i s.0 n s.1, s.2)
 
 -- no pin on a closed cell
-pub bare_closed : (a : Setup) (t : Register) (gate count : ℕ → ℕ) (views : List View) → Rule a t gate count views → (k : ℕ) (st : Cell) → get_elem? t.cells k ≡ some st → st.is_open ≡ false → (j : ℕ) (x : View) → get_elem? views j ≡ some x → good_on k x ≡ 0
+pub bare_closed : (a : Setup) (t : Register) (gate count : ℕ → ℕ) (views : List CellView) → Rule a t gate count views → (k : ℕ) (st : Cell) → get_elem? t.cells k ≡ some st → st.is_open ≡ false → (j : ℕ) (x : CellView) → get_elem? views j ≡ some x → good_on k x ≡ 0
 bare_closed a t gate count views r k st cell off j x e = pick (dec_lt 0 (good_on k x))
   where
     pick : Dec (0 < good_on k x) → good_on k x ≡ 0
     pick (yes d) = let g = (r.each j x e).good k (claim_on k x.good) (claimed k x.good (omega arith)) in absurd (true≢false (sym g.2 ∙ ap (λ (s : Cell). s.is_open) (some-injective _ _ (sym g.1 ∙ cell)) ∙ off))
     pick (no n) = omega arith
 
-module _ (a : Setup) (t : Register) (gate count : ℕ → ℕ) (views : List View) (r : Rule a t gate count views) (k : ℕ) (st : Cell) (cell : get_elem? t.cells k ≡ some st) where
+module _ (a : Setup) (t : Register) (gate count : ℕ → ℕ) (views : List CellView) (r : Rule a t gate count views) (k : ℕ) (st : Cell) (cell : get_elem? t.cells k ≡ some st) where
   -- the register where a cell keeps its claim
-  pub truth_same : (st' : Cell) → st'.ever ≡ st.ever → st'.claim ≡ st.claim → RegisterFits (record { cells = set t.cells k st'; drawn = t.drawn })
+  pub truth_same : (st' : Cell) → st'.ever ≡ st.ever → st'.claim ≡ st.claim → RegisterFits (record { cells = set t.cells k st'; used_claims = t.used_claims })
   truth_same st' ev cl =
       let old = λ (j : ℕ) (u : Cell) (e : get_elem? (set t.cells k st') j ≡ some u). was j u e in
       record {
         apart = λ i j s u e d es eu same. let x = was i s e in let y = was j u d in r.truth.apart i j x.0 y.0 x.1 y.1 (x.2 ∙ es) (y.2 ∙ eu) (x.3 ∙ same ∙ sym y.3);
-        drawn = λ i s e es. let x = was i s e in subst (λ c. 1 ≤ times c t.drawn) x.3 (r.truth.drawn i x.0 x.1 (x.2 ∙ es));
+        used_claims = λ i s e es. let x = was i s e in subst (λ c. 1 ≤ times c t.used_claims) x.3 (r.truth.used_claims i x.0 x.1 (x.2 ∙ es));
         small = λ i s e. let x = was i s e in subst (λ c. c < 2 ^ 40) x.3 (r.truth.small i x.0 x.1);
       }
     where

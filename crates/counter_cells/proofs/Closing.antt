@@ -1,4 +1,4 @@
--- What the views tell when the claimer has taken in all passes.
+-- What the views tell when all passes are joined.
 use Rattle.std.proofs.Common.{◌≡◌, ℕ, zero, suc, ◌+◌, ◌≤◌, ◌==◌, List, [], ◌∷◌, ◌++◌, length, Bool, true, false, cond, refl, sym, ap, ◌∙◌, subst, arith, ⊎_elim, inl, inr, append_assoc}
 use Rattle.std.specs.Prelude.{ltb, IfSome}
 use Rattle.std.specs.List.{AllByRecursion}
@@ -10,10 +10,10 @@ use Rattle.rate_types.specs.Ledger.{IsLawfulLedger, IsLawfulSight, charged_total
 use Rattle.counter_cells.specs.declared.view.Tick.{Tick}
 use Rattle.counter_cells.specs.declared.view.Charge.{Charge}
 use Rattle.counter_cells.specs.declared.view.Cell.{Cell}
-use Rattle.counter_cells.specs.declared.view.View.{View}
+use Rattle.counter_cells.specs.declared.view.CellView.{CellView}
 use Rattle.counter_cells.specs.declared.setup.Setup.{Setup}
 use Rattle.counter_cells.specs.Sums.{total, one_if, times}
-use Rattle.counter_cells.specs.Places.{count_of, clock_of}
+use Rattle.counter_cells.specs.WordIndex.{count_of, clock_of}
 use Rattle.counter_cells.specs.Views.{pins_of, offered}
 use Rattle.counter_cells.specs.Steps.{joined}
 use Rattle.counter_cells.specs.Ledgers.{ledger_of, sights_of}
@@ -26,37 +26,37 @@ use Rattle.counter_cells.proofs.Ledgers.{total_is, ledger_from, sights_from}
 use Rattle.counter_cells.proofs.Regrouping.{final_as}
 use Rattle.counter_cells.proofs.Ticking.{sourced_more}
 
--- the claimer that took in passes, one at a time
-pub joined_snoc : (v : View) (xs : List View) (w : View) → all_joined v (xs ++ w ∷ []) ≡ joined (all_joined v xs) w
+-- passes joined, one at a time
+pub joined_snoc : (v : CellView) (xs : List CellView) (w : CellView) → all_joined v (xs ++ w ∷ []) ≡ joined (all_joined v xs) w
 joined_snoc v [] w = refl
 joined_snoc v (x ∷ xs) w = joined_snoc (joined v x) xs w
 
-pub joined_keeps : (v : View) (xs : List View) → ((all_joined v xs).claimer ≡ v.claimer) × (pins_of (all_joined v xs) ≡ pins_of v) × ((all_joined v xs).cells ≡ v.cells)
+pub joined_keeps : (v : CellView) (xs : List CellView) → ((all_joined v xs).claimer ≡ v.claimer) × (pins_of (all_joined v xs) ≡ pins_of v) × ((all_joined v xs).cells ≡ v.cells)
 joined_keeps v [] = (refl, refl, refl)
 joined_keeps v (x ∷ xs) = joined_keeps (joined v x) xs
 
-joined_charges : (f : Charge → ℕ) (v : View) (ws : List View) → total f (all_joined v ws).charges ≡ total f v.charges + total (λ (w : View). total f w.charges) ws
+joined_charges : (f : Charge → ℕ) (v : CellView) (ws : List CellView) → total f (all_joined v ws).charges ≡ total f v.charges + total (λ (w : CellView). total f w.charges) ws
 joined_charges f v [] = omega arith
 joined_charges f v (w ∷ ws) = let r = joined_charges f (joined v w) ws in let a = total_append f v.charges w.charges in omega arith
 
-joined_ticks : (v : View) (ws : List View) → (all_joined v ws).ticks ≡ v.ticks ++ ticks_of ws
+joined_ticks : (v : CellView) (ws : List CellView) → (all_joined v ws).ticks ≡ v.ticks ++ ticks_of ws
 joined_ticks v [] = sym (append-nil v.ticks)
 joined_ticks v (w ∷ ws) = joined_ticks (joined v w) ws ∙ append_assoc v.ticks w.ticks (ticks_of ws)
 
-each_charges : (P : Charge → Type 0) (v : View) (ws : List View) → AllByRecursion P (all_joined v ws).charges → AllByRecursion P v.charges × ((j : ℕ) (w : View) → get_elem? ws j ≡ some w → AllByRecursion P w.charges)
+each_charges : (P : Charge → Type 0) (v : CellView) (ws : List CellView) → AllByRecursion P (all_joined v ws).charges → AllByRecursion P v.charges × ((j : ℕ) (w : CellView) → get_elem? ws j ≡ some w → AllByRecursion P w.charges)
 each_charges P v [] h = (h, λ j w e. absurd (some-ne-none w (sym e)))
 each_charges P v (w ∷ ws) h = let r = each_charges P (joined v w) ws h in (each_left P v.charges w.charges r.0, pick r.0 r.1)
   where
-    pick : AllByRecursion P (v.charges ++ w.charges) → ((j : ℕ) (u : View) → get_elem? ws j ≡ some u → AllByRecursion P u.charges) → (j : ℕ) (u : View) → get_elem? (w ∷ ws) j ≡ some u → AllByRecursion P u.charges
-    pick one others zero u e = subst (λ (x : View). AllByRecursion P x.charges) (some-injective _ _ e) (each_right P v.charges w.charges one)
+    pick : AllByRecursion P (v.charges ++ w.charges) → ((j : ℕ) (u : CellView) → get_elem? ws j ≡ some u → AllByRecursion P u.charges) → (j : ℕ) (u : CellView) → get_elem? (w ∷ ws) j ≡ some u → AllByRecursion P u.charges
+    pick one others zero u e = subst (λ (x : CellView). AllByRecursion P x.charges) (some-injective _ _ e) (each_right P v.charges w.charges one)
     pick one others (suc j) u e = others j u e
 
-each_looks : (P : ℕ × ℕ → Type 0) (v : View) (ws : List View) → AllByRecursion P (all_joined v ws).looks → AllByRecursion P v.looks × ((j : ℕ) (w : View) → get_elem? ws j ≡ some w → AllByRecursion P w.looks)
+each_looks : (P : ℕ × ℕ → Type 0) (v : CellView) (ws : List CellView) → AllByRecursion P (all_joined v ws).looks → AllByRecursion P v.looks × ((j : ℕ) (w : CellView) → get_elem? ws j ≡ some w → AllByRecursion P w.looks)
 each_looks P v [] h = (h, λ j w e. absurd (some-ne-none w (sym e)))
 each_looks P v (w ∷ ws) h = let r = each_looks P (joined v w) ws h in (each_left P v.looks w.looks r.0, pick r.0 r.1)
   where
-    pick : AllByRecursion P (v.looks ++ w.looks) → ((j : ℕ) (u : View) → get_elem? ws j ≡ some u → AllByRecursion P u.looks) → (j : ℕ) (u : View) → get_elem? (w ∷ ws) j ≡ some u → AllByRecursion P u.looks
-    pick one others zero u e = subst (λ (x : View). AllByRecursion P x.looks) (some-injective _ _ e) (each_right P v.looks w.looks one)
+    pick : AllByRecursion P (v.looks ++ w.looks) → ((j : ℕ) (u : CellView) → get_elem? ws j ≡ some u → AllByRecursion P u.looks) → (j : ℕ) (u : CellView) → get_elem? (w ∷ ws) j ≡ some u → AllByRecursion P u.looks
+    pick one others zero u e = subst (λ (x : CellView). AllByRecursion P x.looks) (some-injective _ _ e) (each_right P v.looks w.looks one)
     pick one others (suc j) u e = others j u e
 
 total_only : {A : Type 0} (f : A → ℕ) (xs : List A) (k : ℕ) (x : A) → get_elem? xs k ≡ some x → ((j : ℕ) (u : A) → (j ≡ k → ⊥) → get_elem? xs j ≡ some u → f u ≡ 0) → total f xs ≡ f x
@@ -74,35 +74,35 @@ no_ticks ns [] z h = refl
 no_ticks [] (t ∷ ts) z h = absurd (let o = h.0 in omega arith)
 no_ticks (n ∷ ns) (t ∷ ts) z h = absurd (omega arith)
 
-module _ (a : Setup) (s : State ℕ View) (hold : Holds a s) (id : ℕ) (v : View) (at : get_elem? s.views id ≡ some v) (role : v.claimer ≡ true) (all : length v.numbers ≡ a.passes) where
+module _ (a : Setup) (s : State ℕ CellView) (hold : Holds a s) (id : ℕ) (v : CellView) (at : get_elem? s.views id ≡ some v) (role : v.claimer ≡ true) (all : length v.numbers ≡ a.passes) where
   -- who isn't the claimer has no number left
-  idle : (j : ℕ) (u : View) → (j ≡ id → ⊥) → get_elem? s.views j ≡ some u → (u.charges ≡ []) × (u.looks ≡ []) × (u.ticks ≡ [])
+  idle : (j : ℕ) (u : CellView) → (j ≡ id → ⊥) → get_elem? s.views j ≡ some u → (u.charges ≡ []) × (u.looks ≡ []) × (u.ticks ≡ [])
   idle j u n e =
-      let two = total_two (λ (x : View). length x.numbers + x.unmade) s.views id j v u n at e in
-      let one = total_two (λ (x : View). one_if x.claimer) s.views id j v u n at e in
+      let two = total_two (λ (x : CellView). length x.numbers + x.unmade) s.views id j v u n at e in
+      let one = total_two (λ (x : CellView). one_if x.claimer) s.views id j v u n at e in
       let r : one_if v.claimer ≡ 1 = ap one_if role in
       let none : length u.numbers ≡ 0 = omega (arith, hold.3.parts) in
       let i = (hold.3.each j u e).idle (is_false u.claimer (omega (arith, hold.3.claimer))) none in
       (i.0, i.1, no_ticks u.numbers u.ticks none (hold.4.each j u e).numbers)
 
-  pub alone : (f : Charge → ℕ) → total (λ (x : View). total f x.charges) s.views ≡ total f v.charges
-  alone f = total_only (λ (x : View). total f x.charges) s.views id v at (λ j u n e. ap (total f) (idle j u n e).0)
+  pub alone : (f : Charge → ℕ) → total (λ (x : CellView). total f x.charges) s.views ≡ total f v.charges
+  alone f = total_only (λ (x : CellView). total f x.charges) s.views id v at (λ j u n e. ap (total f) (idle j u n e).0)
 
-  pub alone_ticks : (f : Tick → ℕ) → total (λ (x : View). total f x.ticks) s.views ≡ total f v.ticks
-  alone_ticks f = total_only (λ (x : View). total f x.ticks) s.views id v at (λ j u n e. ap (total f) (idle j u n e).2)
+  pub alone_ticks : (f : Tick → ℕ) → total (λ (x : CellView). total f x.ticks) s.views ≡ total f v.ticks
+  alone_ticks f = total_only (λ (x : CellView). total f x.ticks) s.views id v at (λ j u n e. ap (total f) (idle j u n e).2)
 
-module _ (a : Setup) (s : State ℕ View) (hold : Holds a s) (id : ℕ) (c : View) (passes : List View) (claimer : IsClaimer a c) (at : get_elem? s.views id ≡ some (all_joined c passes)) (all : length (all_joined c passes).numbers ≡ a.passes) where
+module _ (a : Setup) (s : State ℕ CellView) (hold : Holds a s) (id : ℕ) (c : CellView) (passes : List CellView) (claimer : IsClaimer a c) (at : get_elem? s.views id ≡ some (all_joined c passes)) (all : length (all_joined c passes).numbers ≡ a.passes) where
   role : (all_joined c passes).claimer ≡ true
   role = (joined_keeps c passes).0 ∙ claimer.role
 
   -- a sum over the charges of all views is that over those of the passes
-  sums : (f : Charge → ℕ) → total (λ (x : View). total f x.charges) s.views ≡ total (λ (x : View). total f x.charges) passes
+  sums : (f : Charge → ℕ) → total (λ (x : CellView). total f x.charges) s.views ≡ total (λ (x : CellView). total f x.charges) passes
   sums f = let x = alone a s hold id (all_joined c passes) at role all f in let y = joined_charges f c passes in let z : total f c.charges ≡ 0 = ap (total f) claimer.charges.0 in omega arith
 
   below : (claim bound : ℕ) → total (hits_below claim bound) s.views ≡ total (hits_below claim bound) passes
   below claim bound = sums (λ (y : Charge). cond (y.claim == claim) (cond (ltb y.before bound) y.hits 0) 0)
 
-  laws : (j : ℕ) (w : View) → get_elem? passes j ≡ some w → ViewLawful passes w
+  laws : (j : ℕ) (w : CellView) → get_elem? passes j ≡ some w → ViewLawful passes w
   laws j w e =
       let l = hold.3.lawful id (all_joined c passes) at in
       record {
@@ -126,7 +126,7 @@ module _ (a : Setup) (s : State ℕ View) (hold : Holds a s) (id : ℕ) (c : Vie
   ticks_is : (all_joined c passes).ticks ≡ ticks_of passes
   ticks_is = joined_ticks c passes ∙ ap (λ l. l ++ ticks_of passes) claimer.ticks.0
 
-  tick_sums : (f : Tick → ℕ) → total (λ (x : View). total f x.ticks) s.views ≡ total f (ticks_of passes)
+  tick_sums : (f : Tick → ℕ) → total (λ (x : CellView). total f x.ticks) s.views ≡ total f (ticks_of passes)
   tick_sums f = alone_ticks a s hold id (all_joined c passes) at role all f ∙ ap (total f) ticks_is
 
   pub ticks_are : TicksAreLawful a.start (clock_of s.words) (ticks_of passes)
@@ -142,14 +142,14 @@ module _ (a : Setup) (s : State ℕ View) (hold : Holds a s) (id : ℕ) (c : Vie
       }
 
 -- what the closing state tells
-pub record Ends (a : Setup) (c : View) (passes : List View) (ws : List ℕ) : Type 0 where
+pub record Ends (a : Setup) (c : CellView) (passes : List CellView) (ws : List ℕ) : Type 0 where
   pub ledger : IsLawfulLedger ◌==◌ (ledger_of passes)
   pub sights : AllByRecursion (IsLawfulSight ◌==◌ (ledger_of passes)) (sights_of passes)
   pub counts : (k : ℕ) (st : Cell) → get_elem? c.cells k ≡ some st → st.is_open ≡ true → count_of ws k ≡ charged_total ◌==◌ st.claim (ledger_of passes)
   pub ticks : TicksAreLawful a.start (clock_of ws) (ticks_of passes)
   pub low : clock_of ws ≤ 1000000000000
 
-ends : (a : Setup) (id : ℕ) (c : View) (passes : List View) (ws xs : List ℕ) → IsClaimer a c → length (all_joined c passes).numbers ≡ a.passes → Final (Seen (AreLawful a) id (all_joined c passes)) ws xs → Ends a c passes ws
+ends : (a : Setup) (id : ℕ) (c : CellView) (passes : List CellView) (ws xs : List ℕ) → IsClaimer a c → length (all_joined c passes).numbers ≡ a.passes → Final (Seen (AreLawful a) id (all_joined c passes)) ws xs → Ends a c passes ws
 ends a id c passes ws xs cl all last =
     let f = final_as a id (all_joined c passes) ws xs last in
     let s = f.0 in
@@ -163,9 +163,9 @@ ends a id c passes ws xs cl all last =
       low = hold.4.most;
     })
 
--- the same, of the claimer as it was handed in
-pub closes : (key a : Setup) → key ≡ a → (id : ℕ) (c v claimer : View) (passes : List View) (ws xs : List ℕ) → v ≡ all_joined c passes → c ≡ claimer → IsClaimer a claimer → length v.numbers ≡ length passes → length passes ≡ a.passes → Final (Seen (AreLawful key) id v) ws xs → Ends a claimer passes ws
+-- the same, of the claimer as it was given
+pub closes : (key a : Setup) → key ≡ a → (id : ℕ) (c v claimer : CellView) (passes : List CellView) (ws xs : List ℕ) → v ≡ all_joined c passes → c ≡ claimer → IsClaimer a claimer → length v.numbers ≡ length passes → length passes ≡ a.passes → Final (Seen (AreLawful key) id v) ws xs → Ends a claimer passes ws
 closes key a same id c v claimer passes ws xs joins from cl numbers all last =
-    let is = joins ∙ ap (λ (y : View). all_joined y passes) from in
-    ends a id claimer passes ws xs cl (ap (λ (y : View). length y.numbers) (sym is) ∙ numbers ∙ all)
-    (subst (λ (x : Setup × View). Final (Seen (AreLawful x.0) id x.1) ws xs) (λ i. (same i, is i)) last)
+    let is = joins ∙ ap (λ (y : CellView). all_joined y passes) from in
+    ends a id claimer passes ws xs cl (ap (λ (y : CellView). length y.numbers) (sym is) ∙ numbers ∙ all)
+    (subst (λ (x : Setup × CellView). Final (Seen (AreLawful x.0) id x.1) ws xs) (λ i. (same i, is i)) last)

@@ -4,7 +4,7 @@ use mathlib.Core.Option.{some}
 use lib.ListN.{get_elem?}
 use Rattle.counter_cells.specs.declared.view.Charge.{Charge}
 use Rattle.counter_cells.specs.declared.view.Cell.{Cell}
-use Rattle.counter_cells.specs.declared.view.View.{View}
+use Rattle.counter_cells.specs.declared.view.CellView.{CellView}
 use Rattle.counter_cells.specs.declared.setup.Setup.{Setup}
 use Rattle.std.specs.List.{AllByRecursion}
 use Rattle.counter_cells.specs.Sums.{total, one_if}
@@ -15,18 +15,18 @@ use Rattle.counter_cells.proofs.Kept.{hits_below, ViewFits, ViewLawful, Rule}
 use Rattle.counter_cells.proofs.Sums.{total_set, total_same, total_le, each_set}
 use Rattle.counter_cells.proofs.Looking.{total_length, one_le, lawful_same}
 
-pub pins_le : (k : ℕ) (v : View) → pins_on k v ≤ pins_of v
+pub pins_le : (k : ℕ) (v : CellView) → pins_on k v ≤ pins_of v
 pins_le k v = let x = total_length (λ (q : ℕ × ℕ). one_if (q.0 == k)) v.good (λ q. one_le (q.0 == k)) in let y = total_length (λ (q : ℕ). one_if (q == k)) v.stray (λ q. one_le (q == k)) in omega arith
 
 total_scaled : {A : Type 0} (f : A → ℕ) (xs : List A) → total (λ x. 32 * f x) xs ≡ 32 * total f xs
 total_scaled f [] = refl
 total_scaled f (x ∷ xs) = let r = total_scaled f xs in omega arith
 
-module _ (a : Setup) (t : Register) (gate count : ℕ → ℕ) (views : List View) (r : Rule a t gate count views) where
+module _ (a : Setup) (t : Register) (gate count : ℕ → ℕ) (views : List CellView) (r : Rule a t gate count views) where
   pub few_pins : (k : ℕ) → total (pins_on k) views ≤ 32768
   few_pins k =
-      let l = total_le (pins_on k) (λ (x : View). 32 * (length x.numbers + x.unmade)) views (λ j x e. let p = (r.each j x e).pins in let q = pins_le k x in omega arith) in
-      let s = total_scaled (λ (x : View). length x.numbers + x.unmade) views in
+      let l = total_le (pins_on k) (λ (x : CellView). 32 * (length x.numbers + x.unmade)) views (λ j x e. let p = (r.each j x e).pins in let q = pins_le k x in omega arith) in
+      let s = total_scaled (λ (x : CellView). length x.numbers + x.unmade) views in
       omega (arith, r.parts, r.few)
 
   -- what the word shows
@@ -34,15 +34,15 @@ module _ (a : Setup) (t : Register) (gate count : ℕ → ℕ) (views : List Vie
   open_shown k st at = let w = (r.cells k st at).word in let f = few_pins k in let o = one_le st.is_open in (omega arith, omega arith, omega arith)
 
   -- a step on a gate that leaves charges, looks and parts
-  pub gate_keeps : (gate' : ℕ → ℕ) (id : ℕ) (v w : View) → get_elem? views id ≡ some v → w.charges ≡ v.charges → w.looks ≡ v.looks → (w.claimer ≡ v.claimer) × (w.numbers ≡ v.numbers) × (w.unmade ≡ v.unmade)
+  pub gate_keeps : (gate' : ℕ → ℕ) (id : ℕ) (v w : CellView) → get_elem? views id ≡ some v → w.charges ≡ v.charges → w.looks ≡ v.looks → (w.claimer ≡ v.claimer) × (w.numbers ≡ v.numbers) × (w.unmade ≡ v.unmade)
       → ((j : ℕ) (u : Cell) → get_elem? t.cells j ≡ some u → gate' j ≡ gate_word u.claim (one_if u.is_open) (total (pins_on j) (set views id w)))
       → ((j : ℕ) → small_on j w ≤ small_on j v)
       → ((j : ℕ) (u : Cell) → get_elem? t.cells j ≡ some u → u.is_open ≡ false → u.ever ≡ true → pair_of u.claim w ≡ pair_of u.claim v)
       → ViewFits t count w → Rule a t gate' count (set views id w)
   gate_keeps gate' id v w at ch lo same word small pairs fits =
-      let hs = λ (f : Charge → ℕ). total_same (λ (x : View). total f x.charges) views id v w at (ap (total f) ch) in
-      let ls = λ (f : (ℕ × ℕ) → ℕ). total_same (λ (x : View). total f x.looks) views id v w at (ap (total f) lo) in
-      let law = λ (j : ℕ) (x : View) (e : get_elem? views j ≡ some x). lawful_same views id v w x at (λ f. ap (total f) ch) (r.lawful j x e) in
+      let hs = λ (f : Charge → ℕ). total_same (λ (x : CellView). total f x.charges) views id v w at (ap (total f) ch) in
+      let ls = λ (f : (ℕ × ℕ) → ℕ). total_same (λ (x : CellView). total f x.looks) views id v w at (ap (total f) lo) in
+      let law = λ (j : ℕ) (x : CellView) (e : get_elem? views j ≡ some x). lawful_same views id v w x at (λ f. ap (total f) ch) (r.lawful j x e) in
       record {
         truth = r.truth;
         cells = λ j u e.
@@ -62,7 +62,7 @@ module _ (a : Setup) (t : Register) (gate count : ℕ → ℕ) (views : List Vie
               charges = subst (AllByRecursion (λ (y : Charge). (1 ≤ y.hits) × (y.before ≡ total (hits_below y.claim y.before) (set views id w)))) (sym ch) m.charges;
               looks = subst (AllByRecursion (λ (y : ℕ × ℕ). y.1 ≡ total (hits_below y.0 y.1) (set views id w))) (sym lo) m.looks;
             });
-        claimer = total_same (λ (x : View). one_if x.claimer) views id v w at (ap one_if same.0) ∙ r.claimer;
-        parts = total_same (λ (x : View). length x.numbers + x.unmade) views id v w at (let x = ap (length {A = ℕ}) same.1 in let y = same.2 in omega arith) ∙ r.parts;
+        claimer = total_same (λ (x : CellView). one_if x.claimer) views id v w at (ap one_if same.0) ∙ r.claimer;
+        parts = total_same (λ (x : CellView). length x.numbers + x.unmade) views id v w at (let x = ap (length {A = ℕ}) same.1 in let y = same.2 in omega arith) ∙ r.parts;
         few = r.few;
       }

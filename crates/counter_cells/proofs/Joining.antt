@@ -1,4 +1,4 @@
--- A pass taken in keeps the rule.
+-- A pass joined keeps the rule.
 use Rattle.std.proofs.Common.{◌≡◌, ◌⊎◌, ℕ, ◌+◌, ◌≤◌, ◌<◌, ◌==◌, ◌&&◌, List, [], ◌∷◌, ◌++◌, length, set, false, true≢false, cond, refl, sym, ap, ◌∙◌, subst, arith, ⊎_elim, inl, inr, append_assoc, length-append}
 use Rattle.std.proofs.lemmas.List.{append-nil}
 use Rattle.std.specs.Prelude.{ltb, slice_index, IfSome}
@@ -9,12 +9,12 @@ use Rattle.atomic_table.specs.Table.{Joins}
 use Rattle.atomic_table.proofs.Lists.{set_else}
 use Rattle.counter_cells.specs.declared.view.Tick.{Tick}
 use Rattle.counter_cells.specs.declared.view.Charge.{Charge}
-use Rattle.counter_cells.specs.declared.view.View.{View}
+use Rattle.counter_cells.specs.declared.view.CellView.{CellView}
 use Rattle.counter_cells.specs.declared.setup.Setup.{Setup}
 use Rattle.counter_cells.specs.Sums.{total, one_if, times}
-use Rattle.counter_cells.specs.Places.{gate_of, count_of}
+use Rattle.counter_cells.specs.WordIndex.{gate_of, count_of}
 use Rattle.counter_cells.specs.Views.{offered, good_on, pins_on, pins_of, small_on, pair_at, charges_of, looks_of}
-use Rattle.counter_cells.specs.Steps.{last_moment, nobody, joined}
+use Rattle.counter_cells.specs.Steps.{last_moment, empty_view, joined}
 use Rattle.counter_cells.specs.Lawful.{offers, own_offers, other_offers, Sourced, TicksFit, ClockIsGreatestOffer}
 use Rattle.counter_cells.proofs.Kept.{hits_below, ViewFits, ViewLawful, Rule, Holds}
 use Rattle.counter_cells.proofs.Sums.{each_append, total_set, total_append, each_set, each_map, below_no}
@@ -45,15 +45,15 @@ last_low : (m k : ℕ) (ts : List Tick) (c : ℕ) → m ≤ c → last_moment k 
 last_low m k [] c a b = a
 last_low m k (x ∷ xs) c a b = b
 
-module _ (a : Setup) (id other : ℕ) (v w : View) where
-  pub joins : (pins_of v ≡ 0) × (pins_of w ≡ 0) → w.claimer ≡ false → w.unmade ≡ 0 → (1 ≤ length v.numbers + one_if v.claimer) × (1 ≤ length w.numbers) → Joins (Holds a) id v other w (joined v w) nobody
+module _ (a : Setup) (id other : ℕ) (v w : CellView) where
+  pub joins : (pins_of v ≡ 0) × (pins_of w ≡ 0) → w.claimer ≡ false → w.unmade ≡ 0 → (1 ≤ length v.numbers + one_if v.claimer) × (1 ≤ length w.numbers) → Joins (Holds a) id v other w (joined v w) empty_view
   joins bare role none live s hold at apart there = (hold.0, hold.1, hold.2, rule, clock)
     where
-      both : View
+      both : CellView
       both = joined v w
 
-      Now : List View
-      Now = set (set s.views id (joined v w)) other nobody
+      Now : List CellView
+      Now = set (set s.views id (joined v w)) other empty_view
 
       was : get_elem? s.views other ≡ some w
       was = sym (set_else s.views id other (joined v w) apart) ∙ there
@@ -61,29 +61,29 @@ module _ (a : Setup) (id other : ℕ) (v w : View) where
       gone : (k : ℕ) → (good_on k v ≡ 0) × (pins_on k v ≡ 0) × (good_on k w ≡ 0) × (pins_on k w ≡ 0)
       gone k = let x = pins_le k v in let y = pins_le k w in (omega arith, omega arith, omega arith, omega arith)
 
-      sum : (f : View → ℕ) → f (joined v w) ≡ f v + f w → f nobody ≡ 0 → total f (set (set s.views id (joined v w)) other nobody) ≡ total f s.views
-      sum f same nil = omega (arith, total_set f s.views id v (joined v w) at, total_set f (set s.views id (joined v w)) other w nobody there)
+      sum : (f : CellView → ℕ) → f (joined v w) ≡ f v + f w → f empty_view ≡ 0 → total f (set (set s.views id (joined v w)) other empty_view) ≡ total f s.views
+      sum f same nil = omega (arith, total_set f s.views id v (joined v w) at, total_set f (set s.views id (joined v w)) other w empty_view there)
 
-      sum_le : (f : View → ℕ) → f (joined v w) ≤ f v + f w → f nobody ≡ 0 → total f (set (set s.views id (joined v w)) other nobody) ≤ total f s.views
-      sum_le f same nil = omega (arith, total_set f s.views id v (joined v w) at, total_set f (set s.views id (joined v w)) other w nobody there)
+      sum_le : (f : CellView → ℕ) → f (joined v w) ≤ f v + f w → f empty_view ≡ 0 → total f (set (set s.views id (joined v w)) other empty_view) ≤ total f s.views
+      sum_le f same nil = omega (arith, total_set f s.views id v (joined v w) at, total_set f (set s.views id (joined v w)) other w empty_view there)
 
-      pins : (j : ℕ) → total (pins_on j) (set (set s.views id (joined v w)) other nobody) ≡ total (pins_on j) s.views
+      pins : (j : ℕ) → total (pins_on j) (set (set s.views id (joined v w)) other empty_view) ≡ total (pins_on j) s.views
       pins j = let g = gone j in sum (pins_on j) (omega arith) refl
 
-      small : (j : ℕ) → total (small_on j) (set (set s.views id (joined v w)) other nobody) ≤ total (small_on j) s.views
+      small : (j : ℕ) → total (small_on j) (set (set s.views id (joined v w)) other empty_view) ≤ total (small_on j) s.views
       small j = sum_le (small_on j) (omega arith) refl
 
-      charges : (f : Charge → ℕ) → total (λ (x : View). total f x.charges) (set (set s.views id (joined v w)) other nobody) ≡ total (λ (x : View). total f x.charges) s.views
-      charges f = sum (λ (x : View). total f x.charges) (total_append f v.charges w.charges) refl
+      charges : (f : Charge → ℕ) → total (λ (x : CellView). total f x.charges) (set (set s.views id (joined v w)) other empty_view) ≡ total (λ (x : CellView). total f x.charges) s.views
+      charges f = sum (λ (x : CellView). total f x.charges) (total_append f v.charges w.charges) refl
 
-      looks : (f : (ℕ × ℕ) → ℕ) → total (λ (x : View). total f x.looks) (set (set s.views id (joined v w)) other nobody) ≡ total (λ (x : View). total f x.looks) s.views
-      looks f = sum (λ (x : View). total f x.looks) (total_append f v.looks w.looks) refl
+      looks : (f : (ℕ × ℕ) → ℕ) → total (λ (x : CellView). total f x.looks) (set (set s.views id (joined v w)) other empty_view) ≡ total (λ (x : CellView). total f x.looks) s.views
+      looks f = sum (λ (x : CellView). total f x.looks) (total_append f v.looks w.looks) refl
 
-      pairs : (f : (ℕ × ℕ) → ℕ) → total (λ (x : View). total f x.pairs) (set (set s.views id (joined v w)) other nobody) ≡ total (λ (x : View). total f x.pairs) s.views
-      pairs f = sum (λ (x : View). total f x.pairs) (total_append f v.pairs w.pairs) refl
+      pairs : (f : (ℕ × ℕ) → ℕ) → total (λ (x : CellView). total f x.pairs) (set (set s.views id (joined v w)) other empty_view) ≡ total (λ (x : CellView). total f x.pairs) s.views
+      pairs f = sum (λ (x : CellView). total f x.pairs) (total_append f v.pairs w.pairs) refl
 
-      law : (x : View) → ViewLawful s.views x → ViewLawful (set (set s.views id (joined v w)) other nobody) x
-      law = lawful_as a hold.0 (gate_of s.words) (count_of s.words) s.views (set (set s.views id (joined v w)) other nobody) hold.3 pins small charges looks pairs
+      law : (x : CellView) → ViewLawful s.views x → ViewLawful (set (set s.views id (joined v w)) other empty_view) x
+      law = lawful_as a hold.0 (gate_of s.words) (count_of s.words) s.views (set (set s.views id (joined v w)) other empty_view) hold.3 pins small charges looks pairs
 
       either_one : (m n : ℕ) → 1 ≤ m + n → (1 ≤ m) ⊎ (1 ≤ n)
       either_one m n h = pick (dec_lt 0 m)
@@ -115,7 +115,7 @@ module _ (a : Setup) (id other : ℕ) (v w : View) where
                 };
           }
 
-      fits_none : ViewFits hold.0 (count_of s.words) nobody
+      fits_none : ViewFits hold.0 (count_of s.words) empty_view
       fits_none = record {
         pins = (omega arith, omega arith);
         good = λ k c o. absurd (omega arith);
@@ -129,28 +129,28 @@ module _ (a : Setup) (id other : ℕ) (v w : View) where
         caps = λ i u d o. record { charges = tt; looks = tt };
       }
 
-      law_both : ViewLawful (set (set s.views id (joined v w)) other nobody) (joined v w)
+      law_both : ViewLawful (set (set s.views id (joined v w)) other empty_view) (joined v w)
       law_both =
           let p = law v (hold.3.lawful id v at) in
           let q = law w (hold.3.lawful other w was) in
           record {
-            charges = each_append (λ (y : Charge). (1 ≤ y.hits) × (y.before ≡ total (hits_below y.claim y.before) (set (set s.views id (joined v w)) other nobody))) v.charges w.charges p.charges q.charges;
-            looks = each_append (λ (y : ℕ × ℕ). y.1 ≡ total (hits_below y.0 y.1) (set (set s.views id (joined v w)) other nobody)) v.looks w.looks p.looks q.looks;
+            charges = each_append (λ (y : Charge). (1 ≤ y.hits) × (y.before ≡ total (hits_below y.claim y.before) (set (set s.views id (joined v w)) other empty_view))) v.charges w.charges p.charges q.charges;
+            looks = each_append (λ (y : ℕ × ℕ). y.1 ≡ total (hits_below y.0 y.1) (set (set s.views id (joined v w)) other empty_view)) v.looks w.looks p.looks q.looks;
           }
 
-      rule : Rule a hold.0 (gate_of s.words) (count_of s.words) (set (set s.views id (joined v w)) other nobody)
-      rule = rule_as a hold.0 (gate_of s.words) (count_of s.words) s.views (set (set s.views id (joined v w)) other nobody) hold.3 pins small charges looks pairs
-          (each_set (λ x. ViewFits hold.0 (count_of s.words) x × ViewLawful (set (set s.views id (joined v w)) other nobody) x) (set s.views id (joined v w)) other nobody
-          (λ j x _ e. each_set (λ x'. ViewFits hold.0 (count_of s.words) x' × ViewLawful (set (set s.views id (joined v w)) other nobody) x') s.views id (joined v w)
+      rule : Rule a hold.0 (gate_of s.words) (count_of s.words) (set (set s.views id (joined v w)) other empty_view)
+      rule = rule_as a hold.0 (gate_of s.words) (count_of s.words) s.views (set (set s.views id (joined v w)) other empty_view) hold.3 pins small charges looks pairs
+          (each_set (λ x. ViewFits hold.0 (count_of s.words) x × ViewLawful (set (set s.views id (joined v w)) other empty_view) x) (set s.views id (joined v w)) other empty_view
+          (λ j x _ e. each_set (λ x'. ViewFits hold.0 (count_of s.words) x' × ViewLawful (set (set s.views id (joined v w)) other empty_view) x') s.views id (joined v w)
           (λ j' x' _ e'. (hold.3.each j' x' e', law x' (hold.3.lawful j' x' e'))) (fits_both, law_both) j x e)
           (fits_none, record { charges = tt; looks = tt }))
           (sum (λ x. one_if x.claimer) (let r : one_if w.claimer ≡ 0 = ap one_if role in omega arith) refl)
           (sum (λ x. length x.numbers + x.unmade) (let l = length-append v.numbers w.numbers in omega arith) refl)
 
-      other_sum : (i m : ℕ) → total (other_offers i m) (set (set s.views id (joined v w)) other nobody) ≡ total (other_offers i m) s.views
+      other_sum : (i m : ℕ) → total (other_offers i m) (set (set s.views id (joined v w)) other empty_view) ≡ total (other_offers i m) s.views
       other_sum i m = sum (other_offers i m) (total_append (λ (x : Tick). cond (x.number == i) 0 (offered m x)) v.ticks w.ticks) refl
 
-      old : (j : ℕ) (u : View) → get_elem? s.views j ≡ some u → TicksFit a.start (slice_index s.words 0) (λ i m. total (other_offers i m) (set (set s.views id (joined v w)) other nobody)) u
+      old : (j : ℕ) (u : CellView) → get_elem? s.views j ≡ some u → TicksFit a.start (slice_index s.words 0) (λ i m. total (other_offers i m) (set (set s.views id (joined v w)) other empty_view)) u
       old j u e =
           let f = hold.4.each j u e in
           record {
@@ -158,10 +158,10 @@ module _ (a : Setup) (id other : ℕ) (v w : View) where
             last = f.last;
             offers = f.offers;
             numbers = f.numbers;
-            sourced = sourced_more a.start (λ i m. total (other_offers i m) s.views) (λ i m. total (other_offers i m) (set (set s.views id (joined v w)) other nobody)) [] u.ticks (λ i m. let x = other_sum i m in omega arith) f.sourced;
+            sourced = sourced_more a.start (λ i m. total (other_offers i m) s.views) (λ i m. total (other_offers i m) (set (set s.views id (joined v w)) other empty_view)) [] u.ticks (λ i m. let x = other_sum i m in omega arith) f.sourced;
           }
 
-      clock_both : TicksFit a.start (slice_index s.words 0) (λ i m. total (other_offers i m) (set (set s.views id (joined v w)) other nobody)) (joined v w)
+      clock_both : TicksFit a.start (slice_index s.words 0) (λ i m. total (other_offers i m) (set (set s.views id (joined v w)) other empty_view)) (joined v w)
       clock_both =
           let f = old id v at in
           let g = old other w was in
@@ -174,24 +174,24 @@ module _ (a : Setup) (id other : ℕ) (v w : View) where
             numbers = each_append (λ (x : Tick). 1 ≤ times x.number (v.numbers ++ w.numbers)) v.ticks w.ticks
                 (each_map (λ (x : Tick). 1 ≤ times x.number v.numbers) (λ (x : Tick). 1 ≤ times x.number (v.numbers ++ w.numbers)) v.ticks (λ x o. let y = total_append (λ (n : ℕ). one_if (n == x.number)) v.numbers w.numbers in omega arith) f.numbers)
                 (each_map (λ (x : Tick). 1 ≤ times x.number w.numbers) (λ (x : Tick). 1 ≤ times x.number (v.numbers ++ w.numbers)) w.ticks (λ x o. let y = total_append (λ (n : ℕ). one_if (n == x.number)) v.numbers w.numbers in omega arith) g.numbers);
-            sourced = sourced_append a.start (λ i m. total (other_offers i m) (set (set s.views id (joined v w)) other nobody)) [] v.ticks w.ticks f.sourced
-                (subst (λ (l : List Tick). Sourced a.start (λ i m. total (other_offers i m) (set (set s.views id (joined v w)) other nobody)) l w.ticks) (append-nil v.ticks) (sourced_behind a.start (λ i m. total (other_offers i m) (set (set s.views id (joined v w)) other nobody)) v.ticks [] w.ticks g.sourced));
+            sourced = sourced_append a.start (λ i m. total (other_offers i m) (set (set s.views id (joined v w)) other empty_view)) [] v.ticks w.ticks f.sourced
+                (subst (λ (l : List Tick). Sourced a.start (λ i m. total (other_offers i m) (set (set s.views id (joined v w)) other empty_view)) l w.ticks) (append-nil v.ticks) (sourced_behind a.start (λ i m. total (other_offers i m) (set (set s.views id (joined v w)) other empty_view)) v.ticks [] w.ticks g.sourced));
           }
 
-      clock : ClockIsGreatestOffer a (slice_index s.words 0) (set (set s.views id (joined v w)) other nobody)
+      clock : ClockIsGreatestOffer a (slice_index s.words 0) (set (set s.views id (joined v w)) other empty_view)
       clock =
           let c = hold.4 in
           record {
             least = c.least;
             most = c.most;
             top = ⊎_elim inl (λ o. inr (let x = sum (offers (slice_index s.words 0)) (total_append (λ (x : Tick). offered (slice_index s.words 0) x) v.ticks w.ticks) refl in omega arith)) c.top;
-            each = each_set (TicksFit a.start (slice_index s.words 0) (λ i m. total (other_offers i m) (set (set s.views id (joined v w)) other nobody))) (set s.views id (joined v w)) other nobody
-                (λ j x _ e. each_set (TicksFit a.start (slice_index s.words 0) (λ i m. total (other_offers i m) (set (set s.views id (joined v w)) other nobody))) s.views id (joined v w) (λ j' x' _ e'. old j' x' e') clock_both j x e)
+            each = each_set (TicksFit a.start (slice_index s.words 0) (λ i m. total (other_offers i m) (set (set s.views id (joined v w)) other empty_view))) (set s.views id (joined v w)) other empty_view
+                (λ j x _ e. each_set (TicksFit a.start (slice_index s.words 0) (λ i m. total (other_offers i m) (set (set s.views id (joined v w)) other empty_view))) s.views id (joined v w) (λ j' x' _ e'. old j' x' e') clock_both j x e)
                 (record { moment = omega arith; last = λ z. absurd (omega arith); offers = tt; numbers = tt; sourced = tt });
             numbers = λ i.
                 let o = c.numbers i in
                 let z : one_if (ltb i w.unmade) ≡ 0 = ap (λ n. one_if (ltb i n)) none ∙ below_no i 0 1 0 (omega arith) in
                 let z' = below_no i 0 1 0 (omega arith) in
-                let x = sum (λ (x : View). times i x.numbers + one_if (ltb i x.unmade)) (let y = total_append (λ (n : ℕ). one_if (n == i)) v.numbers w.numbers in omega arith) (omega arith) in
+                let x = sum (λ (x : CellView). times i x.numbers + one_if (ltb i x.unmade)) (let y = total_append (λ (n : ℕ). one_if (n == i)) v.numbers w.numbers in omega arith) (omega arith) in
                 omega arith;
           }

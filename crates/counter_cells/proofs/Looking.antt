@@ -6,7 +6,7 @@ use mathlib.Core.Option.{some, some-injective}
 use lib.ListN.{get_elem?}
 use Rattle.counter_cells.specs.declared.view.Charge.{Charge}
 use Rattle.counter_cells.specs.declared.view.Cell.{Cell}
-use Rattle.counter_cells.specs.declared.view.View.{View}
+use Rattle.counter_cells.specs.declared.view.CellView.{CellView}
 use Rattle.counter_cells.specs.declared.setup.Setup.{Setup}
 use Rattle.counter_cells.specs.Sums.{total, one_if, times}
 use Rattle.counter_cells.specs.Gates.{gate_word}
@@ -26,11 +26,11 @@ pub one_le : (b : Bool) → one_if b ≤ 1
 one_le true = omega arith
 one_le false = omega arith
 
-pub live : (k : ℕ) (v : View) → 1 ≤ good_on k v → pins_of v ≤ 32 * length v.numbers → 1 ≤ length v.numbers
+pub live : (k : ℕ) (v : CellView) → 1 ≤ good_on k v → pins_of v ≤ 32 * length v.numbers → 1 ≤ length v.numbers
 live k v g p = let l = total_length (λ (q : ℕ × ℕ). one_if (q.0 == k)) v.good (λ q. one_le (q.0 == k)) in omega arith
 
 -- what the charges of all views say is the same where no charge was added
-pub lawful_same : (views : List View) (id : ℕ) (v w x : View) → get_elem? views id ≡ some v → ((f : Charge → ℕ) → total f w.charges ≡ total f v.charges) → ViewLawful views x → ViewLawful (set views id w) x
+pub lawful_same : (views : List CellView) (id : ℕ) (v w x : CellView) → get_elem? views id ≡ some v → ((f : Charge → ℕ) → total f w.charges ≡ total f v.charges) → ViewLawful views x → ViewLawful (set views id w) x
 lawful_same views id v w x at same l =
     let sums = λ (c b : ℕ). total_same (hits_below c b) views id v w at (same (λ (y : Charge). cond (y.claim == c) (cond (ltb y.before b) y.hits 0) 0)) in
     record {
@@ -38,8 +38,8 @@ lawful_same views id v w x at same l =
       looks = each_map (λ (y : ℕ × ℕ). y.1 ≡ total (hits_below y.0 y.1) views) (λ (y : ℕ × ℕ). y.1 ≡ total (hits_below y.0 y.1) (set views id w)) x.looks (λ y q. q ∙ sym (sums y.0 y.1)) l.looks;
     }
 
-module _ (a : Setup) (t : Register) (gate count : ℕ → ℕ) (views : List View) (r : Rule a t gate count views) (id k : ℕ) (v : View) (at : get_elem? views id ≡ some v) (pin : 1 ≤ good_on k v) where
-  abbrev W : View
+module _ (a : Setup) (t : Register) (gate count : ℕ → ℕ) (views : List CellView) (r : Rule a t gate count views) (id k : ℕ) (v : CellView) (at : get_elem? views id ≡ some v) (pin : 1 ≤ good_on k v) where
+  abbrev W : CellView
   W = looked k (count k) v
 
   abbrev C : ℕ
@@ -66,15 +66,15 @@ module _ (a : Setup) (t : Register) (gate count : ℕ → ℕ) (views : List Vie
   -- no more unused looks than passes
   few_looks : total (small_on k) (set views id W) ≤ a.passes
   few_looks =
-      let le = total_le (small_on k) (λ (x : View). length x.numbers + x.unmade) (set views id W)
-      (each_set (λ (x : View). small_on k x ≤ length x.numbers + x.unmade) views id W
+      let le = total_le (small_on k) (λ (x : CellView). length x.numbers + x.unmade) (set views id W)
+      (each_set (λ (x : CellView). small_on k x ≤ length x.numbers + x.unmade) views id W
       (λ j x _ e. let o = (r.each j x e).once k in let s = small_le k x.unused in omega arith)
       (let l = live k v pin (r.each id v at).pins.1 in let s = small_le k W.unused in let u = unused_here in omega arith)) in
-      let p = total_same (λ (x : View). length x.numbers + x.unmade) views id v W at refl in
+      let p = total_same (λ (x : CellView). length x.numbers + x.unmade) views id v W at refl in
       omega (arith, r.parts)
 
-  grows : (f : (ℕ × ℕ) → ℕ) → total (λ (u : View). total f u.looks) (set views id W) ≡ total (λ (u : View). total f u.looks) views + f (C, count k)
-  grows f = omega (arith, total_set (λ (u : View). total f u.looks) views id v W at, total_push f v.looks (C, count k))
+  grows : (f : (ℕ × ℕ) → ℕ) → total (λ (u : CellView). total f u.looks) (set views id W) ≡ total (λ (u : CellView). total f u.looks) views + f (C, count k)
+  grows f = omega (arith, total_set (λ (u : CellView). total f u.looks) views id v W at, total_push f v.looks (C, count k))
 
   room_here : Dec (count k < 4294967296) → total (small_on k) (set views id W) ≤ a.passes → total (small_on k) (set views id W) + small_on k v ≡ total (small_on k) views + small_on k W → count k + most_hits * total (small_on k) views ≤ most_hits * (1 + a.passes) → count k + most_hits * total (small_on k) (set views id W) ≤ most_hits * (1 + a.passes)
   room_here (yes d) few s m = omega arith
@@ -115,7 +115,7 @@ module _ (a : Setup) (t : Register) (gate count : ℕ → ℕ) (views : List Vie
         once = λ j. once_now j (ℕ_discrete j k) (f.once j) l;
         past = f.past;
         charges = f.charges;
-        looks = λ d o. drawn_now d (total_push (λ (x : ℕ × ℕ). one_if (x.0 == d)) v.looks (C, count k)) o (ℕ_discrete C d) (f.looks d);
+        looks = λ d o. claims_used_now d (total_push (λ (x : ℕ × ℕ). one_if (x.0 == d)) v.looks (C, count k)) o (ℕ_discrete C d) (f.looks d);
         idle = λ _ z. absurd (omega arith);
         claimer = f.claimer;
         caps = λ j u e opn.
@@ -131,9 +131,9 @@ module _ (a : Setup) (t : Register) (gate count : ℕ → ℕ) (views : List Vie
       once_now j (yes e) f l = let u : unused_on j W ≡ 1 = ap (λ i. unused_on i W) e ∙ unused_here in (omega arith, omega arith)
       once_now j (no n) f l = let u = unused_else j n in (omega arith, omega arith)
 
-      drawn_now : (d : ℕ) → total (λ (x : ℕ × ℕ). one_if (x.0 == d)) (v.looks ++ (C, count k) ∷ []) ≡ looks_of d v + one_if (C == d) → 1 ≤ total (λ (x : ℕ × ℕ). one_if (x.0 == d)) (v.looks ++ (C, count k) ∷ []) → Dec (C ≡ d) → (1 ≤ looks_of d v → 1 ≤ times d t.drawn) → 1 ≤ times d t.drawn
-      drawn_now d g o (yes e) f = subst (λ i. 1 ≤ times i t.drawn) e ((r.each id v at).past k C mine.4).0
-      drawn_now d g o (no n) f = let z = cond_no C d 1 0 n in f (omega arith)
+      claims_used_now : (d : ℕ) → total (λ (x : ℕ × ℕ). one_if (x.0 == d)) (v.looks ++ (C, count k) ∷ []) ≡ looks_of d v + one_if (C == d) → 1 ≤ total (λ (x : ℕ × ℕ). one_if (x.0 == d)) (v.looks ++ (C, count k) ∷ []) → Dec (C ≡ d) → (1 ≤ looks_of d v → 1 ≤ times d t.used_claims) → 1 ≤ times d t.used_claims
+      claims_used_now d g o (yes e) f = subst (λ i. 1 ≤ times i t.used_claims) e ((r.each id v at).past k C mine.4).0
+      claims_used_now d g o (no n) f = let z = cond_no C d 1 0 n in f (omega arith)
 
       cap : (j : ℕ) (u : Cell) → get_elem? t.cells j ≡ some u → u.is_open ≡ true → Dec (j ≡ k) → C ≡ u.claim → count k ≤ count j
       cap j u e opn (yes d) s = let x : count j ≡ count k = ap count d in omega arith
@@ -141,7 +141,7 @@ module _ (a : Setup) (t : Register) (gate count : ℕ → ℕ) (views : List Vie
 
   pub look_keeps : Rule a t gate count (set views id W)
   look_keeps =
-      let ls = λ (j : ℕ) (x : View) (e : get_elem? views j ≡ some x). lawful_same views id v W x at (λ f. refl) (r.lawful j x e) in
+      let ls = λ (j : ℕ) (x : CellView) (e : get_elem? views j ≡ some x). lawful_same views id v W x at (λ f. refl) (r.lawful j x e) in
       let m = ls id v at in
       record {
         truth = r.truth;
@@ -154,7 +154,7 @@ module _ (a : Setup) (t : Register) (gate count : ℕ → ℕ) (views : List Vie
               looks = each_push (λ (y : ℕ × ℕ). y.1 ≡ total (hits_below y.0 y.1) (set views id W)) v.looks (C, count k) m.looks
                   (whole_below a t gate count views r k mine.0 mine.1 mine.2 ∙ ap (λ d. total (hits_below d (count k)) views) mine.3 ∙ sym (total_same (hits_below C (count k)) views id v W at refl));
             });
-        claimer = total_same (λ (x : View). one_if x.claimer) views id v W at refl ∙ r.claimer;
-        parts = total_same (λ (x : View). length x.numbers + x.unmade) views id v W at refl ∙ r.parts;
+        claimer = total_same (λ (x : CellView). one_if x.claimer) views id v W at refl ∙ r.claimer;
+        parts = total_same (λ (x : CellView). length x.numbers + x.unmade) views id v W at refl ∙ r.parts;
         few = r.few;
       }

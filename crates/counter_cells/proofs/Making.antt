@@ -7,10 +7,10 @@ use mathlib.Core.Option.{some, some-injective, some-ne-none}
 use lib.ListN.{get_elem?}
 use Rattle.atomic_table.specs.Table.{opening}
 use Rattle.counter_cells.specs.declared.view.Cell.{Cell}
-use Rattle.counter_cells.specs.declared.view.View.{View}
+use Rattle.counter_cells.specs.declared.view.CellView.{CellView}
 use Rattle.counter_cells.specs.declared.setup.Setup.{Setup}
 use Rattle.counter_cells.specs.Sums.{total}
-use Rattle.counter_cells.specs.Places.{gate_of, count_of}
+use Rattle.counter_cells.specs.WordIndex.{gate_of, count_of}
 use Rattle.counter_cells.specs.Views.{no_cell}
 use Rattle.counter_cells.specs.Steps.{first_claimer}
 use Rattle.counter_cells.specs.Lawful.{AreLawful, ClockIsGreatestOffer, TicksFit, other_offers}
@@ -27,7 +27,7 @@ rep_zero zero k = refl
 rep_zero (suc n) zero = refl
 rep_zero (suc n) (suc k) = rep_zero n k
 
-one_view : (v : View) (j : ℕ) (u : View) → get_elem? (v ∷ []) j ≡ some u → v ≡ u
+one_view : (v : CellView) (j : ℕ) (u : CellView) → get_elem? (v ∷ []) j ≡ some u → v ≡ u
 one_view v zero u e = some-injective _ _ e
 one_view v (suc j) u e = absurd (some-ne-none u (sym e))
 
@@ -36,9 +36,9 @@ word_zero x n zero h = absurd (omega arith)
 word_zero x n (suc i) h = rep_zero n i
 
 pub begins : (a : Setup) (ws : List ℕ) → ws ≡ a.start ∷ replicate (2 * a.cells) 0 → a.passes ≤ 1024 → a.start ≤ 1000000000000 → AreLawful a (opening ws [] (first_claimer a))
-begins a ws is few low = lawful a (opening ws [] (first_claimer a)) (subst (λ (l : List ℕ). Holds a (opening l [] (first_claimer a))) (sym is) (record { cells = replicate a.cells no_cell; drawn = [] }, omega (arith, length-replicate (2 * a.cells) zero, length-replicate a.cells no_cell), length-replicate a.cells no_cell, rule, clock))
+begins a ws is few low = lawful a (opening ws [] (first_claimer a)) (subst (λ (l : List ℕ). Holds a (opening l [] (first_claimer a))) (sym is) (record { cells = replicate a.cells no_cell; used_claims = [] }, omega (arith, length-replicate (2 * a.cells) zero, length-replicate a.cells no_cell), length-replicate a.cells no_cell, rule, clock))
   where
-    fits : ViewFits (record { cells = replicate a.cells no_cell; drawn = [] }) (count_of (a.start ∷ replicate (2 * a.cells) 0)) (first_claimer a)
+    fits : ViewFits (record { cells = replicate a.cells no_cell; used_claims = [] }) (count_of (a.start ∷ replicate (2 * a.cells) 0)) (first_claimer a)
     fits = record {
       pins = (omega arith, omega arith);
       good = λ k c o. absurd (omega arith);
@@ -61,11 +61,11 @@ begins a ws is few low = lawful a (opening ws [] (first_claimer a)) (subst (λ (
         let c = word_zero a.start (2 * a.cells) (2 * k + 2) (omega arith) in
         record { word = g; never = λ _. (refl, refl); sum = λ o. absurd (true≢false (sym o)); fresh = λ _ e. absurd (true≢false (sym e)); zeroed = λ _ e. absurd (true≢false (sym e)); room = omega arith }
 
-    rule : Rule a (record { cells = replicate a.cells no_cell; drawn = [] }) (gate_of (a.start ∷ replicate (2 * a.cells) 0)) (count_of (a.start ∷ replicate (2 * a.cells) 0)) (first_claimer a ∷ [])
+    rule : Rule a (record { cells = replicate a.cells no_cell; used_claims = [] }) (gate_of (a.start ∷ replicate (2 * a.cells) 0)) (count_of (a.start ∷ replicate (2 * a.cells) 0)) (first_claimer a ∷ [])
     rule = record {
-      truth = record { apart = λ j k s u e d es eu same. absurd (off j s e es); drawn = λ k s e es. absurd (off k s e es); small = λ k s e. let z = ap (λ (c : Cell). c.claim) (rep_at a.cells no_cell k s e) in omega arith };
+      truth = record { apart = λ j k s u e d es eu same. absurd (off j s e es); used_claims = λ k s e es. absurd (off k s e es); small = λ k s e. let z = ap (λ (c : Cell). c.claim) (rep_at a.cells no_cell k s e) in omega arith };
       cells = λ k st e. subst (λ (c : Cell). CellFits a.passes c (gate_of (a.start ∷ replicate (2 * a.cells) 0) k) (count_of (a.start ∷ replicate (2 * a.cells) 0) k) 0 0 0 0 0 0) (rep_at a.cells no_cell k st e) (cell k);
-      each = λ j v e. subst (ViewFits (record { cells = replicate a.cells no_cell; drawn = [] }) (count_of (a.start ∷ replicate (2 * a.cells) 0))) (one_view (first_claimer a) j v e) fits;
+      each = λ j v e. subst (ViewFits (record { cells = replicate a.cells no_cell; used_claims = [] }) (count_of (a.start ∷ replicate (2 * a.cells) 0))) (one_view (first_claimer a) j v e) fits;
       once = λ c b. omega arith;
       lawful = λ j v e. subst (ViewLawful (first_claimer a ∷ [])) (one_view (first_claimer a) j v e) (record { charges = tt; looks = tt });
       claimer = refl;

@@ -4,7 +4,7 @@ use mathlib.Core.Option.{some}
 use lib.ListN.{get_elem?}
 use Rattle.counter_cells.specs.declared.view.Charge.{Charge}
 use Rattle.counter_cells.specs.declared.view.Cell.{Cell}
-use Rattle.counter_cells.specs.declared.view.View.{View}
+use Rattle.counter_cells.specs.declared.view.CellView.{CellView}
 use Rattle.counter_cells.specs.declared.setup.Setup.{Setup}
 use Rattle.std.specs.List.{AllByRecursion}
 use Rattle.counter_cells.specs.Sums.{total, one_if}
@@ -26,16 +26,16 @@ no_caps : {A : Type 0} (f : A → ℕ) (P : A → Type 0) (c : ℕ) (xs : List A
 no_caps f P c [] h = tt
 no_caps f P c (x ∷ xs) h = ((λ e. absurd (let y = cond_yes (f x) c 1 0 e in omega arith)), no_caps f P c xs (omega arith))
 
-module _ (a : Setup) (t : Register) (gate gate' count count' : ℕ → ℕ) (views : List View) (r : Rule a t gate count views) (id k : ℕ) (v : View) (at : get_elem? views id ≡ some v) (role : v.claimer ≡ true) (st : Cell) (cell : get_elem? t.cells k ≡ some st) where
+module _ (a : Setup) (t : Register) (gate gate' count count' : ℕ → ℕ) (views : List CellView) (r : Rule a t gate count views) (id k : ℕ) (v : CellView) (at : get_elem? views id ≡ some v) (role : v.claimer ≡ true) (st : Cell) (cell : get_elem? t.cells k ≡ some st) where
   pub open_keeps : st.ever ≡ true → st.is_open ≡ false → st.reset ≡ true → gate' k ≡ gate k + 1 → ((j : ℕ) → (j ≡ k → ⊥) → gate' j ≡ gate j)
-      → Rule a (record { cells = set t.cells k (record st { is_open = true }); drawn = t.drawn }) gate' count (set views id (record v { cells = set v.cells k (record st { is_open = true }); drawn = t.drawn; held = v.held }))
+      → Rule a (record { cells = set t.cells k (record st { is_open = true }); used_claims = t.used_claims }) gate' count (set views id (record v { cells = set v.cells k (record st { is_open = true }); used_claims = t.used_claims; held = v.held }))
   open_keeps ev off done word gates =
-      let W : View = record v { cells = set v.cells k (record st { is_open = true }); drawn = t.drawn; held = v.held } in
+      let W : CellView = record v { cells = set v.cells k (record st { is_open = true }); used_claims = t.used_claims; held = v.held } in
       let f = r.cells k st cell in
       let s = f.fresh off ev in
       let z = f.zeroed off ev done in
       let hits = total_none (hits_of st.claim) views (λ j x e. no_hits st.claim x.charges (let o = total_one (charges_of st.claim) views j x e in omega arith)) in
-      claim_keeps a t gate gate' count count views r id k v at role st (record st { is_open = true }) cell t.drawn v.held
+      claim_keeps a t gate gate' count count views r id k v at role st (record st { is_open = true }) cell t.used_claims v.held
       (bare_closed a t gate count views r k st cell off) ev (truth_same a t gate count views r k st cell (record st { is_open = true }) refl refl) (λ c o. o)
       (record {
         word = (let w = f.word in let b : one_if st.is_open ≡ 0 = ap one_if off in let p = total_same (pins_on k) views id v W at refl in omega arith);

@@ -1,33 +1,33 @@
 -- What a pass keeps over its steps.
 use Rattle.std.proofs.Common.{◌≡◌, ℕ, suc, ◌+◌, ◌-◌, ◌≤◌, ◌<◌, [], ◌∷◌, length, cond, get_or, zero, false, refl, sym, ap, ◌∙◌, subst, arith}
-use Rattle.counter_cells.specs.declared.view.View.{View}
+use Rattle.counter_cells.specs.declared.view.CellView.{CellView}
 use Rattle.counter_cells.specs.Sums.{one_if}
 use Rattle.counter_cells.specs.Gates.{shows, gate_word, claim_shown, bit_shown}
-use Rattle.counter_cells.specs.Places.{gate_at, gate_cell}
+use Rattle.counter_cells.specs.WordIndex.{gate_at, gate_cell}
 use Rattle.counter_cells.specs.Views.{good_on, stray_on, cell_or}
 use Rattle.counter_cells.specs.Steps.{unpinned, good_pin, stray_pin, pinned, fresh_pass, new_passes}
 use Rattle.counter_cells.specs.Seats.{IsPass}
 use Rattle.counter_cells.proofs.Sums.{cond_yes}
 use Rattle.counter_cells.proofs.Views.{drop_length_one}
 
-pub still_pass : (k place : ℕ) (v w : View) → place ≡ gate_at k → w ≡ unpinned (gate_cell place) v → 1 ≤ good_on k v → IsPass v → IsPass w × (w.moment ≡ v.moment) × (length w.good + 1 ≡ length v.good)
-still_pass k place v w is step pin p =
-    let e : gate_cell place ≡ k = omega arith in
-    subst (λ (x : View). IsPass x × (x.moment ≡ v.moment) × (length x.good + 1 ≡ length v.good)) (ap (λ i. unpinned i v) (sym e) ∙ sym step)
+pub still_pass : (k index : ℕ) (v w : CellView) → index ≡ gate_at k → w ≡ unpinned (gate_cell index) v → 1 ≤ good_on k v → IsPass v → IsPass w × (w.moment ≡ v.moment) × (length w.good + 1 ≡ length v.good)
+still_pass k index v w is step pin p =
+    let e : gate_cell index ≡ k = omega arith in
+    subst (λ (x : CellView). IsPass x × (x.moment ≡ v.moment) × (length x.good + 1 ≡ length v.good)) (ap (λ i. unpinned i v) (sym e) ∙ sym step)
     (record { role = p.role; number = p.number; made = p.made; straight = p.straight }, refl, drop_length_one k v.good pin)
 
 -- a gate's word without its pins, as the claimer that has read it knows it
-pub bare_is : (k place word bare : ℕ) (v w : View) → place ≡ gate_at k → w ≡ v → bit_shown word ≡ one_if (cell_or v.cells (gate_cell place)).is_open → claim_shown word ≡ (cell_or v.cells (gate_cell place)).claim → bare ≡ gate_word (claim_shown word) (bit_shown word) 0
+pub bare_is : (k index word bare : ℕ) (v w : CellView) → index ≡ gate_at k → w ≡ v → bit_shown word ≡ one_if (cell_or v.cells (gate_cell index)).is_open → claim_shown word ≡ (cell_or v.cells (gate_cell index)).claim → bare ≡ gate_word (claim_shown word) (bit_shown word) 0
     → bare ≡ gate_word (cell_or w.cells k).claim (one_if (cell_or w.cells k).is_open) 0
-bare_is k place word bare v w is same bit claim shown =
-    let e : gate_cell place ≡ k = omega arith in
-    shown ∙ subst (λ (x : ℕ × View). gate_word (claim_shown word) (bit_shown word) 0 ≡ gate_word (cell_or x.1.cells x.0).claim (one_if (cell_or x.1.cells x.0).is_open) 0) (λ i. (e i, sym same i)) (λ i. gate_word (claim i) (bit i) 0)
+bare_is k index word bare v w is same bit claim shown =
+    let e : gate_cell index ≡ k = omega arith in
+    shown ∙ subst (λ (x : ℕ × CellView). gate_word (claim_shown word) (bit_shown word) 0 ≡ gate_word (cell_or x.1.cells x.0).claim (one_if (cell_or x.1.cells x.0).is_open) 0) (λ i. (e i, sym same i)) (λ i. gate_word (claim i) (bit i) 0)
 
 -- a pin at a gate that doesn't show the claim is stray
-pub strays : (claim k word : ℕ) (v w : View) → w ≡ pinned claim k word v → shows claim word ≡ false → 1 ≤ stray_on k w
+pub strays : (claim k word : ℕ) (v w : CellView) → w ≡ pinned claim k word v → shows claim word ≡ false → 1 ≤ stray_on k w
 strays claim k word v w is shut =
     let y = cond_yes k k 1 0 refl in
-    subst (λ (x : View). 1 ≤ stray_on k x) (sym (is ∙ ap (λ b. cond b (good_pin k claim v) (stray_pin k word v)) shut)) (omega arith)
+    subst (λ (x : CellView). 1 ≤ stray_on k x) (sym (is ∙ ap (λ b. cond b (good_pin k claim v) (stray_pin k word v)) shut)) (omega arith)
 
 -- the passes still to be made are the next one and the others
 pub next_pass : (p d start : ℕ) → d < p → new_passes (p - d) start ≡ fresh_pass (p - d - 1) start ∷ new_passes (p - (d + 1)) start
@@ -37,7 +37,7 @@ next_pass p d start less =
     ap (λ m. new_passes m start) e ∙ ap (λ m. fresh_pass m start ∷ new_passes (p - (d + 1)) start) f
 
 -- no pass has a pin when it is made
-pub new_bare : (p start : ℕ) (i : ℕ) (d : View) → i < length (new_passes p start) → (get_or (new_passes p start) i d).good ≡ []
+pub new_bare : (p start : ℕ) (i : ℕ) (d : CellView) → i < length (new_passes p start) → (get_or (new_passes p start) i d).good ≡ []
 new_bare zero start i d h = absurd (omega arith)
 new_bare (suc p) start zero d h = refl
 new_bare (suc p) start (suc i) d h = new_bare p start i d (omega arith)

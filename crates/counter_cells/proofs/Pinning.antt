@@ -5,7 +5,7 @@ use native.Mathlib.Decide.{ℕ_discrete}
 use mathlib.Core.Option.{some, some-injective}
 use lib.ListN.{get_elem?}
 use Rattle.counter_cells.specs.declared.view.Cell.{Cell}
-use Rattle.counter_cells.specs.declared.view.View.{View}
+use Rattle.counter_cells.specs.declared.view.CellView.{CellView}
 use Rattle.counter_cells.specs.declared.setup.Setup.{Setup}
 use Rattle.counter_cells.specs.Sums.{total, one_if, times}
 use Rattle.counter_cells.specs.Gates.{gate_word, shows}
@@ -29,9 +29,9 @@ opened : (b : Bool) → one_if b ≡ 1 → b ≡ true
 opened true e = refl
 opened false e = absurd (omega arith)
 
-module _ (a : Setup) (t : Register) (gate gate' count : ℕ → ℕ) (views : List View) (r : Rule a t gate count views) (id k : ℕ) (v : View) (at : get_elem? views id ≡ some v) (st : Cell) (cell : get_elem? t.cells k ≡ some st) (here : gate' k ≡ gate k + 2) (else : (j : ℕ) → (j ≡ k → ⊥) → gate' j ≡ gate j) (hand : (pins_of v < 32) × (1 ≤ length v.numbers)) where
+module _ (a : Setup) (t : Register) (gate gate' count : ℕ → ℕ) (views : List CellView) (r : Rule a t gate count views) (id k : ℕ) (v : CellView) (at : get_elem? views id ≡ some v) (st : Cell) (cell : get_elem? t.cells k ≡ some st) (here : gate' k ≡ gate k + 2) (else : (j : ℕ) → (j ≡ k → ⊥) → gate' j ≡ gate j) (hand : (pins_of v < 32) × (1 ≤ length v.numbers)) where
   -- a gate's word after one pin more
-  word_more : (w : View) → ((j : ℕ) → pins_on j w ≡ pins_on j v + one_if (k == j)) → (j : ℕ) (u : Cell) → get_elem? t.cells j ≡ some u → gate' j ≡ gate_word u.claim (one_if u.is_open) (total (pins_on j) (set views id w))
+  word_more : (w : CellView) → ((j : ℕ) → pins_on j w ≡ pins_on j v + one_if (k == j)) → (j : ℕ) (u : Cell) → get_elem? t.cells j ≡ some u → gate' j ≡ gate_word u.claim (one_if u.is_open) (total (pins_on j) (set views id w))
   word_more w more j u e = pick (ℕ_discrete j k) (r.cells j u e).word (total_set (pins_on j) views id v w at) (more j)
     where
       pick : Dec (j ≡ k) → gate j ≡ gate_word u.claim (one_if u.is_open) (total (pins_on j) views) → total (pins_on j) (set views id w) + pins_on j v ≡ total (pins_on j) views + pins_on j w → pins_on j w ≡ pins_on j v + one_if (k == j) → gate' j ≡ gate_word u.claim (one_if u.is_open) (total (pins_on j) (set views id w))
@@ -77,8 +77,8 @@ module _ (a : Setup) (t : Register) (gate gate' count : ℕ → ℕ) (views : Li
       new_good j d true is o f = let p = pair_is j d (k, c) is in let y = ap one_if is in (st, ap (λ i. get_elem? t.cells i) (sym p.0) ∙ cell, opn, claim ∙ p.1, omega arith)
       new_good j d false is o f = let y = ap one_if is in let g = f (omega arith) in (g.0, g.1, g.2, g.3, (let z = g.4 in omega arith))
 
-      new_past : (j d : ℕ) → st.ever ≡ true → (b : Bool) → is_pair j d (k, c) ≡ b → 1 ≤ one_if (is_pair j d (k, c)) + pair_at j d v → (1 ≤ pair_at j d v → (1 ≤ times d t.drawn) × ((s : Cell) × (get_elem? t.cells j ≡ some s) × (s.ever ≡ true))) → (1 ≤ times d t.drawn) × ((s : Cell) × (get_elem? t.cells j ≡ some s) × (s.ever ≡ true))
-      new_past j d ever true is o f = let p = pair_is j d (k, c) is in (subst (λ i. 1 ≤ times i t.drawn) (claim ∙ p.1) (r.truth.drawn k st cell ever), (st, ap (λ i. get_elem? t.cells i) (sym p.0) ∙ cell, ever))
+      new_past : (j d : ℕ) → st.ever ≡ true → (b : Bool) → is_pair j d (k, c) ≡ b → 1 ≤ one_if (is_pair j d (k, c)) + pair_at j d v → (1 ≤ pair_at j d v → (1 ≤ times d t.used_claims) × ((s : Cell) × (get_elem? t.cells j ≡ some s) × (s.ever ≡ true))) → (1 ≤ times d t.used_claims) × ((s : Cell) × (get_elem? t.cells j ≡ some s) × (s.ever ≡ true))
+      new_past j d ever true is o f = let p = pair_is j d (k, c) is in (subst (λ i. 1 ≤ times i t.used_claims) (claim ∙ p.1) (r.truth.used_claims k st cell ever), (st, ap (λ i. get_elem? t.cells i) (sym p.0) ∙ cell, ever))
       new_past j d ever false is o f = let y = ap one_if is in f (omega arith)
 
   pub pinned_keeps : (c : ℕ) → Rule a t gate' count (set views id (pinned c k (gate k) v))

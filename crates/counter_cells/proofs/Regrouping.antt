@@ -2,14 +2,14 @@
 use Rattle.std.proofs.Common.{ℕ, List, [], ◌∷◌, ◌++◌, set, sym, ◌∙◌, arith}
 use Rattle.std.specs.Prelude.{slice_index}
 use Rattle.atomic_table.specs.Table.{State, Me, Allows, Splits, Joins, Final, Seen, stepped}
-use Rattle.counter_cells.specs.declared.view.View.{View}
+use Rattle.counter_cells.specs.declared.view.CellView.{CellView}
 use Rattle.counter_cells.specs.declared.setup.Setup.{Setup}
-use Rattle.counter_cells.specs.Places.{gate_of, count_of}
+use Rattle.counter_cells.specs.WordIndex.{gate_of, count_of}
 use Rattle.counter_cells.specs.Lawful.{CellsLawful, AreLawful}
 use Rattle.counter_cells.proofs.Kept.{Rule, Holds}
 use Rattle.counter_cells.proofs.Ledgers.{total_is, ledger_from, sights_from, once_from, laws_from}
 
-pub kept : (a : Setup) (s : State ℕ View) → AreLawful a s → Holds a s
+pub kept : (a : Setup) (s : State ℕ CellView) → AreLawful a s → Holds a s
 kept a s hold =
     let r = hold.0 in
     let l = hold.1 in
@@ -19,7 +19,7 @@ kept a s hold =
     rule =
         let l = hold.1 in
         record {
-          truth = record { apart = l.claims.apart; drawn = l.claims.drawn; small = l.claims.small };
+          truth = record { apart = l.claims.apart; used_claims = l.claims.used_claims; small = l.claims.small };
           cells = λ k c e. record {
             word = l.pins.words k c e;
             never = l.claims.never k c e;
@@ -47,7 +47,7 @@ kept a s hold =
           few = l.seats.few;
         }
 
-pub lawful : (a : Setup) (s : State ℕ View) → Holds a s → AreLawful a s
+pub lawful : (a : Setup) (s : State ℕ CellView) → Holds a s → AreLawful a s
 lawful a s hold = (hold.0, cells)
   where
     cells : CellsLawful a hold.0 s.words s.views
@@ -65,7 +65,7 @@ lawful a s hold = (hold.0, cells)
           };
           claims = record {
             apart = r.truth.apart;
-            drawn = r.truth.drawn;
+            used_claims = r.truth.used_claims;
             small = r.truth.small;
             never = λ k c e. (r.cells k c e).never;
             pinned = λ j v e k c o. ((r.each j v e).good k c o).4;
@@ -88,14 +88,14 @@ lawful a s hold = (hold.0, cells)
         }
 
 -- what a table asks for, of the one rule and of the other
-pub allows_as : (a : Setup) (slots id : ℕ) (me : Me ℕ View) (i : ℕ) (f : ℕ → ℕ) (then : ℕ → Me ℕ View → Type 0) → Allows (Holds a) slots id me i f then → Allows (AreLawful a) slots id me i f then
+pub allows_as : (a : Setup) (slots id : ℕ) (me : Me ℕ CellView) (i : ℕ) (f : ℕ → ℕ) (then : ℕ → Me ℕ CellView → Type 0) → Allows (Holds a) slots id me i f then → Allows (AreLawful a) slots id me i f then
 allows_as a slots id me i f then go s hold homes at small = let x = go s (kept a s hold) homes at small in (x.0, x.1, x.2, lawful a (stepped s i (f (slice_index s.words i)) id me.1 x.0 x.1) x.3, x.4)
 
-pub splits_as : (a : Setup) (id : ℕ) (v left right : View) → Splits (Holds a) id v left right → Splits (AreLawful a) id v left right
+pub splits_as : (a : Setup) (id : ℕ) (v left right : CellView) → Splits (Holds a) id v left right → Splits (AreLawful a) id v left right
 splits_as a id v left right go s hold at = lawful a (record { words = s.words; homes = s.homes; views = set s.views id left ++ right ∷ [] }) (go s (kept a s hold) at)
 
-pub joins_as : (a : Setup) (id : ℕ) (v : View) (other : ℕ) (w both spent : View) → Joins (Holds a) id v other w both spent → Joins (AreLawful a) id v other w both spent
+pub joins_as : (a : Setup) (id : ℕ) (v : CellView) (other : ℕ) (w both spent : CellView) → Joins (Holds a) id v other w both spent → Joins (AreLawful a) id v other w both spent
 joins_as a id v other w both spent go s hold at apart there = lawful a (record { words = s.words; homes = s.homes; views = set (set s.views id both) other spent }) (go s (kept a s hold) at apart there)
 
-pub final_as : (a : Setup) (id : ℕ) (v : View) (ws xs : List ℕ) → Final (Seen (AreLawful a) id v) ws xs → Final (Seen (Holds a) id v) ws xs
+pub final_as : (a : Setup) (id : ℕ) (v : CellView) (ws xs : List ℕ) → Final (Seen (AreLawful a) id v) ws xs → Final (Seen (Holds a) id v) ws xs
 final_as a id v ws xs f = (f.0, (kept a f.0 f.1.0, f.1.1), f.2, f.3, f.4)

@@ -3,7 +3,7 @@ use Rattle.std.proofs.Common.{◌≡◌, ℕ, List, set, true, false, true≢fal
 use mathlib.Core.Option.{some}
 use lib.ListN.{get_elem?}
 use Rattle.counter_cells.specs.declared.view.Cell.{Cell}
-use Rattle.counter_cells.specs.declared.view.View.{View}
+use Rattle.counter_cells.specs.declared.view.CellView.{CellView}
 use Rattle.counter_cells.specs.declared.setup.Setup.{Setup}
 use Rattle.counter_cells.specs.Sums.{one_if}
 use Rattle.counter_cells.specs.Gates.{gate_word}
@@ -13,13 +13,13 @@ use Rattle.counter_cells.proofs.Kept.{Rule}
 use Rattle.counter_cells.proofs.Sums.{total_same}
 use Rattle.counter_cells.proofs.Claiming.{claim_keeps, bare_closed, truth_same}
 
-module _ (a : Setup) (t : Register) (gate gate' count count' : ℕ → ℕ) (views : List View) (r : Rule a t gate count views) (id k : ℕ) (v : View) (at : get_elem? views id ≡ some v) (role : v.claimer ≡ true) (st : Cell) (cell : get_elem? t.cells k ≡ some st) where
+module _ (a : Setup) (t : Register) (gate gate' count count' : ℕ → ℕ) (views : List CellView) (r : Rule a t gate count views) (id k : ℕ) (v : CellView) (at : get_elem? views id ≡ some v) (role : v.claimer ≡ true) (st : Cell) (cell : get_elem? t.cells k ≡ some st) where
   pub reset_keeps : st.ever ≡ true → st.is_open ≡ false → count' k ≡ 0 → ((j : ℕ) → (j ≡ k → ⊥) → count' j ≡ count j)
-      → Rule a (record { cells = set t.cells k (record st { reset = true }); drawn = t.drawn }) gate count' (set views id (record v { cells = set v.cells k (record st { reset = true }); drawn = t.drawn; held = v.held }))
+      → Rule a (record { cells = set t.cells k (record st { reset = true }); used_claims = t.used_claims }) gate count' (set views id (record v { cells = set v.cells k (record st { reset = true }); used_claims = t.used_claims; held = v.held }))
   reset_keeps ev off nil counts =
-      let W : View = record v { cells = set v.cells k (record st { reset = true }); drawn = t.drawn; held = v.held } in
+      let W : CellView = record v { cells = set v.cells k (record st { reset = true }); used_claims = t.used_claims; held = v.held } in
       let f = r.cells k st cell in
-      claim_keeps a t gate gate count count' views r id k v at role st (record st { reset = true }) cell t.drawn v.held
+      claim_keeps a t gate gate count count' views r id k v at role st (record st { reset = true }) cell t.used_claims v.held
       (bare_closed a t gate count views r k st cell off) ev (truth_same a t gate count views r k st cell (record st { reset = true }) refl refl) (λ c o. o)
       (record {
         word = f.word ∙ ap (λ m. gate_word st.claim (one_if st.is_open) m) (sym (total_same (pins_on k) views id v W at refl));

@@ -4,7 +4,7 @@ use Rattle.std.specs.Prelude.{ltb}
 use mathlib.Core.Option.{some}
 use lib.ListN.{get_elem?}
 use Rattle.counter_cells.specs.declared.view.Charge.{Charge}
-use Rattle.counter_cells.specs.declared.view.View.{View}
+use Rattle.counter_cells.specs.declared.view.CellView.{CellView}
 use Rattle.counter_cells.specs.declared.setup.Setup.{Setup}
 use Rattle.counter_cells.specs.Sums.{total, one_if}
 use Rattle.counter_cells.specs.Gates.{gate_word}
@@ -13,13 +13,13 @@ use Rattle.counter_cells.specs.Lawful.{Register}
 use Rattle.counter_cells.proofs.Kept.{hits_below, ViewFits, ViewLawful, Rule}
 use Rattle.counter_cells.proofs.Sums.{each_map}
 
-module _ (a : Setup) (t : Register) (gate count : ℕ → ℕ) (views views' : List View) (r : Rule a t gate count views)
+module _ (a : Setup) (t : Register) (gate count : ℕ → ℕ) (views views' : List CellView) (r : Rule a t gate count views)
     (pins : (j : ℕ) → total (pins_on j) views' ≡ total (pins_on j) views)
     (small : (j : ℕ) → total (small_on j) views' ≤ total (small_on j) views)
-    (charges : (f : Charge → ℕ) → total (λ (x : View). total f x.charges) views' ≡ total (λ (x : View). total f x.charges) views)
-    (looks : (f : (ℕ × ℕ) → ℕ) → total (λ (x : View). total f x.looks) views' ≡ total (λ (x : View). total f x.looks) views)
-    (pairs : (f : (ℕ × ℕ) → ℕ) → total (λ (x : View). total f x.pairs) views' ≡ total (λ (x : View). total f x.pairs) views) where
-  pub lawful_as : (x : View) → ViewLawful views x → ViewLawful views' x
+    (charges : (f : Charge → ℕ) → total (λ (x : CellView). total f x.charges) views' ≡ total (λ (x : CellView). total f x.charges) views)
+    (looks : (f : (ℕ × ℕ) → ℕ) → total (λ (x : CellView). total f x.looks) views' ≡ total (λ (x : CellView). total f x.looks) views)
+    (pairs : (f : (ℕ × ℕ) → ℕ) → total (λ (x : CellView). total f x.pairs) views' ≡ total (λ (x : CellView). total f x.pairs) views) where
+  pub lawful_as : (x : CellView) → ViewLawful views x → ViewLawful views' x
   lawful_as x l = record {
     charges = each_map (λ (y : Charge). (1 ≤ y.hits) × (y.before ≡ total (hits_below y.claim y.before) views)) (λ (y : Charge). (1 ≤ y.hits) × (y.before ≡ total (hits_below y.claim y.before) views')) x.charges
         (λ y q. (q.0, q.1 ∙ sym (charges (λ (z : Charge). cond (z.claim == y.claim) (cond (ltb z.before y.before) z.hits 0) 0)))) l.charges;
@@ -27,7 +27,7 @@ module _ (a : Setup) (t : Register) (gate count : ℕ → ℕ) (views views' : L
         (λ y q. q ∙ sym (charges (λ (z : Charge). cond (z.claim == y.0) (cond (ltb z.before y.1) z.hits 0) 0))) l.looks;
   }
 
-  pub rule_as : ((j : ℕ) (v : View) → get_elem? views' j ≡ some v → ViewFits t count v × ViewLawful views' v) → total (λ v. one_if v.claimer) views' ≡ total (λ v. one_if v.claimer) views → total (λ v. length v.numbers + v.unmade) views' ≡ total (λ v. length v.numbers + v.unmade) views → Rule a t gate count views'
+  pub rule_as : ((j : ℕ) (v : CellView) → get_elem? views' j ≡ some v → ViewFits t count v × ViewLawful views' v) → total (λ v. one_if v.claimer) views' ≡ total (λ v. one_if v.claimer) views → total (λ v. length v.numbers + v.unmade) views' ≡ total (λ v. length v.numbers + v.unmade) views → Rule a t gate count views'
   rule_as fits cl pa = record {
     truth = r.truth;
     cells = λ j u e.

@@ -6,10 +6,10 @@ use mathlib.Core.Option.{some}
 use lib.ListN.{get_elem?}
 use Rattle.atomic_table.specs.Table.{Splits}
 use Rattle.atomic_table.proofs.Lists.{at_snoc}
-use Rattle.counter_cells.specs.declared.view.View.{View}
+use Rattle.counter_cells.specs.declared.view.CellView.{CellView}
 use Rattle.counter_cells.specs.declared.setup.Setup.{Setup}
 use Rattle.counter_cells.specs.Sums.{total, one_if, times}
-use Rattle.counter_cells.specs.Places.{gate_of, count_of}
+use Rattle.counter_cells.specs.WordIndex.{gate_of, count_of}
 use Rattle.counter_cells.specs.Views.{pins_on, small_on}
 use Rattle.counter_cells.specs.Steps.{one_less, new_pass}
 use Rattle.counter_cells.specs.Lawful.{offers, other_offers, TicksFit, ClockIsGreatestOffer}
@@ -21,12 +21,12 @@ use Rattle.counter_cells.proofs.SameSums.{lawful_as, rule_as}
 each_snoc : {A : Type 0} (P : A → Type 0) (views : List A) (w : A) → ((j : ℕ) (u : A) → get_elem? views j ≡ some u → P u) → P w → (j : ℕ) (u : A) → get_elem? (views ++ w ∷ []) j ≡ some u → P u
 each_snoc P views w others mine j u e = ⊎_elim (λ x. others j u x) (λ (x : w ≡ u). subst P x mine) (at_snoc views w u j e)
 
-module _ (a : Setup) (id : ℕ) (v : View) where
+module _ (a : Setup) (id : ℕ) (v : CellView) where
   pub splits : 1 ≤ v.unmade → v.claimer ≡ true → v.moment ≡ a.start → Splits (Holds a) id v (one_less v) (new_pass v)
   splits some_left role moment s hold at =
       (hold.0, hold.1, hold.2, rule, clock)
     where
-      sum : (f : View → ℕ) → f (one_less v) + f (new_pass v) ≡ f v → total f (set s.views id (one_less v) ++ new_pass v ∷ []) ≡ total f s.views
+      sum : (f : CellView → ℕ) → f (one_less v) + f (new_pass v) ≡ f v → total f (set s.views id (one_less v) ++ new_pass v ∷ []) ≡ total f s.views
       sum f same = omega (arith, total_push f (set s.views id (one_less v)) (new_pass v), total_set f s.views id v (one_less v) at)
 
       mine : ViewFits hold.0 (count_of s.words) (one_less v)
@@ -48,11 +48,11 @@ module _ (a : Setup) (id : ℕ) (v : View) where
         caps = λ i u d o. record { charges = tt; looks = tt };
       }
 
-      law : (x : View) → ViewLawful s.views x → ViewLawful (set s.views id (one_less v) ++ new_pass v ∷ []) x
-      law = lawful_as a hold.0 (gate_of s.words) (count_of s.words) s.views (set s.views id (one_less v) ++ new_pass v ∷ []) hold.3 (λ j. sum (pins_on j) (omega arith)) (λ j. let x = sum (small_on j) (omega arith) in omega arith) (λ f. sum (λ (x : View). total f x.charges) (omega arith)) (λ f. sum (λ (x : View). total f x.looks) (omega arith)) (λ f. sum (λ (x : View). total f x.pairs) (omega arith))
+      law : (x : CellView) → ViewLawful s.views x → ViewLawful (set s.views id (one_less v) ++ new_pass v ∷ []) x
+      law = lawful_as a hold.0 (gate_of s.words) (count_of s.words) s.views (set s.views id (one_less v) ++ new_pass v ∷ []) hold.3 (λ j. sum (pins_on j) (omega arith)) (λ j. let x = sum (small_on j) (omega arith) in omega arith) (λ f. sum (λ (x : CellView). total f x.charges) (omega arith)) (λ f. sum (λ (x : CellView). total f x.looks) (omega arith)) (λ f. sum (λ (x : CellView). total f x.pairs) (omega arith))
 
       rule : Rule a hold.0 (gate_of s.words) (count_of s.words) (set s.views id (one_less v) ++ new_pass v ∷ [])
-      rule = rule_as a hold.0 (gate_of s.words) (count_of s.words) s.views (set s.views id (one_less v) ++ new_pass v ∷ []) hold.3 (λ j. sum (pins_on j) (omega arith)) (λ j. let x = sum (small_on j) (omega arith) in omega arith) (λ f. sum (λ (x : View). total f x.charges) (omega arith)) (λ f. sum (λ (x : View). total f x.looks) (omega arith)) (λ f. sum (λ (x : View). total f x.pairs) (omega arith))
+      rule = rule_as a hold.0 (gate_of s.words) (count_of s.words) s.views (set s.views id (one_less v) ++ new_pass v ∷ []) hold.3 (λ j. sum (pins_on j) (omega arith)) (λ j. let x = sum (small_on j) (omega arith) in omega arith) (λ f. sum (λ (x : CellView). total f x.charges) (omega arith)) (λ f. sum (λ (x : CellView). total f x.looks) (omega arith)) (λ f. sum (λ (x : CellView). total f x.pairs) (omega arith))
           (each_snoc (λ x. ViewFits hold.0 (count_of s.words) x × ViewLawful (set s.views id (one_less v) ++ new_pass v ∷ []) x) (set s.views id (one_less v)) (new_pass v)
           (each_set (λ x. ViewFits hold.0 (count_of s.words) x × ViewLawful (set s.views id (one_less v) ++ new_pass v ∷ []) x) s.views id (one_less v)
           (λ j x _ e. (hold.3.each j x e, law x (hold.3.lawful j x e)))
@@ -80,10 +80,10 @@ module _ (a : Setup) (id : ℕ) (v : View) where
                 (each_set (TicksFit a.start (slice_index s.words 0) (λ i m. total (other_offers i m) (set s.views id (one_less v) ++ new_pass v ∷ []))) s.views id (one_less v) (λ j x _ e. old j x e)
                 (let f = old id v at in record { moment = f.moment; last = f.last; offers = f.offers; numbers = f.numbers; sourced = f.sourced }))
                 (record { moment = (let l = c.least in omega arith); last = λ _. moment; offers = tt; numbers = tt; sourced = tt });
-            numbers = λ i. let o = c.numbers i in let b = below i v.unmade some_left in let q = below_no i 0 1 0 (omega arith) in let x = sum (λ (x : View). times i x.numbers + one_if (ltb i x.unmade)) (omega arith) in omega arith;
+            numbers = λ i. let o = c.numbers i in let b = below i v.unmade some_left in let q = below_no i 0 1 0 (omega arith) in let x = sum (λ (x : CellView). times i x.numbers + one_if (ltb i x.unmade)) (omega arith) in omega arith;
           }
         where
-          old : (j : ℕ) (u : View) → get_elem? s.views j ≡ some u → TicksFit a.start (slice_index s.words 0) (λ i m. total (other_offers i m) (set s.views id (one_less v) ++ new_pass v ∷ [])) u
+          old : (j : ℕ) (u : CellView) → get_elem? s.views j ≡ some u → TicksFit a.start (slice_index s.words 0) (λ i m. total (other_offers i m) (set s.views id (one_less v) ++ new_pass v ∷ [])) u
           old j u e =
               let f = hold.4.each j u e in
               record {

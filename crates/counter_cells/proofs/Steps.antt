@@ -15,13 +15,13 @@ use Rattle.counter_cells.proofs.Reclaiming.{reclaim_keeps}
 use Rattle.counter_cells.proofs.Resetting.{reset_keeps}
 use Rattle.counter_cells.proofs.Opening.{open_keeps}
 use Rattle.counter_cells.specs.declared.view.Cell.{Cell}
-use Rattle.counter_cells.specs.declared.view.View.{View}
+use Rattle.counter_cells.specs.declared.view.CellView.{CellView}
 use Rattle.counter_cells.specs.declared.setup.Setup.{Setup}
 use Rattle.counter_cells.specs.Sums.{total, one_if, times}
 use Rattle.counter_cells.specs.Gates.{shows, gate_word, pins_shown}
-use Rattle.counter_cells.specs.Places.{gate_at, count_at, count_cell, gate_cell, gate_of, count_of}
+use Rattle.counter_cells.specs.WordIndex.{gate_at, count_at, count_cell, gate_cell, gate_of, count_of}
 use Rattle.counter_cells.specs.Views.{most_hits, good_on, pins_of, small_on, pins_on, no_cell, cell_or, Capped, claim_on}
-use Rattle.counter_cells.specs.Steps.{charged, looked, good_pin, stray_pin, pinned, unpinned, unstrayed, ticked, taken, claimed_by, held_by, reset_by, opened_by}
+use Rattle.counter_cells.specs.Steps.{charged, looked, good_pin, stray_pin, pinned, unpinned, stray_unpinned, ticked, taken_cell, claimed_by, held_by, reset_by, opened_by}
 use Rattle.counter_cells.specs.Claiming.{Peeked, Reclaimed}
 use Rattle.counter_cells.specs.Lawful.{Register, ClockIsGreatestOffer}
 use Rattle.counter_cells.proofs.Kept.{Rule, Holds}
@@ -31,7 +31,7 @@ use Rattle.counter_cells.proofs.Looking.{look_keeps, one_le}
 use Rattle.counter_cells.proofs.Sums.{total_one, total_same}
 use Rattle.counter_cells.proofs.Gates.{few_pins, open_shown, gate_keeps}
 use Rattle.counter_cells.proofs.Pinning.{pinned_keeps}
-use Rattle.counter_cells.proofs.Unpinning.{unpin_keeps, unstray_keeps}
+use Rattle.counter_cells.proofs.Unpinning.{unpin_keeps, unpin_stray_keeps}
 use Rattle.counter_cells.proofs.Ticking.{clock_same, tick_clock}
 
 pub there : {A : Type 0} (l : List A) (i : ℕ) → i < length l → (a : A) × (get_elem? l i ≡ some a)
@@ -59,14 +59,14 @@ module _ (ws : List ℕ) (k x : ℕ) where
   gate_here h = get_or-set_same ws (gate_at k) x 0 h
 
 -- under a good pin the count is at least what the view knows of the claim
-capped_at : (a : Setup) (t : Register) (gate count : ℕ → ℕ) (views : List View) → Rule a t gate count views → (id k : ℕ) (v : View) → get_elem? views id ≡ some v → 1 ≤ good_on k v → Capped (claim_on k v.good) (count k) v
+capped_at : (a : Setup) (t : Register) (gate count : ℕ → ℕ) (views : List CellView) → Rule a t gate count views → (id k : ℕ) (v : CellView) → get_elem? views id ≡ some v → 1 ≤ good_on k v → Capped (claim_on k v.good) (count k) v
 capped_at a t gate count views r id k v at pin =
     let f = r.each id v at in
     let m = f.good k (claim_on k v.good) (claimed k v.good pin) in
     subst (λ c. Capped c (count k) v) m.3 (f.caps k m.0 m.1 m.2)
 
 -- the state after a step on a count, and on a gate
-module _ (a : Setup) (t : Register) (ws : List ℕ) (k x : ℕ) (views : List View) (long : length ws ≡ 2 * length t.cells + 1) (count : length t.cells ≡ a.cells) where
+module _ (a : Setup) (t : Register) (ws : List ℕ) (k x : ℕ) (views : List CellView) (long : length ws ≡ 2 * length t.cells + 1) (count : length t.cells ≡ a.cells) where
   pub on_count : (homes : List ℕ) → Rule a t (gate_of ws) (count_of (set ws (count_at k) x)) views → ClockIsGreatestOffer a (slice_index ws 0) views → (length (set ws (count_at k) x) ≡ 2 * length t.cells + 1) × (length t.cells ≡ a.cells) × Rule a t (gate_of (set ws (count_at k) x)) (count_of (set ws (count_at k) x)) views × ClockIsGreatestOffer a (slice_index (set ws (count_at k) x) 0) views
   on_count homes r c = (
     length-set ws (count_at k) x ∙ long,
@@ -83,7 +83,7 @@ module _ (a : Setup) (t : Register) (ws : List ℕ) (k x : ℕ) (views : List Vi
     subst (λ n. ClockIsGreatestOffer a n views) (sym (get_or-set_other ws (gate_at k) 0 x 0 (λ e. absurd (omega arith)))) c,
   )
 
-module _ (a : Setup) (slots id k : ℕ) (me : Me ℕ View) (within : k < a.cells) where
+module _ (a : Setup) (slots id k : ℕ) (me : Me ℕ CellView) (within : k < a.cells) where
   pub charges : (h : ℕ) → 1 ≤ small_on k me.0 → (1 ≤ h) × (h ≤ most_hits) → Allows (Holds a) slots id me (count_at k) (λ n. (n + h) % 2 ^ 64) (λ n w. (w.0 ≡ charged (count_cell (count_at k)) n h me.0) × (w.1 ≡ me.1) × Capped (claim_on (count_cell (count_at k)) me.0.good) n me.0)
   charges h one hits s hold homes at small =
       let t = hold.0 in
@@ -166,8 +166,8 @@ module _ (a : Setup) (slots id k : ℕ) (me : Me ℕ View) (within : k < a.cells
       let after = on_gate a t ws k new (set s.views id (unpinned k me.0)) hold.1 hold.2 [] rule clock in
       (unpinned k me.0, keeps, tt, (t, after.0, after.1, after.2, after.3), (ap (λ (i : ℕ). unpinned i me.0) gate_cell_is, refl))
 
-  pub unstrays : 1 ≤ total (λ j. one_if (j == k)) me.0.stray → Allows (Holds a) slots id me (gate_at k) (λ n. (n + (2 ^ 64 - 2)) % 2 ^ 64) (λ n w. (w.0 ≡ unstrayed (gate_cell (gate_at k)) me.0) × (w.1 ≡ me.1))
-  unstrays pin s hold homes at small =
+  pub unpins_stray : 1 ≤ total (λ j. one_if (j == k)) me.0.stray → Allows (Holds a) slots id me (gate_at k) (λ n. (n + (2 ^ 64 - 2)) % 2 ^ 64) (λ n w. (w.0 ≡ stray_unpinned (gate_cell (gate_at k)) me.0) × (w.1 ≡ me.1))
+  unpins_stray pin s hold homes at small =
       let t = hold.0 in
       let ws = s.words in
       let n = gate_of ws k in
@@ -176,10 +176,10 @@ module _ (a : Setup) (slots id k : ℕ) (me : Me ℕ View) (within : k < a.cells
       let word = (hold.3.cells k st.0 st.1).word in
       let one = total_one (pins_on k) s.views id me.0 at in
       let sum : new + 2 ≡ n = omega arith in
-      let rule = unstray_keeps a t (gate_of ws) (gate_of (set ws (gate_at k) new)) (count_of ws) s.views hold.3 id k me.0 at (ap (λ i. i + 2) (gate_here ws k new (omega (arith, hold.1, hold.2))) ∙ sum) (λ j ne. gate_else ws k new j ne) pin in
-      let clock = clock_same a (slice_index ws 0) s.views hold.4 id me.0 (unstrayed k me.0) at (refl, refl, refl, refl, refl) in
-      let after = on_gate a t ws k new (set s.views id (unstrayed k me.0)) hold.1 hold.2 [] rule clock in
-      (unstrayed k me.0, keeps, tt, (t, after.0, after.1, after.2, after.3), (ap (λ (i : ℕ). unstrayed i me.0) gate_cell_is, refl))
+      let rule = unpin_stray_keeps a t (gate_of ws) (gate_of (set ws (gate_at k) new)) (count_of ws) s.views hold.3 id k me.0 at (ap (λ i. i + 2) (gate_here ws k new (omega (arith, hold.1, hold.2))) ∙ sum) (λ j ne. gate_else ws k new j ne) pin in
+      let clock = clock_same a (slice_index ws 0) s.views hold.4 id me.0 (stray_unpinned k me.0) at (refl, refl, refl, refl, refl) in
+      let after = on_gate a t ws k new (set s.views id (stray_unpinned k me.0)) hold.1 hold.2 [] rule clock in
+      (stray_unpinned k me.0, keeps, tt, (t, after.0, after.1, after.2, after.3), (ap (λ (i : ℕ). stray_unpinned i me.0) gate_cell_is, refl))
 
 -- the claimer's steps
 get_is : (l : List Cell) (k : ℕ) (s d : Cell) → get_elem? l k ≡ some s → get_or l k d ≡ s
@@ -191,9 +191,9 @@ pins_there : (n old claim bit pins : ℕ) → n ≡ gate_word claim bit pins →
 pins_there n old claim bit zero w p o ne = absurd (ne (omega arith))
 pins_there n old claim bit (suc k) w p o ne = omega arith
 
-module _ (a : Setup) (slots id k : ℕ) (me : Me ℕ View) (within : k < a.cells) (role : me.0.claimer ≡ true) where
+module _ (a : Setup) (slots id k : ℕ) (me : Me ℕ CellView) (within : k < a.cells) (role : me.0.claimer ≡ true) where
   -- the claimer's cell is that of the state
-  own_cell : (s : State ℕ View) (hold : Holds a s) → get_elem? s.views id ≡ some me.0 → get_elem? hold.0.cells k ≡ some (cell_or me.0.cells k)
+  own_cell : (s : State ℕ CellView) (hold : Holds a s) → get_elem? s.views id ≡ some me.0 → get_elem? hold.0.cells k ≡ some (cell_or me.0.cells k)
   own_cell s hold at =
       let c = there hold.0.cells k (omega (arith, hold.2)) in
       let mine = (hold.3.each id me.0 at).claimer role in
@@ -206,11 +206,11 @@ module _ (a : Setup) (slots id k : ℕ) (me : Me ℕ View) (within : k < a.cells
         me.0,
         keeps,
         tt,
-        subst (λ (s' : State ℕ View). Holds a s') (λ i. record { words = sym (set-get_or s.words (gate_at k) 0) i; homes = s.homes; views = sym (set_again s.views id me.0 at) i }) hold,
+        subst (λ (s' : State ℕ CellView). Holds a s') (λ i. record { words = sym (set-get_or s.words (gate_at k) 0) i; homes = s.homes; views = sym (set_again s.views id me.0 at) i }) hold,
         (subst (λ i. Peeked i me.0 (gate_of s.words k) me.0) e (refl, shown.0, shown.1), refl),
       )
 
-  on_cells : (t' : Register) (x : ℕ) (s : State ℕ View) (w : View) (hold : Holds a s) → get_elem? s.views id ≡ some me.0 → length t'.cells ≡ length hold.0.cells
+  on_cells : (t' : Register) (x : ℕ) (s : State ℕ CellView) (w : CellView) (hold : Holds a s) → get_elem? s.views id ≡ some me.0 → length t'.cells ≡ length hold.0.cells
       → (w.ticks ≡ me.0.ticks) × (w.numbers ≡ me.0.numbers) × (w.moment ≡ me.0.moment) × (w.unmade ≡ me.0.unmade) × (w.claimer ≡ me.0.claimer)
       → Rule a t' (gate_of (set s.words (gate_at k) x)) (count_of s.words) (set s.views id w) → Holds a (stepped s (gate_at k) x id me.1 w keeps)
   on_cells t' x s w hold at len same rule =
@@ -230,24 +230,24 @@ module _ (a : Setup) (slots id k : ℕ) (me : Me ℕ View) (within : k < a.cells
       let bit : one_if st.is_open ≡ 0 = ap one_if off in
       let sum : bit_or n 1 ≡ n + 1 = ap (λ i. bit_or i 1) (let e : n ≡ (st.claim * 65536 + total (pins_on k) s.views) * 2 ^ 1 = omega arith in e) ∙ or_shifted (st.claim * 65536 + total (pins_on k) s.views) 1 1 (lit< tt) ∙ (let e : (st.claim * 65536 + total (pins_on k) s.views) * 2 ^ 1 + 1 ≡ n + 1 = omega arith in e) in
       let rule = open_keeps a t (gate_of ws) (gate_of (set ws (gate_at k) (bit_or n 1))) (count_of ws) (count_of ws) s.views hold.3 id k me.0 at role st cell ev off done (gate_here ws k (bit_or n 1) (omega (arith, hold.1, hold.2)) ∙ sum) (λ j ne. gate_else ws k (bit_or n 1) j ne) in
-      let w : View = opened_by k me.0 in
-      let is : w ≡ record me.0 { cells = set me.0.cells k (record st { is_open = true }); drawn = t.drawn; held = me.0.held } = λ i. record me.0 { cells = set me.0.cells k (record st { is_open = true }); drawn = mine.1 i; held = me.0.held } in (
+      let w : CellView = opened_by k me.0 in
+      let is : w ≡ record me.0 { cells = set me.0.cells k (record st { is_open = true }); used_claims = t.used_claims; held = me.0.held } = λ i. record me.0 { cells = set me.0.cells k (record st { is_open = true }); used_claims = mine.1 i; held = me.0.held } in (
         w,
         keeps,
         tt,
-        on_cells (record { cells = set t.cells k (record st { is_open = true }); drawn = t.drawn }) (bit_or n 1) s w hold at (length-set t.cells k (record st { is_open = true })) (refl, refl, refl, refl, refl)
-            (subst (λ (x : View). Rule a (record { cells = set t.cells k (record st { is_open = true }); drawn = t.drawn }) (gate_of (set ws (gate_at k) (bit_or n 1))) (count_of ws) (set s.views id x)) (sym is) rule),
+        on_cells (record { cells = set t.cells k (record st { is_open = true }); used_claims = t.used_claims }) (bit_or n 1) s w hold at (length-set t.cells k (record st { is_open = true })) (refl, refl, refl, refl, refl)
+            (subst (λ (x : CellView). Rule a (record { cells = set t.cells k (record st { is_open = true }); used_claims = t.used_claims }) (gate_of (set ws (gate_at k) (bit_or n 1))) (count_of ws) (set s.views id x)) (sym is) rule),
         (ap (λ (i : ℕ). opened_by i me.0) (let e : k ≡ gate_cell (gate_at k) = omega arith in e), refl),
       )
 
-  pub reclaims : (old c : ℕ) → old ≡ gate_word (cell_or me.0.cells k).claim (one_if (cell_or me.0.cells k).is_open) 0 → c < 2 ^ 40 → times c me.0.drawn ≡ 0
+  pub reclaims : (old c : ℕ) → old ≡ gate_word (cell_or me.0.cells k).claim (one_if (cell_or me.0.cells k).is_open) 0 → c < 2 ^ 40 → times c me.0.used_claims ≡ 0
       → Allows (Holds a) slots id me (gate_at k) (λ n. either (n == old) (gate_word c 0 0) n) (λ n w. Reclaimed (gate_cell (gate_at k)) old c me.0 n w.0 × (w.1 ≡ me.1))
   reclaims old c known low new s hold homes at small = pick (ℕ_discrete (gate_of s.words k) old)
     where
       e : k ≡ gate_cell (gate_at k)
       e = omega arith
 
-      pick : Dec (gate_of s.words k ≡ old) → (w : View) × (x : Act ℕ) × Valid s.homes me.1 x × Holds a (stepped s (gate_at k) (either (gate_of s.words k == old) (gate_word c 0 0) (gate_of s.words k)) id me.1 w x) × (Reclaimed (gate_cell (gate_at k)) old c me.0 (gate_of s.words k) w × (carried_after me.1 x ≡ me.1))
+      pick : Dec (gate_of s.words k ≡ old) → (w : CellView) × (x : Act ℕ) × Valid s.homes me.1 x × Holds a (stepped s (gate_at k) (either (gate_of s.words k == old) (gate_word c 0 0) (gate_of s.words k)) id me.1 w x) × (Reclaimed (gate_cell (gate_at k)) old c me.0 (gate_of s.words k) w × (carried_after me.1 x ≡ me.1))
       pick (yes d) =
           let t = hold.0 in
           let ws = s.words in
@@ -258,20 +258,20 @@ module _ (a : Setup) (slots id k : ℕ) (me : Me ℕ View) (within : k < a.cells
           let none : total (pins_on k) s.views ≡ 0 = omega arith in
           let x : either (gate_of ws k == old) (gate_word c 0 0) (gate_of ws k) ≡ gate_word c 0 0 = ap (λ b. either b (gate_word c 0 0) (gate_of ws k)) (eq-eqb (gate_of ws k) old d) in
           let rule = reclaim_keeps a t (gate_of ws) (gate_of (set ws (gate_at k) (gate_word c 0 0))) (count_of ws) (count_of ws) s.views hold.3 id k me.0 at role st cell c low (ap (λ l. times c l) (sym mine.1) ∙ new) none (gate_here ws k (gate_word c 0 0) (omega (arith, hold.1, hold.2))) (λ j ne. gate_else ws k (gate_word c 0 0) j ne) in
-          let w : View = claimed_by k c me.0 in
-          let is : w ≡ record me.0 { cells = set me.0.cells k (taken c); drawn = c ∷ t.drawn; held = me.0.held } = λ i. record me.0 { cells = set me.0.cells k (taken c); drawn = c ∷ mine.1 i; held = me.0.held } in (
+          let w : CellView = claimed_by k c me.0 in
+          let is : w ≡ record me.0 { cells = set me.0.cells k (taken_cell c); used_claims = c ∷ t.used_claims; held = me.0.held } = λ i. record me.0 { cells = set me.0.cells k (taken_cell c); used_claims = c ∷ mine.1 i; held = me.0.held } in (
             w,
             keeps,
             tt,
             subst (λ n. Holds a (stepped s (gate_at k) n id me.1 w keeps)) (sym x)
-                (on_cells (record { cells = set t.cells k (taken c); drawn = c ∷ t.drawn }) (gate_word c 0 0) s w hold at (length-set t.cells k (taken c)) (refl, refl, refl, refl, refl)
-                (subst (λ (y : View). Rule a (record { cells = set t.cells k (taken c); drawn = c ∷ t.drawn }) (gate_of (set ws (gate_at k) (gate_word c 0 0))) (count_of ws) (set s.views id y)) (sym is) rule)),
+                (on_cells (record { cells = set t.cells k (taken_cell c); used_claims = c ∷ t.used_claims }) (gate_word c 0 0) s w hold at (length-set t.cells k (taken_cell c)) (refl, refl, refl, refl, refl)
+                (subst (λ (y : CellView). Rule a (record { cells = set t.cells k (taken_cell c); used_claims = c ∷ t.used_claims }) (gate_of (set ws (gate_at k) (gate_word c 0 0))) (count_of ws) (set s.views id y)) (sym is) rule)),
             (subst (λ i. Reclaimed i old c me.0 (gate_of s.words k) w) e ((λ _. refl), (λ no. absurd (no d))), refl),
           )
       pick (no n) =
           let t = hold.0 in
           let ws = s.words in
-          let w : View = held_by k (pins_shown (gate_of ws k)) me.0 in
+          let w : CellView = held_by k (pins_shown (gate_of ws k)) me.0 in
           let f = hold.3.each id me.0 at in
           let cell = own_cell s hold at in
           let shown = open_shown a t (gate_of ws) (count_of ws) s.views hold.3 k (cell_or me.0.cells k) cell in
@@ -298,22 +298,22 @@ module _ (a : Setup) (slots id k : ℕ) (me : Me ℕ View) (within : k < a.cells
       let cell = own_cell s hold at in
       let mine = (hold.3.each id me.0 at).claimer role in
       let rule = reset_keeps a t (gate_of ws) (gate_of ws) (count_of ws) (count_of (set ws (count_at k) 0)) s.views hold.3 id k me.0 at role st cell ev off (count_here ws k 0 (omega (arith, hold.1, hold.2))) (λ j ne. count_else ws k 0 j ne) in
-      let t' : Register = record { cells = set t.cells k (record st { reset = true }); drawn = t.drawn } in
-      let w : View = reset_by k me.0 in
+      let t' : Register = record { cells = set t.cells k (record st { reset = true }); used_claims = t.used_claims } in
+      let w : CellView = reset_by k me.0 in
       let len : length t'.cells ≡ length t.cells = length-set t.cells k (record st { reset = true }) in
-      let is : w ≡ record me.0 { cells = set me.0.cells k (record st { reset = true }); drawn = t.drawn; held = me.0.held } = λ i. record me.0 { cells = set me.0.cells k (record st { reset = true }); drawn = mine.1 i; held = me.0.held } in
+      let is : w ≡ record me.0 { cells = set me.0.cells k (record st { reset = true }); used_claims = t.used_claims; held = me.0.held } = λ i. record me.0 { cells = set me.0.cells k (record st { reset = true }); used_claims = mine.1 i; held = me.0.held } in
       let clock = clock_same a (slice_index ws 0) s.views hold.4 id me.0 w at (refl, refl, refl, refl, refl) in
-      let after = on_count a t' ws k 0 (set s.views id w) (hold.1 ∙ ap (λ n. 2 * n + 1) (sym len)) (len ∙ hold.2) [] (subst (λ (x : View). Rule a t' (gate_of ws) (count_of (set ws (count_at k) 0)) (set s.views id x)) (sym is) rule) clock in
+      let after = on_count a t' ws k 0 (set s.views id w) (hold.1 ∙ ap (λ n. 2 * n + 1) (sym len)) (len ∙ hold.2) [] (subst (λ (x : CellView). Rule a t' (gate_of ws) (count_of (set ws (count_at k) 0)) (set s.views id x)) (sym is) rule) clock in
       (w, keeps, tt, (t', after.0, after.1, after.2, after.3), (ap (λ (i : ℕ). reset_by i me.0) (let e : k ≡ count_cell (count_at k) = omega arith in e), refl))
 
-module _ (a : Setup) (slots id now : ℕ) (me : Me ℕ View) where
+module _ (a : Setup) (slots id now : ℕ) (me : Me ℕ CellView) where
   pub ticks : 1 ≤ length me.0.numbers → now ≤ 1000000000000 → Allows (Holds a) slots id me 0 (λ n. max n now) (λ n w. (w.0 ≡ ticked (max n now) now me.0) × (w.1 ≡ me.1) × (me.0.moment ≤ n) × (n ≤ 1000000000000))
   ticks live low s hold homes at small =
       let t = hold.0 in
       let ws = s.words in
       let n = slice_index ws 0 in
       let new = max n now in
-      let w : View = ticked (max n now) now me.0 in
+      let w : CellView = ticked (max n now) now me.0 in
       let f = hold.3.each id me.0 at in
       let rule = gate_keeps a t (gate_of ws) (count_of ws) s.views hold.3 (gate_of ws) id me.0 w at refl refl (refl, refl, refl)
       (λ j u d. (hold.3.cells j u d).word ∙ ap (λ m. gate_word u.claim (one_if u.is_open) m) (sym (total_same (pins_on j) s.views id me.0 w at refl)))
@@ -324,7 +324,7 @@ module _ (a : Setup) (slots id now : ℕ) (me : Me ℕ View) where
       let clock = tick_clock a n (slice_index (set ws 0 new) 0) now s.views hold.4 id me.0 at live (get_or-set_same ws 0 new 0 (omega (arith, hold.1))) low in
       (w, keeps, tt, (t, length-set ws 0 new ∙ hold.1, hold.2, subst (λ (g : (ℕ → ℕ) × (ℕ → ℕ)). Rule a t g.0 g.1 (set s.views id w)) (λ i. (gates i, counts i)) rule, clock), (refl, refl, (hold.4.each id me.0 at).moment, hold.4.most))
 
-pub reclaims_as : (a : Setup) (slots id k : ℕ) (me : Me ℕ View) → k < a.cells → me.0.claimer ≡ true → (old c : ℕ) → old ≡ gate_word (cell_or me.0.cells k).claim (one_if (cell_or me.0.cells k).is_open) 0 → c < 2 ^ 40 → times c me.0.drawn ≡ 0
+pub reclaims_as : (a : Setup) (slots id k : ℕ) (me : Me ℕ CellView) → k < a.cells → me.0.claimer ≡ true → (old c : ℕ) → old ≡ gate_word (cell_or me.0.cells k).claim (one_if (cell_or me.0.cells k).is_open) 0 → c < 2 ^ 40 → times c me.0.used_claims ≡ 0
     → Allows (Holds a) slots id me (gate_at k) (λ n. either (n == old) (c * 131072) n) (λ n w. Reclaimed (gate_cell (gate_at k)) old (c * 131072 / 131072) me.0 n w.0 × (w.1 ≡ me.1))
 reclaims_as a slots id k me within role old c known low new =
     let e : gate_word c 0 0 ≡ c * 131072 = omega arith in

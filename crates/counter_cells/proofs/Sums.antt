@@ -33,7 +33,7 @@ module _ {A : Type 0} where
   total_two f (x ∷ xs) (suc k) zero v u n e d = let s : f x ≡ f u = ap f (some-injective _ _ d) in let r = total_one f xs k v e in omega arith
   total_two f (x ∷ xs) (suc k) (suc j) v u n e d = let r = total_two f xs k j v u (λ h. n (ap suc h)) e d in omega arith
 
-  -- a sum is at most_hits another, where each part is
+  -- a sum is at most another, where each part is
   pub total_le : (f g : A → ℕ) (views : List A) → ((k : ℕ) (v : A) → get_elem? views k ≡ some v → f v ≤ g v) → total f views ≤ total g views
   total_le f g [] h = omega arith
   total_le f g (x ∷ xs) h = let a = h 0 x refl in let r = total_le f g xs (λ k v e. h (suc k) v e) in omega arith

@@ -7,7 +7,7 @@ use native.Mathlib.Decide.{dec_lt}
 use mathlib.Core.Option.{some, some-injective, some-ne-none}
 use lib.ListN.{get_elem?}
 use Rattle.counter_cells.specs.declared.view.Tick.{Tick}
-use Rattle.counter_cells.specs.declared.view.View.{View}
+use Rattle.counter_cells.specs.declared.view.CellView.{CellView}
 use Rattle.counter_cells.specs.declared.setup.Setup.{Setup}
 use Rattle.std.specs.List.{AllByRecursion}
 use Rattle.counter_cells.specs.Sums.{total, one_if, times}
@@ -59,8 +59,8 @@ total_sum : {A : Type 0} (f g : A → ℕ) (xs : List A) → total (λ x. f x + 
 total_sum f g [] = refl
 total_sum f g (x ∷ xs) = let r = total_sum f g xs in omega arith
 
-module _ (a : Setup) (clock clock' now : ℕ) (views : List View) (c : ClockIsGreatestOffer a clock views) (id : ℕ) (v : View) (at : get_elem? views id ≡ some v) (live : 1 ≤ length v.numbers) (is : clock' ≡ max clock now) (low : now ≤ 1000000000000) where
-  abbrev W : View
+module _ (a : Setup) (clock clock' now : ℕ) (views : List CellView) (c : ClockIsGreatestOffer a clock views) (id : ℕ) (v : CellView) (at : get_elem? views id ≡ some v) (live : 1 ≤ length v.numbers) (is : clock' ≡ max clock now) (low : now ≤ 1000000000000) where
+  abbrev W : CellView
   W = ticked (max clock now) now v
 
   abbrev N : Tick
@@ -76,9 +76,9 @@ module _ (a : Setup) (clock clock' now : ℕ) (views : List View) (c : ClockIsGr
   clock_source : (clock ≡ a.start) ⊎ ((1 ≤ own_offers (number_of v) clock v.ticks) ⊎ (1 ≤ total (other_offers (number_of v) clock) views))
   clock_source = ⊎_elim inl (λ o. inr (pick o (dec_lt 0 (total (other_offers (number_of v) clock) views)))) c.top
     where
-      alone : (j : ℕ) (u : View) → (j ≡ id → ⊥) → get_elem? views j ≡ some u → own_offers (number_of v) clock u.ticks ≡ 0
+      alone : (j : ℕ) (u : CellView) → (j ≡ id → ⊥) → get_elem? views j ≡ some u → own_offers (number_of v) clock u.ticks ≡ 0
       alone j u n e =
-          let two = total_two (λ (x : View). times (number_of v) x.numbers + one_if (ltb (number_of v) x.unmade)) views id j v u n at e in
+          let two = total_two (λ (x : CellView). times (number_of v) x.numbers + one_if (ltb (number_of v) x.unmade)) views id j v u n at e in
           let one = c.numbers (number_of v) in
           let most = one_le (ltb (number_of v) a.passes) in
           let o = number in
@@ -87,12 +87,12 @@ module _ (a : Setup) (clock clock' now : ℕ) (views : List View) (c : ClockIsGr
       pick : 1 ≤ total (offers clock) views → Dec (0 < total (other_offers (number_of v) clock) views) → (1 ≤ own_offers (number_of v) clock v.ticks) ⊎ (1 ≤ total (other_offers (number_of v) clock) views)
       pick o (yes d) = inr (omega arith)
       pick o (no n) =
-          let e = total_eq (offers clock) (λ (x : View). own_offers (number_of v) clock x.ticks + other_offers (number_of v) clock x) views (λ j x _. parts (number_of v) clock x.ticks) in
-          let s = total_sum (λ (x : View). own_offers (number_of v) clock x.ticks) (other_offers (number_of v) clock) views in
-          let f = total_only (λ (x : View). own_offers (number_of v) clock x.ticks) views id v at alone in
+          let e = total_eq (offers clock) (λ (x : CellView). own_offers (number_of v) clock x.ticks + other_offers (number_of v) clock x) views (λ j x _. parts (number_of v) clock x.ticks) in
+          let s = total_sum (λ (x : CellView). own_offers (number_of v) clock x.ticks) (other_offers (number_of v) clock) views in
+          let f = total_only (λ (x : CellView). own_offers (number_of v) clock x.ticks) views id v at alone in
           inl (omega arith)
         where
-          total_only : (f : View → ℕ) (xs : List View) (k : ℕ) (x : View) → get_elem? xs k ≡ some x → ((j : ℕ) (u : View) → (j ≡ k → ⊥) → get_elem? xs j ≡ some u → f u ≡ 0) → total f xs ≡ f x
+          total_only : (f : CellView → ℕ) (xs : List CellView) (k : ℕ) (x : CellView) → get_elem? xs k ≡ some x → ((j : ℕ) (u : CellView) → (j ≡ k → ⊥) → get_elem? xs j ≡ some u → f u ≡ 0) → total f xs ≡ f x
           total_only f [] k x e h = absurd (some-ne-none x (sym e))
           total_only f (y ∷ ys) zero x e h = let a : f y ≡ f x = ap f (some-injective _ _ e) in let b = total_none f ys (λ j u d. h (suc j) u (λ q. absurd (omega arith)) d) in omega arith
           total_only f (y ∷ ys) (suc k) x e h = let a = h 0 y (λ q. absurd (omega arith)) refl in let b = total_only f ys k x e (λ j u n d. h (suc j) u (λ q. n (omega arith)) d) in omega arith
@@ -134,7 +134,7 @@ module _ (a : Setup) (clock clock' now : ℕ) (views : List View) (c : ClockIsGr
           subst (λ m. (m ≡ a.start) ⊎ ((1 ≤ own_offers (number_of v) m (v.ticks ++ N ∷ [])) ⊎ (1 ≤ total (other_offers (number_of v) m) (set views id W)))) same
           (⊎_elim inl (λ q. inr (⊎_elim (λ o. inl (let y = own_more (number_of v) clock in omega arith)) (λ o. inr (let y = others_more (number_of v) clock in omega arith)) q)) clock_source)
 
-  view_old : (j : ℕ) (u : View) → get_elem? views j ≡ some u → TicksFit a.start clock' (λ i m. total (other_offers i m) (set views id W)) u
+  view_old : (j : ℕ) (u : CellView) → get_elem? views j ≡ some u → TicksFit a.start clock' (λ i m. total (other_offers i m) (set views id W)) u
   view_old j u e =
       let f = c.each j u e in
       record {
@@ -167,15 +167,15 @@ module _ (a : Setup) (clock clock' now : ℕ) (views : List View) (c : ClockIsGr
               numbers = each_push (λ (x : Tick). 1 ≤ times x.number v.numbers) v.ticks N f.numbers number;
               sourced = sourced_push a.start (λ i m. total (other_offers i m) (set views id W)) [] v.ticks N f.sourced new_source;
             });
-        numbers = λ i. let o = c.numbers i in let s = total_same (λ (x : View). times i x.numbers + one_if (ltb i x.unmade)) views id v W at refl in omega arith;
+        numbers = λ i. let o = c.numbers i in let s = total_same (λ (x : CellView). times i x.numbers + one_if (ltb i x.unmade)) views id v W at refl in omega arith;
       }
 
 -- the clock of a step that leaves ticks, numbers and moments
-pub clock_same : (a : Setup) (clock : ℕ) (views : List View) → ClockIsGreatestOffer a clock views → (id : ℕ) (v w : View) → get_elem? views id ≡ some v
+pub clock_same : (a : Setup) (clock : ℕ) (views : List CellView) → ClockIsGreatestOffer a clock views → (id : ℕ) (v w : CellView) → get_elem? views id ≡ some v
     → (w.ticks ≡ v.ticks) × (w.numbers ≡ v.numbers) × (w.moment ≡ v.moment) × (w.unmade ≡ v.unmade) × (w.claimer ≡ v.claimer) → ClockIsGreatestOffer a clock (set views id w)
 clock_same a clock views c id v w at same =
-    let ts = λ (f : List Tick → ℕ). total_same (λ (x : View). f x.ticks) views id v w at (ap f same.0) in
-    let fit = λ (j : ℕ) (u : View) (e : get_elem? views j ≡ some u). c.each j u e in
+    let ts = λ (f : List Tick → ℕ). total_same (λ (x : CellView). f x.ticks) views id v w at (ap f same.0) in
+    let fit = λ (j : ℕ) (u : CellView) (e : get_elem? views j ≡ some u). c.each j u e in
     record {
       least = c.least;
       most = c.most;
@@ -188,10 +188,10 @@ clock_same a clock views c id v w at same =
             numbers = subst (λ (y : List Tick × List ℕ). AllByRecursion (λ (x : Tick). 1 ≤ times x.number y.1) y.0) (λ i. (sym same.0 i, sym same.1 i)) f.numbers;
             sourced = subst (Sourced a.start (λ i m. total (other_offers i m) (set views id w)) []) (sym same.0) f.sourced;
           });
-      numbers = λ i. let o = c.numbers i in let s = total_same (λ (x : View). times i x.numbers + one_if (ltb i x.unmade)) views id v w at (let x = ap (times i) same.1 in let y = ap (λ n. one_if (ltb i n)) same.3 in omega arith) in omega arith;
+      numbers = λ i. let o = c.numbers i in let s = total_same (λ (x : CellView). times i x.numbers + one_if (ltb i x.unmade)) views id v w at (let x = ap (times i) same.1 in let y = ap (λ n. one_if (ltb i n)) same.3 in omega arith) in omega arith;
     }
   where
-    old : (j : ℕ) (u : View) → get_elem? views j ≡ some u → TicksFit a.start clock (λ i m. total (other_offers i m) (set views id w)) u
+    old : (j : ℕ) (u : CellView) → get_elem? views j ≡ some u → TicksFit a.start clock (λ i m. total (other_offers i m) (set views id w)) u
     old j u e =
         let f = c.each j u e in
         record {
@@ -199,5 +199,5 @@ clock_same a clock views c id v w at same =
           last = f.last;
           offers = f.offers;
           numbers = f.numbers;
-          sourced = sourced_more a.start (λ i m. total (other_offers i m) views) (λ i m. total (other_offers i m) (set views id w)) [] u.ticks (λ i m. let s = total_same (λ (x : View). total (λ (y : Tick). cond (y.number == i) 0 (offered m y)) x.ticks) views id v w at (ap (total (λ (y : Tick). cond (y.number == i) 0 (offered m y))) same.0) in omega arith) f.sourced;
+          sourced = sourced_more a.start (λ i m. total (other_offers i m) views) (λ i m. total (other_offers i m) (set views id w)) [] u.ticks (λ i m. let s = total_same (λ (x : CellView). total (λ (y : Tick). cond (y.number == i) 0 (offered m y)) x.ticks) views id v w at (ap (total (λ (y : Tick). cond (y.number == i) 0 (offered m y))) same.0) in omega arith) f.sourced;
         }

@@ -6,12 +6,12 @@ use native.Mathlib.Decide.{ℕ_discrete}
 use mathlib.Core.Option.{some}
 use lib.ListN.{get_elem?}
 use Rattle.counter_cells.specs.declared.view.Cell.{Cell}
-use Rattle.counter_cells.specs.declared.view.View.{View}
+use Rattle.counter_cells.specs.declared.view.CellView.{CellView}
 use Rattle.counter_cells.specs.declared.setup.Setup.{Setup}
 use Rattle.counter_cells.specs.Sums.{total, one_if}
 use Rattle.counter_cells.specs.Gates.{gate_word}
 use Rattle.counter_cells.specs.Views.{is_pair, good_on, pins_on, unused_on}
-use Rattle.counter_cells.specs.Steps.{without, any_on, drop_pin, drop_stray, unpinned, unstrayed}
+use Rattle.counter_cells.specs.Steps.{without, any_on, drop_pin, drop_stray, unpinned, stray_unpinned}
 use Rattle.counter_cells.specs.Lawful.{Register}
 use Rattle.counter_cells.proofs.Kept.{Rule}
 use Rattle.counter_cells.proofs.Sums.{total_set, cond_yes, cond_no}
@@ -66,20 +66,20 @@ any_some k (p ∷ ps) e = keep (p.0 == k) e (any_some k ps)
     keep true e r = omega arith
     keep false e r = let s = r e in omega arith
 
-module _ (a : Setup) (t : Register) (gate gate' count : ℕ → ℕ) (views : List View) (r : Rule a t gate count views) (id k : ℕ) (v : View) (at : get_elem? views id ≡ some v) (here : gate' k + 2 ≡ gate k) (else : (j : ℕ) → (j ≡ k → ⊥) → gate' j ≡ gate j) where
-  word_less : (w : View) → ((j : ℕ) → pins_on j w + one_if (k == j) ≡ pins_on j v) → (j : ℕ) (u : Cell) → get_elem? t.cells j ≡ some u → gate' j ≡ gate_word u.claim (one_if u.is_open) (total (pins_on j) (set views id w))
+module _ (a : Setup) (t : Register) (gate gate' count : ℕ → ℕ) (views : List CellView) (r : Rule a t gate count views) (id k : ℕ) (v : CellView) (at : get_elem? views id ≡ some v) (here : gate' k + 2 ≡ gate k) (else : (j : ℕ) → (j ≡ k → ⊥) → gate' j ≡ gate j) where
+  word_less : (w : CellView) → ((j : ℕ) → pins_on j w + one_if (k == j) ≡ pins_on j v) → (j : ℕ) (u : Cell) → get_elem? t.cells j ≡ some u → gate' j ≡ gate_word u.claim (one_if u.is_open) (total (pins_on j) (set views id w))
   word_less w more j u e = pick (ℕ_discrete j k) (r.cells j u e).word (total_set (pins_on j) views id v w at) (more j)
     where
       pick : Dec (j ≡ k) → gate j ≡ gate_word u.claim (one_if u.is_open) (total (pins_on j) views) → total (pins_on j) (set views id w) + pins_on j v ≡ total (pins_on j) views + pins_on j w → pins_on j w + one_if (k == j) ≡ pins_on j v → gate' j ≡ gate_word u.claim (one_if u.is_open) (total (pins_on j) (set views id w))
       pick (yes d) f s m = let g : gate' j + 2 ≡ gate j = ap (λ i. gate' i + 2) d ∙ here ∙ sym (ap gate d) in let y = cond_yes k j 1 0 (sym d) in omega arith
       pick (no n) f s m = let g = else j n in let y = cond_no k j 1 0 (λ q. n (sym q)) in omega arith
 
-  pub unstray_keeps : 1 ≤ total (λ j. one_if (j == k)) v.stray → Rule a t gate' count (set views id (unstrayed k v))
-  unstray_keeps one =
+  pub unpin_stray_keeps : 1 ≤ total (λ j. one_if (j == k)) v.stray → Rule a t gate' count (set views id (stray_unpinned k v))
+  unpin_stray_keeps one =
       let f = r.each id v at in
       let l = drop_stray_length k v.stray in
-      gate_keeps a t gate count views r gate' id v (unstrayed k v) at refl refl (refl, refl, refl)
-      (word_less (unstrayed k v) (λ j. let d = drop_stray_on k j v.stray one in omega arith))
+      gate_keeps a t gate count views r gate' id v (stray_unpinned k v) at refl refl (refl, refl, refl)
+      (word_less (stray_unpinned k v) (λ j. let d = drop_stray_on k j v.stray one in omega arith))
       (λ j. omega arith)
       (λ j u e off ev. refl)
       (record { pins = (omega arith, omega arith); good = f.good; under = f.under; once = f.once; past = f.past; charges = f.charges; looks = f.looks; idle = f.idle; claimer = f.claimer; caps = λ i u e o. let p = f.caps i u e o in record { charges = p.charges; looks = p.looks } })

@@ -6,25 +6,25 @@ use lib.ListN.{get_elem?}
 use Rattle.rate_types.specs.Ledger.{charged_total}
 use Rattle.counter_cells.specs.declared.view.Tick.{Tick}
 use Rattle.counter_cells.specs.declared.view.Cell.{Cell}
-use Rattle.counter_cells.specs.declared.view.View.{View}
+use Rattle.counter_cells.specs.declared.view.CellView.{CellView}
 use Rattle.counter_cells.specs.Sums.{total}
 use Rattle.counter_cells.specs.Views.{offered}
 use Rattle.counter_cells.specs.Steps.{joined}
 use Rattle.counter_cells.specs.Ledgers.{ledger_of}
 use Rattle.counter_cells.specs.Lawful.{Sourced}
 
--- the claimer after it took in these passes
-abbrev pub all_joined : View → List View → View
+-- the claimer after these passes were joined
+abbrev pub all_joined : CellView → List CellView → CellView
 all_joined v [] = v
 all_joined v (w ∷ ws) = all_joined (joined v w) ws
 
 -- all ticks of the passes
-abbrev pub ticks_of : List View → List Tick
+abbrev pub ticks_of : List CellView → List Tick
 ticks_of [] = []
 ticks_of (v ∷ vs) = v.ticks ++ ticks_of vs
 
 -- the count of each cell that the claimer knows to be open is the sum of the hits that the passes charged under its claim
-abbrev pub CountsAreTotals : List ℕ → View → List View → Type 0
+abbrev pub CountsAreTotals : List ℕ → CellView → List CellView → Type 0
 CountsAreTotals counts claimer passes = (k : ℕ) (c : Cell) → get_elem? claimer.cells k ≡ some c → c.is_open ≡ true → slice_index counts k ≡ charged_total ◌==◌ c.claim (ledger_of passes)
 
 -- The closing moment is the greatest of the start and of all offers, and the moment of each tick is the start,

@@ -2,7 +2,7 @@
 use Rattle.std.specs.Prelude.{ℕ, List, [], ◌∷◌, ◌++◌, map}
 use Rattle.rate_types.specs.Ledger as ledger
 use Rattle.counter_cells.specs.declared.view.Charge.{Charge}
-use Rattle.counter_cells.specs.declared.view.View.{View}
+use Rattle.counter_cells.specs.declared.view.CellView.{CellView}
 
 -- a charge under a claim is a charge on the counter that the claim names, and a look a sight of it
 abbrev pub charge_of : Charge → ledger.Charge ℕ
@@ -12,10 +12,10 @@ abbrev pub sight_of : ℕ × ℕ → ledger.Sight ℕ
 sight_of p = record { counter = p.0; seen = p.1 }
 
 -- the charges of all views, and their looks
-abbrev pub ledger_of : List View → List (ledger.Charge ℕ)
+abbrev pub ledger_of : List CellView → List (ledger.Charge ℕ)
 ledger_of [] = []
 ledger_of (v ∷ vs) = map charge_of v.charges ++ ledger_of vs
 
-abbrev pub sights_of : List View → List (ledger.Sight ℕ)
+abbrev pub sights_of : List CellView → List (ledger.Sight ℕ)
 sights_of [] = []
 sights_of (v ∷ vs) = map sight_of v.looks ++ sights_of vs

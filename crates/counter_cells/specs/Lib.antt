@@ -1,6 +1,6 @@
 pub mod Sums
 pub mod Gates
-pub mod Places
+pub mod WordIndex
 pub mod Views
 pub mod Steps
 pub mod Claiming

@@ -2,63 +2,63 @@
 use Rattle.std.specs.Prelude.{ℕ, zero, suc, ◌-◌, ◌==◌, nat_lt, Bool, true, false, Some, None, List, [], ◌∷◌, ◌++◌, if◌then◌else◌, slice_index_or, slice_set, replicate}
 use Rattle.counter_cells.specs.declared.view.Tick.{Tick}
 use Rattle.counter_cells.specs.declared.view.Cell.{Cell}
-use Rattle.counter_cells.specs.declared.view.View.{View}
+use Rattle.counter_cells.specs.declared.view.CellView.{CellView}
 use Rattle.counter_cells.specs.declared.setup.Setup.{Setup}
 use Rattle.counter_cells.specs.Gates.{claim_shown, bit_shown, shows}
 use Rattle.counter_cells.specs.Views.{claim_on, no_cell, cell_or}
 
 -- a view that knows nothing
-abbrev pub nobody : View
-nobody = record { numbers = []; ticks = []; moment = 0; good = []; stray = []; others = []; unused = []; charges = []; looks = []; pairs = []; claimer = false; unmade = 0; cells = []; drawn = []; held = [] }
+abbrev pub empty_view : CellView
+empty_view = record { numbers = []; ticks = []; moment = 0; good = []; stray = []; others = []; unused = []; charges = []; looks = []; pairs = []; claimer = false; unmade = 0; cells = []; used_claims = []; held = [] }
 
 -- the first seat: the claimer, with no cell taken, from which all passes are split off
-abbrev pub first_claimer : Setup → View
-first_claimer a = record nobody { claimer = true; unmade = a.passes; moment = a.start; cells = replicate a.cells no_cell }
+abbrev pub first_claimer : Setup → CellView
+first_claimer a = record empty_view { claimer = true; unmade = a.passes; moment = a.start; cells = replicate a.cells no_cell }
 
 -- a pass with the number, before its first step
-abbrev pub fresh_pass : ℕ → ℕ → View
-fresh_pass n start = record nobody { numbers = n ∷ []; moment = start }
+abbrev pub fresh_pass : ℕ → ℕ → CellView
+fresh_pass n start = record empty_view { numbers = n ∷ []; moment = start }
 
 -- the claimer after one pass was split off, and that pass, which takes the next number downwards
-abbrev pub one_less : View → View
+abbrev pub one_less : CellView → CellView
 one_less v = record v { unmade = v.unmade - 1 }
 
-abbrev pub new_pass : View → View
+abbrev pub new_pass : CellView → CellView
 new_pass v = fresh_pass (v.unmade - 1) v.moment
 
 -- all passes as they are made, the highest number first
-abbrev pub new_passes : ℕ → ℕ → List View
+abbrev pub new_passes : ℕ → ℕ → List CellView
 new_passes zero start = []
 new_passes (suc n) start = fresh_pass n start ∷ new_passes n start
 
 -- the claimer when so many passes are still to be made
-abbrev pub claimer_left : Setup → ℕ → View
-claimer_left a n = record nobody { claimer = true; unmade = n; moment = a.start; cells = replicate a.cells no_cell }
+abbrev pub claimer_left : Setup → ℕ → CellView
+claimer_left a n = record empty_view { claimer = true; unmade = n; moment = a.start; cells = replicate a.cells no_cell }
 
 -- A tick that answered the moment: the pass's offer is what it asked for, where that was later than its own moment
-abbrev pub number_of : View → ℕ
+abbrev pub number_of : CellView → ℕ
 number_of v = slice_index_or v.numbers 0 0
 
-abbrev pub tick_of : ℕ → ℕ → View → Tick
+abbrev pub tick_of : ℕ → ℕ → CellView → Tick
 tick_of moment now v = record { number = number_of v; moment = moment; offer = if nat_lt v.moment now then Some now else None }
 
-abbrev pub ticked : ℕ → ℕ → View → View
+abbrev pub ticked : ℕ → ℕ → CellView → CellView
 ticked moment now v = record v { moment = moment; ticks = v.ticks ++ tick_of moment now v ∷ [] }
 
 -- a good pin, whose cell and claim also come to the pairs
-abbrev pub good_pin : ℕ → ℕ → View → View
+abbrev pub good_pin : ℕ → ℕ → CellView → CellView
 good_pin cell claim v = record v { good = (cell, claim) ∷ v.good; pairs = (cell, claim) ∷ v.pairs }
 
 -- a pin that missed: it found the cell's gate closed or under another claim
-abbrev pub missed : ℕ → ℕ → Bool → View → View
+abbrev pub missed : ℕ → ℕ → Bool → CellView → CellView
 missed cell claim is_open v = record v { others = v.others ++ (record { cell = cell; claim = claim; is_open = is_open }) ∷ [] }
 
 -- a pin that missed, by the word that it found, and isn't given back yet
-abbrev pub stray_pin : ℕ → ℕ → View → View
+abbrev pub stray_pin : ℕ → ℕ → CellView → CellView
 stray_pin cell word v = record (missed cell (claim_shown word) (bit_shown word == 1) v) { stray = cell ∷ v.stray }
 
 -- a pin that asked for the claim and found the word: it is good where the gate was open under the claim, else stray
-abbrev pub pinned : ℕ → ℕ → ℕ → View → View
+abbrev pub pinned : ℕ → ℕ → ℕ → CellView → CellView
 pinned claim cell word v = if shows claim word then good_pin cell claim v else stray_pin cell word v
 
 -- without the newest pin on the cell
@@ -81,36 +81,36 @@ any_on cell [] = false
 any_on cell (p ∷ ps) = if p.0 == cell then true else any_on cell ps
 
 -- a good pin given back; with the last one on the cell its unused look ends
-abbrev pub unpinned : ℕ → View → View
+abbrev pub unpinned : ℕ → CellView → CellView
 unpinned cell v = record v { good = drop_pin cell v.good; unused = if any_on cell (drop_pin cell v.good) then v.unused else without cell v.unused }
 
 -- a stray pin given back
-abbrev pub unstrayed : ℕ → View → View
-unstrayed cell v = record v { stray = drop_stray cell v.stray }
+abbrev pub stray_unpinned : ℕ → CellView → CellView
+stray_unpinned cell v = record v { stray = drop_stray cell v.stray }
 
 -- a look that found the count: it is the cell's unused look, and one more look under the claim of the pin
-abbrev pub looked : ℕ → ℕ → View → View
+abbrev pub looked : ℕ → ℕ → CellView → CellView
 looked cell count v = record v { unused = (cell, count) ∷ without cell v.unused; looks = v.looks ++ (claim_on cell v.good, count) ∷ [] }
 
 -- a charge that found the count: it spends the unused look, and is one more charge under the claim of the pin
-abbrev pub charged : ℕ → ℕ → ℕ → View → View
+abbrev pub charged : ℕ → ℕ → ℕ → CellView → CellView
 charged cell before hits v = record v { unused = without cell v.unused; charges = v.charges ++ (record { claim = claim_on cell v.good; before = before; hits = hits }) ∷ [] }
 
 -- a cell that was just taken under the claim
-abbrev pub taken : ℕ → Cell
-taken claim = record { ever = true; is_open = false; reset = false; claim = claim }
+abbrev pub taken_cell : ℕ → Cell
+taken_cell claim = record { ever = true; is_open = false; reset = false; claim = claim }
 
-abbrev pub claimed_by : ℕ → ℕ → View → View
-claimed_by cell claim v = record v { cells = slice_set v.cells cell (taken claim); drawn = claim ∷ v.drawn }
+abbrev pub claimed_by : ℕ → ℕ → CellView → CellView
+claimed_by cell claim v = record v { cells = slice_set v.cells cell (taken_cell claim); used_claims = claim ∷ v.used_claims }
 
 -- a reclaim that found pins
-abbrev pub held_by : ℕ → ℕ → View → View
+abbrev pub held_by : ℕ → ℕ → CellView → CellView
 held_by cell pins v = record v { held = v.held ++ (cell, pins) ∷ [] }
 
-abbrev pub reset_by : ℕ → View → View
+abbrev pub reset_by : ℕ → CellView → CellView
 reset_by cell v = record v { cells = slice_set v.cells cell (record (cell_or v.cells cell) { reset = true }) }
 
-abbrev pub opened_by : ℕ → View → View
+abbrev pub opened_by : ℕ → CellView → CellView
 opened_by cell v = record v { cells = slice_set v.cells cell (record (cell_or v.cells cell) { is_open = true }) }
 
 -- the moment of the last tick, or the first argument where there is none
@@ -118,6 +118,6 @@ abbrev pub last_moment : ℕ → List Tick → ℕ
 last_moment moment [] = moment
 last_moment moment (x ∷ xs) = last_moment x.moment xs
 
--- a pass taken in at closing
-abbrev pub joined : View → View → View
+-- a pass joined at closing
+abbrev pub joined : CellView → CellView → CellView
 joined v w = record v { numbers = v.numbers ++ w.numbers; ticks = v.ticks ++ w.ticks; moment = last_moment v.moment w.ticks; others = v.others ++ w.others; unused = []; charges = v.charges ++ w.charges; looks = v.looks ++ w.looks; pairs = v.pairs ++ w.pairs }

@@ -1,22 +1,22 @@
 ghost use Rattle.std.specs.Prelude.{◌≡◌, ℕ, ◌*◌, ◌≤◌, ◌<◌, ◌^◌, length, true, false, []};
 ghost use Rattle.counter_cells.specs.Sums.{times};
-ghost use Rattle.counter_cells.specs.Places.{words_of};
+ghost use Rattle.counter_cells.specs.WordIndex.{words_of};
 ghost use Rattle.counter_cells.specs.Views.{most_hits, good_on, small_on, claim_on, cell_or, Capped};
-ghost use Rattle.counter_cells.specs.Steps.{ticked, pinned, good_pin, missed, unpinned, looked, charged, taken, claimed_by, held_by, reset_by, opened_by};
+ghost use Rattle.counter_cells.specs.Steps.{ticked, pinned, good_pin, missed, unpinned, looked, charged, taken_cell, claimed_by, held_by, reset_by, opened_by};
 ghost use Rattle.counter_cells.specs.declared.answers.Pin.TheVariants.{Pinned};
 ghost use Rattle.counter_cells.specs.declared.answers.Reclaim.TheVariants.{Claimed};
 ghost use Rattle.counter_cells.specs.Answers.{MatchPin, MatchReclaim, IsOther};
-ghost use Rattle.counter_cells.specs.Seats.{SitsAt, IsTaken};
+ghost use Rattle.counter_cells.specs.Seats.{IsBareSeatOf, IsTaken};
 
 use crate::answers::{Pin, Reclaim, Spot};
 use crate::claimer::CellClaimer;
 use crate::naming::CellNaming;
 use crate::pass::CellPass;
 use crate::plays::{
-    Asked, Charges, Looks, Opens, Peeks, Pins, Reclaims, Resets, Ticks, Unpins, Unstrays,
+    Asked, Charges, Looks, Opens, Peeks, Pins, Reclaims, Resets, Ticks, Unpins, UnpinsStray,
 };
-use crate::rule::{CellTable, Chair};
-use crate::{gate, places};
+use crate::rule::{CellSeat, CellTable};
+use crate::{gate, word_index};
 use rate_types::Seconds;
 use std::marker::{Brand, PhantomData};
 
@@ -51,23 +51,23 @@ impl<N: CellNaming> Cells<N> {
     {
         let now = now.get();
         let words = &self.table.shared;
-        let clock = words.fetch_max::<Ticks>(&mut pass.seat, places::CLOCK, now);
+        let clock = words.fetch_max::<Ticks>(&mut pass.seat, word_index::CLOCK, now);
         let moment = Seconds::capped(clock.max(now));
         pass.moment = moment;
         moment
     }
 
     // The addition of a pin, and the gate's word before it.
-    fn take_pin<A: Asked>(&self, seat: &mut Chair, spot: Spot) -> u64
-        requires seat { SitsAt N.table seat.old × (length seat.old.me.0.numbers ≡ 1) × (seat.old.me.0.stray ≡ []) }
+    fn take_pin<A: Asked>(&self, seat: &mut CellSeat, spot: Spot) -> u64
+        requires seat { IsBareSeatOf N.table seat.old × (length seat.old.me.0.numbers ≡ 1) × (seat.old.me.0.stray ≡ []) }
         requires cell { spot.cell < N.setup.cells }
         requires room { length seat.old.me.0.good < 32 }
         requires asked { A.claim ≡ spot.claim }
-        ensures seat { SitsAt N.table seat.new }
+        ensures seat { IsBareSeatOf N.table seat.new }
         ensures pinned { seat.new.me.0 ≡ pinned spot.claim spot.cell result seat.old.me.0 }
     {
         let words = &self.table.shared;
-        words.fetch_add::<Pins<A>>(seat, places::gate(spot.cell), gate::PIN)
+        words.fetch_add::<Pins<A>>(seat, word_index::gate(spot.cell), gate::PIN)
     }
 
     /// Pins the cell, where its gate is open under the claim: then it stays so until the pin is given back.
@@ -85,7 +85,7 @@ impl<N: CellNaming> Cells<N> {
             return Pin::Pinned;
         }
         let words = &self.table.shared;
-        words.fetch_sub::<Unstrays>(&mut pass.seat, places::gate(spot.cell), gate::PIN);
+        words.fetch_sub::<UnpinsStray>(&mut pass.seat, word_index::gate(spot.cell), gate::PIN);
         Pin::Other {
             claim: gate::claim_of(word),
             is_open: gate::is_open(word),
@@ -102,7 +102,7 @@ impl<N: CellNaming> Cells<N> {
         ensures capped { Capped (claim_on cell pass.old.good) result pass.old }
     {
         let words = &self.table.shared;
-        words.load::<Looks>(&mut pass.seat, places::count(cell))
+        words.load::<Looks>(&mut pass.seat, word_index::count(cell))
     }
 
     /// Adds hits to the count of a pinned cell by one atomic addition, and answers the count before. The pass has looked
@@ -116,7 +116,7 @@ impl<N: CellNaming> Cells<N> {
         ensures capped { Capped (claim_on cell pass.old.good) result pass.old }
     {
         let words = &self.table.shared;
-        words.fetch_add::<Charges>(&mut pass.seat, places::count(cell), u64::from(hits))
+        words.fetch_add::<Charges>(&mut pass.seat, word_index::count(cell), u64::from(hits))
     }
 
     /// Gives one pin back.
@@ -126,26 +126,26 @@ impl<N: CellNaming> Cells<N> {
         ensures unpinned { pass.new ≡ unpinned cell pass.old }
     {
         let words = &self.table.shared;
-        words.fetch_sub::<Unpins>(&mut pass.seat, places::gate(cell), gate::PIN);
+        words.fetch_sub::<Unpins>(&mut pass.seat, word_index::gate(cell), gate::PIN);
         pass.pins -= 1;
     }
 
-    /// One try to take the cell under a claim that was never drawn. `Claimed` leaves the gate closed under it.
+    /// One try to take the cell under a claim that was never used. `Claimed` leaves the gate closed under it.
     /// `Held` comes exactly where the gate read shows pins.
     pub fn reclaim(&self, claimer: &mut CellClaimer<N>, cell: u32, next: u64) -> Reclaim
         requires cell { cell < N.setup.cells }
-        requires next { (next < 2 ^ 40) × (times next claimer.old.drawn ≡ 0) }
-        ensures taken { result ≡ Claimed → cell_or claimer.new.cells cell ≡ taken next }
+        requires next { (next < 2 ^ 40) × (times next claimer.old.used_claims ≡ 0) }
+        ensures taken { result ≡ Claimed → cell_or claimer.new.cells cell ≡ taken_cell next }
         ensures reclaim { MatchReclaim result (claimer.new ≡ claimed_by cell next claimer.old) (λ pins. (claimer.new ≡ held_by cell pins claimer.old) × (1 ≤ pins)) }
     {
-        let place = places::gate(cell);
+        let index = word_index::gate(cell);
         let words = &self.table.shared;
-        let word = words.load::<Peeks>(&mut claimer.seat, place);
+        let word = words.load::<Peeks>(&mut claimer.seat, index);
         let bare = gate::without_pins(word);
         let found = self
             .table
             .shared
-            .compare_exchange::<Reclaims>(&mut claimer.seat, place, bare, gate::closed(next));
+            .compare_exchange::<Reclaims>(&mut claimer.seat, index, bare, gate::closed(next));
         if found == bare {
             Reclaim::Claimed
         } else {
@@ -163,7 +163,7 @@ impl<N: CellNaming> Cells<N> {
         ensures marked { cell_or claimer.new.cells cell ≡ record (cell_or claimer.old.cells cell) { reset = true } }
     {
         let words = &self.table.shared;
-        words.store::<Resets>(&mut claimer.seat, places::count(cell), 0);
+        words.store::<Resets>(&mut claimer.seat, word_index::count(cell), 0);
     }
 
     /// Opens a cell that is taken, not yet open and reset.
@@ -173,6 +173,6 @@ impl<N: CellNaming> Cells<N> {
         ensures opened { claimer.new ≡ opened_by cell claimer.old }
     {
         let words = &self.table.shared;
-        words.fetch_or::<Opens>(&mut claimer.seat, places::gate(cell), gate::OPEN);
+        words.fetch_or::<Opens>(&mut claimer.seat, word_index::gate(cell), gate::OPEN);
     }
 }

@@ -1,34 +1,34 @@
 ghost use Rattle.std.specs.Prelude.{◌≡◌, ◌≤◌, length, true};
-ghost use Rattle.counter_cells.specs.Seats.{IsClaimer, SitsAt};
+ghost use Rattle.counter_cells.specs.Seats.{IsClaimer, IsBareSeatOf};
 
 use crate::naming::CellNaming;
-use crate::rule::Chair;
+use crate::rule::CellSeat;
 use std::marker::{Model, PhantomData};
 
 /// The right to take cells under new claims. There is one for all cells of a table. Contracts see it as what it knows.
 #[derive(Drop)]
 pub struct CellClaimer<N: CellNaming> {
-    pub(crate) seat: Chair,
+    pub(crate) seat: CellSeat,
     cells: u32,
     of: PhantomData<N>,
 }
 
 impl<N: CellNaming> Model for CellClaimer<N> {
-    ghost use Rattle.counter_cells.specs.declared.view.View.{View};
+    ghost use Rattle.counter_cells.specs.declared.view.CellView.{CellView};
 
-    ghost Value = { View };
+    ghost Value = { CellView };
 
     ghost use Rattle.std.specs.Prelude.{◌≡◌, ◌≤◌};
-    ghost use Rattle.counter_cells.specs.Seats.{IsClaimer, SitsAt};
+    ghost use Rattle.counter_cells.specs.Seats.{IsClaimer, IsBareSeatOf};
 
     ghost view = { λ c. c.seat.me.0 };
 
-    ghost invariant = { λ c. SitsAt N.table c.seat × IsClaimer N.setup c.seat.me.0 × (c.cells ≡ N.setup.cells) × (c.cells ≤ 1048576) };
+    ghost invariant = { λ c. IsBareSeatOf N.table c.seat × IsClaimer N.setup c.seat.me.0 × (c.cells ≡ N.setup.cells) × (c.cells ≤ 1048576) };
 }
 
 impl<N: CellNaming> CellClaimer<N> {
-    pub(crate) fn new(seat: Chair, cells: u32) -> CellClaimer<N>
-        requires seat { SitsAt N.table seat × IsClaimer N.setup seat.me.0 }
+    pub(crate) fn new(seat: CellSeat, cells: u32) -> CellClaimer<N>
+        requires seat { IsBareSeatOf N.table seat × IsClaimer N.setup seat.me.0 }
         requires cells { (cells ≡ N.setup.cells) × (cells ≤ 1048576) }
         ensures { result ≡ seat.me.0 }
     {
@@ -47,8 +47,8 @@ impl<N: CellNaming> CellClaimer<N> {
         self.cells
     }
 
-    pub(crate) fn into_seat(self) -> Chair
-        ensures seat { SitsAt N.table result × (result.me.0 ≡ self) }
+    pub(crate) fn into_seat(self) -> CellSeat
+        ensures seat { IsBareSeatOf N.table result × (result.me.0 ≡ self) }
         ensures claimer { IsClaimer N.setup self }
     {
         let CellClaimer {

@@ -2,7 +2,7 @@ ghost use Rattle.std.specs.Prelude.{◌≡◌, ℕ, ◌+◌, ◌≤◌, ◌<◌,
 ghost use Rattle.std.specs.List.{AllByRecursion};
 ghost use Rattle.atomic_table.specs.Table.{Final, Seen};
 ghost use Rattle.rate_types.specs.Ledger.{IsLawfulLedger, IsLawfulSight};
-ghost use Rattle.counter_cells.specs.Seats.{IsClaimer, SitsAt};
+ghost use Rattle.counter_cells.specs.Seats.{IsClaimer, IsBareSeatOf};
 ghost use Rattle.counter_cells.specs.Ledgers.{ledger_of, sights_of};
 ghost use Rattle.counter_cells.specs.Closing.{all_joined, ticks_of, CountsAreTotals, TicksAreLawful};
 
@@ -10,8 +10,8 @@ use crate::cells::Cells;
 use crate::claimer::CellClaimer;
 use crate::naming::CellNaming;
 use crate::pass::CellPass;
-use crate::places;
-use crate::rule::{CellTable, Chair, Passes};
+use crate::rule::{CellSeat, CellTable, Passes};
+use crate::word_index;
 use rate_types::{OutOfMemory, Seconds};
 use std::alloc::Global;
 use std::marker::Model;
@@ -54,12 +54,12 @@ pub struct ClosedCells {
     pub counts: Counts,
 }
 
-// The claimer takes in the passes.
-fn take_in<N: CellNaming>(table: &CellTable, claimer: &mut Chair, passes: Vec<CellPass<N>>)
+// Joins the passes to the claimer.
+fn join_passes<N: CellNaming>(table: &CellTable, claimer: &mut CellSeat, passes: Vec<CellPass<N>>)
     requires table { (table.now.shared.table_id ≡ N.table) × (1 ≤ N.table.words) }
-    requires claimer { SitsAt N.table claimer.old × IsClaimer N.setup claimer.old.me.0 }
+    requires claimer { IsBareSeatOf N.table claimer.old × IsClaimer N.setup claimer.old.me.0 }
     requires passes { All (λ p. p.good ≡ []) passes.items }
-    ensures seat { SitsAt N.table claimer.new }
+    ensures seat { IsBareSeatOf N.table claimer.new }
     ensures joined { claimer.new.me.0 ≡ all_joined claimer.old.me.0 passes.items }
     ensures numbers { length claimer.new.me.0.numbers ≡ length passes.items }
 {
@@ -92,12 +92,12 @@ impl<N: CellNaming> Cells<N> {
             of: _,
         } = self;
         let mut seat = claimer.into_seat();
-        take_in(&table, &mut seat, passes);
+        join_passes(&table, &mut seat, passes);
         let closed = table.close_with(seat);
         for cell in 0..count {
-            counts.push_reserved(closed.word(places::count(cell)));
+            counts.push_reserved(closed.word(word_index::count(cell)));
         }
-        let moment = Seconds::capped(closed.word(places::CLOCK));
+        let moment = Seconds::capped(closed.word(word_index::CLOCK));
         closed.free();
         Ok(ClosedCells {
             moment,

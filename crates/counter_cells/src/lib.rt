@@ -8,7 +8,7 @@
 //! **The promise.** Between any two steps of any passes and the claimer the cells are lawful (`CellsLawful` of
 //! `specs/Lawful.antt`, in seven parts). So whatever the interleaving, the charges under each claim form a lawful
 //! ledger: each charge found exactly the sum of the charges before it, and no addition is lost. `Cells::close`
-//! hands this out. Each step's contract says what the pass or the claimer knows after it, as an equation with a
+//! states this. Each step's contract says what the pass or the claimer knows after it, as an equation with a
 //! function of `specs/Steps.antt`.
 //!
 //! **Limits.** 1,048,576 cells, 1,024 passes, 32 pins of a pass at a time, claims below 2 ^ 40, hits of one charge
@@ -23,11 +23,11 @@ mod gate;
 mod naming;
 mod opened;
 mod pass;
-mod places;
 mod plays;
 mod rule;
 mod setup;
 mod view;
+mod word_index;
 
 pub use answers::{Pin, Reclaim, Spot};
 pub use cells::Cells;
@@ -37,7 +37,7 @@ pub use naming::CellNaming;
 pub use opened::OpenedCells;
 pub use pass::CellPass;
 pub use setup::Setup;
-pub use view::{Cell, Charge, OtherGate, Tick, View};
+pub use view::{Cell, CellView, Charge, OtherGate, Tick};
 
 #[cfg(test)]
 mod tests;

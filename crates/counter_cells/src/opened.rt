@@ -1,14 +1,14 @@
 ghost use Rattle.std.specs.Prelude.{◌≡◌, ℕ, ◌+◌, ◌-◌, ◌*◌, ◌≤◌, ◌<◌, ◌++◌, [], IfOk, vec_len, vec_capacity};
-ghost use Rattle.counter_cells.specs.Places.{words_of, first_words};
+ghost use Rattle.counter_cells.specs.WordIndex.{words_of, first_words};
 ghost use Rattle.counter_cells.specs.Steps.{first_claimer, claimer_left, fresh_pass, new_passes};
 
 use crate::cells::Cells;
 use crate::claimer::CellClaimer;
 use crate::naming::CellNaming;
 use crate::pass::CellPass;
-use crate::places;
-use crate::rule::{CellTable, Chair, Passes};
+use crate::rule::{CellSeat, CellTable, Passes};
 use crate::setup::Setup;
+use crate::word_index;
 use atomic_table::Table;
 use rate_types::{OutOfMemory, Seconds};
 use std::alloc::Global;
@@ -17,7 +17,7 @@ use std::alloc::Global;
 #[derive(Drop)]
 pub struct OpenedCells {
     table: CellTable,
-    claimer: Chair,
+    claimer: CellSeat,
     cells: u32,
     passes: u32,
     start: Seconds,
@@ -35,14 +35,14 @@ fn words(alloc: Global, cells: u32, start: Seconds) -> Result<Vec<u64>, OutOfMem
 {
     let mut words = Vec::new(alloc);
     words.push(start.get())?;
-    words.resize(places::words(cells), 0)?;
+    words.resize(word_index::words(cells), 0)?;
     Ok(words)
 }
 
 // The pass with the next number down.
 fn split<N: CellNaming>(
     table: &CellTable,
-    claimer: &mut Chair,
+    claimer: &mut CellSeat,
     left: u32,
     start: Seconds,
 ) -> CellPass<N>
@@ -61,7 +61,7 @@ fn split<N: CellNaming>(
 fn split_all<N: CellNaming>(
     alloc: Global,
     table: &CellTable,
-    claimer: &mut Chair,
+    claimer: &mut CellSeat,
     passes: u32,
     start: Seconds,
 ) -> Result<Vec<CellPass<N>>, OutOfMemory>
@@ -112,7 +112,7 @@ impl OpenedCells {
     }
 
     /// The cells under a name, with all their passes and the claimer.
-    pub fn named<N: CellNaming>(
+    pub fn with_name<N: CellNaming>(
         self,
         alloc: Global,
     ) -> Result<(Cells<N>, Vec<CellPass<N>>, CellClaimer<N>), OutOfMemory>

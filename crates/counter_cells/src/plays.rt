@@ -1,12 +1,12 @@
 // What each kind of step tells the seat that makes it: how its view changes, by the word that the step found.
-use crate::view::View;
+use crate::view::CellView;
 use atomic_table::Play;
 use std::marker::{Brand, PhantomData};
 
 /// Raises the clock.
 pub(crate) struct Ticks;
 
-impl Play<u8, View> for Ticks {
+impl Play<u8, CellView> for Ticks {
     ghost use Rattle.std.specs.Prelude.{◌≡◌, ◌≤◌, max};
     ghost use Rattle.counter_cells.specs.Steps.{ticked};
 
@@ -27,9 +27,9 @@ impl Asked for Brand {
 /// Takes a pin.
 pub(crate) struct Pins<A>(PhantomData<A>);
 
-impl<A: Asked> Play<u8, View> for Pins<A> {
+impl<A: Asked> Play<u8, CellView> for Pins<A> {
     ghost use Rattle.std.specs.Prelude.{◌≡◌};
-    ghost use Rattle.counter_cells.specs.Places.{gate_cell};
+    ghost use Rattle.counter_cells.specs.WordIndex.{gate_cell};
     ghost use Rattle.counter_cells.specs.Steps.{pinned};
 
     ghost then = { λ s v n w. (w.0 ≡ pinned A.claim (gate_cell s.word) n v.0) × (w.1 ≡ v.1) };
@@ -38,31 +38,31 @@ impl<A: Asked> Play<u8, View> for Pins<A> {
 /// Gives a good pin back.
 pub(crate) struct Unpins;
 
-impl Play<u8, View> for Unpins {
+impl Play<u8, CellView> for Unpins {
     ghost use Rattle.std.specs.Prelude.{◌≡◌};
-    ghost use Rattle.counter_cells.specs.Places.{gate_cell};
+    ghost use Rattle.counter_cells.specs.WordIndex.{gate_cell};
     ghost use Rattle.counter_cells.specs.Steps.{unpinned};
 
     ghost then = { λ s v n w. (w.0 ≡ unpinned (gate_cell s.word) v.0) × (w.1 ≡ v.1) };
 }
 
 /// Gives a stray pin back.
-pub(crate) struct Unstrays;
+pub(crate) struct UnpinsStray;
 
-impl Play<u8, View> for Unstrays {
+impl Play<u8, CellView> for UnpinsStray {
     ghost use Rattle.std.specs.Prelude.{◌≡◌};
-    ghost use Rattle.counter_cells.specs.Places.{gate_cell};
-    ghost use Rattle.counter_cells.specs.Steps.{unstrayed};
+    ghost use Rattle.counter_cells.specs.WordIndex.{gate_cell};
+    ghost use Rattle.counter_cells.specs.Steps.{stray_unpinned};
 
-    ghost then = { λ s v n w. (w.0 ≡ unstrayed (gate_cell s.word) v.0) × (w.1 ≡ v.1) };
+    ghost then = { λ s v n w. (w.0 ≡ stray_unpinned (gate_cell s.word) v.0) × (w.1 ≡ v.1) };
 }
 
 /// Reads a count under a pin.
 pub(crate) struct Looks;
 
-impl Play<u8, View> for Looks {
+impl Play<u8, CellView> for Looks {
     ghost use Rattle.std.specs.Prelude.{◌≡◌};
-    ghost use Rattle.counter_cells.specs.Places.{count_cell};
+    ghost use Rattle.counter_cells.specs.WordIndex.{count_cell};
     ghost use Rattle.counter_cells.specs.Views.{Capped, claim_on};
     ghost use Rattle.counter_cells.specs.Steps.{looked};
 
@@ -72,9 +72,9 @@ impl Play<u8, View> for Looks {
 /// Adds hits to a count under a pin.
 pub(crate) struct Charges;
 
-impl Play<u8, View> for Charges {
+impl Play<u8, CellView> for Charges {
     ghost use Rattle.std.specs.Prelude.{◌≡◌};
-    ghost use Rattle.counter_cells.specs.Places.{count_cell};
+    ghost use Rattle.counter_cells.specs.WordIndex.{count_cell};
     ghost use Rattle.counter_cells.specs.Views.{Capped, claim_on};
     ghost use Rattle.counter_cells.specs.Steps.{charged};
 
@@ -84,9 +84,9 @@ impl Play<u8, View> for Charges {
 /// The claimer reads a gate, which shows the claim and the open bit that it knows.
 pub(crate) struct Peeks;
 
-impl Play<u8, View> for Peeks {
+impl Play<u8, CellView> for Peeks {
     ghost use Rattle.std.specs.Prelude.{◌≡◌};
-    ghost use Rattle.counter_cells.specs.Places.{gate_cell};
+    ghost use Rattle.counter_cells.specs.WordIndex.{gate_cell};
     ghost use Rattle.counter_cells.specs.Claiming.{Peeked};
 
     ghost then = { λ s v n w. Peeked (gate_cell s.word) v.0 n w.0 × (w.1 ≡ v.1) };
@@ -95,10 +95,10 @@ impl Play<u8, View> for Peeks {
 /// The claimer takes a gate that shows no pin.
 pub(crate) struct Reclaims;
 
-impl Play<u8, View> for Reclaims {
+impl Play<u8, CellView> for Reclaims {
     ghost use Rattle.std.specs.Prelude.{◌≡◌};
     ghost use Rattle.counter_cells.specs.Gates.{claim_shown};
-    ghost use Rattle.counter_cells.specs.Places.{gate_cell};
+    ghost use Rattle.counter_cells.specs.WordIndex.{gate_cell};
     ghost use Rattle.counter_cells.specs.Claiming.{Reclaimed};
 
     ghost then = { λ s v n w. Reclaimed (gate_cell s.word) s.first (claim_shown s.second) v.0 n w.0 × (w.1 ≡ v.1) };
@@ -107,9 +107,9 @@ impl Play<u8, View> for Reclaims {
 /// The claimer sets the count of a cell that it has taken to 0.
 pub(crate) struct Resets;
 
-impl Play<u8, View> for Resets {
+impl Play<u8, CellView> for Resets {
     ghost use Rattle.std.specs.Prelude.{◌≡◌};
-    ghost use Rattle.counter_cells.specs.Places.{count_cell};
+    ghost use Rattle.counter_cells.specs.WordIndex.{count_cell};
     ghost use Rattle.counter_cells.specs.Steps.{reset_by};
 
     ghost then = { λ s v n w. (w.0 ≡ reset_by (count_cell s.word) v.0) × (w.1 ≡ v.1) };
@@ -118,9 +118,9 @@ impl Play<u8, View> for Resets {
 /// The claimer opens a gate.
 pub(crate) struct Opens;
 
-impl Play<u8, View> for Opens {
+impl Play<u8, CellView> for Opens {
     ghost use Rattle.std.specs.Prelude.{◌≡◌};
-    ghost use Rattle.counter_cells.specs.Places.{gate_cell};
+    ghost use Rattle.counter_cells.specs.WordIndex.{gate_cell};
     ghost use Rattle.counter_cells.specs.Steps.{opened_by};
 
     ghost then = { λ s v n w. (w.0 ≡ opened_by (gate_cell s.word) v.0) × (w.1 ≡ v.1) };

@@ -1,19 +1,19 @@
-// The rule of the table of cells, and how its first seat is cut into the claimer's and those of the passes.
+// The rule of the table of cells, and how its first seat is split into the claimer's and those of the passes.
 use crate::setup::Setup;
-use crate::view::View;
+use crate::view::CellView;
 use atomic_table::{Join, Seat, Shared, Split, Table, TableRule};
 use std::alloc::Global;
 
 /// A seat at the cells, with the view of a pass or of the claimer.
-pub(crate) type Chair = Seat<u8, View>;
+pub(crate) type CellSeat = Seat<u8, CellView>;
 
 /// The words, and what is proved of them.
-pub(crate) type CellTable = Table<u8, View, Setup, Lawful, Global>;
+pub(crate) type CellTable = Table<u8, CellView, Setup, Lawful, Global>;
 
 /// The cells are lawful between any two steps.
 pub struct Lawful;
 
-impl TableRule<u8, View, Setup> for Lawful {
+impl TableRule<u8, CellView, Setup> for Lawful {
     ghost use Rattle.counter_cells.specs.Lawful.{AreLawful};
     ghost use Rattle.counter_cells.specs.Steps.{first_claimer};
 
@@ -22,10 +22,10 @@ impl TableRule<u8, View, Setup> for Lawful {
     ghost first = { first_claimer };
 }
 
-/// A pass is split off the claimer, and taken in again.
+/// A pass is split off the claimer, and at closing joined.
 pub(crate) struct Passes;
 
-impl Split<View> for Passes {
+impl Split<CellView> for Passes {
     ghost use Rattle.counter_cells.specs.Steps.{one_less, new_pass};
 
     ghost left = { one_less };
@@ -33,10 +33,10 @@ impl Split<View> for Passes {
     ghost right = { new_pass };
 }
 
-impl Join<View> for Passes {
-    ghost use Rattle.counter_cells.specs.Steps.{joined, nobody};
+impl Join<CellView> for Passes {
+    ghost use Rattle.counter_cells.specs.Steps.{joined, empty_view};
 
     ghost both = { joined };
 
-    ghost spent = { nobody };
+    ghost spent = { empty_view };
 }

@@ -28,7 +28,7 @@ fn hold_and_take<N: CellNaming, R: Abort>(
     requires name { (table_of opened ≡ N.table) × (setup_of opened ≡ N.setup) }
     requires one { N.setup.cells ≡ 1 }
 {
-    let (cells, mut passes, mut claimer) = opened.named::<N>(alloc).ok().ok_or("memory")?;
+    let (cells, mut passes, mut claimer) = opened.with_name::<N>(alloc).ok().ok_or("memory")?;
     let mut pass = passes.pop().ok_or("one pass")?;
     assert_eq!(rt; pass.pins(), 0);
     let old = Spot { cell: 0, claim: 0 };
@@ -122,7 +122,7 @@ fn charge_in_threads<N: CellNaming + Send + Sync, R: Threads + Abort + Sync>(
     requires name { (table_of opened ≡ N.table) × (setup_of opened ≡ N.setup) }
     requires one { N.setup.cells ≡ 1 }
 {
-    let (cells, passes, mut claimer) = opened.named::<N>(alloc).ok().ok_or("memory")?;
+    let (cells, passes, mut claimer) = opened.with_name::<N>(alloc).ok().ok_or("memory")?;
     let Reclaim::Claimed = cells.reclaim(&mut claimer, 0, 0) else {
         return Err("no pin yet".into());
     };
@@ -205,8 +205,8 @@ fn charge_while_claims_change<N: CellNaming>(
 // One try to take the cell under the next claim, and to open it.
 fn take_once<N: CellNaming>(cells: &Cells<N>, claimer: &mut CellClaimer<N>, next: u64) -> u64
     requires one { N.setup.cells ≡ 1 }
-    requires next { (next < 100000) × ((c : ℕ) → next ≤ c → times c claimer.old.drawn ≡ 0) }
-    ensures next { (result ≤ next + 1) × ((c : ℕ) → result ≤ c → times c claimer.new.drawn ≡ 0) }
+    requires next { (next < 100000) × ((c : ℕ) → next ≤ c → times c claimer.old.used_claims ≡ 0) }
+    ensures next { (result ≤ next + 1) × ((c : ℕ) → result ≤ c → times c claimer.new.used_claims ≡ 0) }
 {
     match cells.reclaim(claimer, 0, next) {
         Reclaim::Held { pins: _ } => next,
@@ -223,7 +223,7 @@ fn take_in_turns<N: CellNaming>(
     mut claimer: CellClaimer<N>,
 ) -> (CellClaimer<N>, u64)
     requires one { N.setup.cells ≡ 1 }
-    requires none { claimer.drawn ≡ [] }
+    requires none { claimer.used_claims ≡ [] }
 {
     let mut next = 0;
     for round in 0..5_000u32 {
@@ -268,7 +268,7 @@ fn pin_beside_reclaims<N: CellNaming + Send + Sync, R: Threads + Abort + Sync>(
     requires name { (table_of opened ≡ N.table) × (setup_of opened ≡ N.setup) }
     requires one { N.setup.cells ≡ 1 }
 {
-    let (cells, passes, claimer) = opened.named::<N>(alloc).ok().ok_or("memory")?;
+    let (cells, passes, claimer) = opened.with_name::<N>(alloc).ok().ok_or("memory")?;
     let ((claimer, next), done) = join(
         rt,
         || -> (CellClaimer<N>, u64) { take_in_turns(&cells, claimer) },

@@ -44,8 +44,8 @@ pub struct Cell {
 }
 
 /// What a pass or the claimer knows.
-pub struct View {
-    /// The pass's number. At closing the claimer has those of the passes that it took in.
+pub struct CellView {
+    /// The pass's number. At closing the claimer has those of the joined passes.
     pub numbers: LinkedList<u64>,
     /// The ticks, in order.
     pub ticks: LinkedList<Tick>,
@@ -71,8 +71,8 @@ pub struct View {
     pub unmade: u64,
     /// Of the claimer: what it knows of each cell.
     pub cells: LinkedList<Cell>,
-    /// Of the claimer: the claims drawn, newest first.
-    pub drawn: LinkedList<u64>,
+    /// Of the claimer: the claims under which it took cells, newest first.
+    pub used_claims: LinkedList<u64>,
     /// Of the claimer: the cells that it found pinned, each with the number of pins, in order.
     pub held: LinkedList<(u64, u64)>,
 }

@@ -5,5 +5,5 @@ use Rattle.counter_cells.proofs.tests.take_in_turns.Given as goal
 abbrev pub invariant-loop-round : goal.invariant-loop-round
 invariant-loop-round g l = record {
   next : l.next ≤ l.round;
-  undrawn : (c : ℕ) → l.next ≤ c → times c l.claimer.drawn ≡ 0;
+  never_used : (c : ℕ) → l.next ≤ c → times c l.claimer.used_claims ≡ 0;
 }

@@ -3,7 +3,7 @@ use mathlib.Core.Option.{some}
 use lib.ListN.{get_elem?}
 use Rattle.std.specs.Prelude.{vec_len, vec_capacity}
 use Rattle.std.specs.Mem.Slots.{slots_items}
-use Rattle.counter_cells.specs.Places.{count_at}
+use Rattle.counter_cells.specs.WordIndex.{count_at}
 use Rattle.counter_cells.proofs.cells.Cells.close.Given as goal
 
 abbrev pub invariant-loop-cell : goal.invariant-loop-cell

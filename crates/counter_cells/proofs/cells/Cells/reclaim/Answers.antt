@@ -1,5 +1,5 @@
 use Rattle.std.proofs.Common.{arith, sym, ap, ◌∙◌}
-use Rattle.counter_cells.specs.declared.view.View.{View}
+use Rattle.counter_cells.specs.declared.view.CellView.{CellView}
 use Rattle.counter_cells.specs.Sums.{times}
 use Rattle.counter_cells.proofs.Passes.{bare_is}
 use Rattle.counter_cells.proofs.Tables.{peek_asks, reclaim_asks}
@@ -9,8 +9,8 @@ pub load-word-requires : goal.load-word-requires
 load-word-requires g c =
     let cells = c.args.self.now in (
       c.claimer.invariant.0.0 ∙ sym cells.named.0,
-      omega (arith, c.gate-place.ensures, cells.words.0, cells.size.0, c.requires.cell),
-      peek_asks cells.table.shared.key _ cells.named.1 _ _ c.args.cell c.gate-place.result _ c.requires.cell c.gate-place.ensures c.claimer.invariant.1.role,
+      omega (arith, c.gate-index.ensures, cells.words.0, cells.size.0, c.requires.cell),
+      peek_asks cells.table.shared.key _ cells.named.1 _ _ c.args.cell c.gate-index.result _ c.requires.cell c.gate-index.ensures c.claimer.invariant.1.role,
     )
 
 pub compare_exchange-found-requires : goal.compare_exchange-found-requires
@@ -18,10 +18,10 @@ compare_exchange-found-requires g c =
     let cells = c.args.self.now in
     let peeked = c.load-word.ensures.2.0 in (
       c.load-word.ensures.0 ∙ c.claimer.invariant.0.0 ∙ sym cells.named.0,
-      omega (arith, c.gate-place.ensures, cells.words.0, cells.size.0, c.requires.cell),
-      reclaim_asks cells.table.shared.key _ cells.named.1 _ _ c.args.cell c.gate-place.result _ c.requires.cell c.gate-place.ensures c.without_pins-bare.result c.closed.result c.args.next
-          (ap (λ (v : View). v.claimer) peeked.0 ∙ c.claimer.invariant.1.role)
-          (bare_is c.args.cell c.gate-place.result c.load-word.result c.without_pins-bare.result c.claimer.inside.seat.me.0 c.load-word.new.seat.me.0 c.gate-place.ensures peeked.0 peeked.1 peeked.2 c.without_pins-bare.ensures)
+      omega (arith, c.gate-index.ensures, cells.words.0, cells.size.0, c.requires.cell),
+      reclaim_asks cells.table.shared.key _ cells.named.1 _ _ c.args.cell c.gate-index.result _ c.requires.cell c.gate-index.ensures c.without_pins-bare.result c.closed.result c.args.next
+          (ap (λ (v : CellView). v.claimer) peeked.0 ∙ c.claimer.invariant.1.role)
+          (bare_is c.args.cell c.gate-index.result c.load-word.result c.without_pins-bare.result c.claimer.inside.seat.me.0 c.load-word.new.seat.me.0 c.gate-index.ensures peeked.0 peeked.1 peeked.2 c.without_pins-bare.ensures)
           c.closed.ensures c.requires.next.0
-          (ap (λ (v : View). times c.args.next v.drawn) (peeked.0 ∙ c.claimer.view_is) ∙ c.requires.next.1),
+          (ap (λ (v : CellView). times c.args.next v.used_claims) (peeked.0 ∙ c.claimer.view_is) ∙ c.requires.next.1),
     )

@@ -1,6 +1,6 @@
-// Where the words stand in the table: first the clock, then of each cell its gate and its count.
+// The index of each word in the table: first the clock, then of each cell its gate and its count.
 ghost use Rattle.std.specs.Prelude.{◌≡◌, ◌≤◌};
-ghost use Rattle.counter_cells.specs.Places.{words_of, gate_at, count_at};
+ghost use Rattle.counter_cells.specs.WordIndex.{words_of, gate_at, count_at};
 
 pub(crate) const CLOCK: usize = 0;
 

@@ -1,11 +1,11 @@
 use Rattle.std.proofs.Common.{◌≡◌, ◌++◌, length}
-use Rattle.counter_cells.specs.Seats.{SitsAt}
+use Rattle.counter_cells.specs.Seats.{IsBareSeatOf}
 use Rattle.counter_cells.specs.Closing.{all_joined}
-use Rattle.counter_cells.proofs.closed.take_in.Given as goal
+use Rattle.counter_cells.proofs.closed.join_passes.Given as goal
 
 abbrev pub invariant-loop-pass : goal.invariant-loop-pass
 invariant-loop-pass g l = record {
-  here : SitsAt g.N.CellNaming.table l.claimer;
+  here : IsBareSeatOf g.N.CellNaming.table l.claimer;
   joined : l.claimer.me.0 ≡ all_joined l.initial.claimer.me.0 l.yielded;
   numbers : length l.claimer.me.0.numbers ≡ length l.yielded;
   all : l.yielded ++ l.pass-iterator.rest.items ≡ l.fn.passes.items;

@@ -1,4 +1,4 @@
--- Where the words stand in the table: first the clock, then of each cell its gate and its count.
+-- The index of each word in the table: first the clock, then of each cell its gate and its count.
 use Rattle.std.specs.Prelude.{ℕ, ◌+◌, ◌-◌, ◌*◌, ◌/◌, List, ◌∷◌, replicate, slice_index}
 
 abbrev pub words_of : ℕ → ℕ
@@ -10,12 +10,12 @@ gate_at cell = 2 * cell + 1
 abbrev pub count_at : ℕ → ℕ
 count_at cell = 2 * cell + 2
 
--- the cell of a gate's place, and of a count's
+-- the cell of a gate's index, and of a count's
 abbrev pub gate_cell : ℕ → ℕ
-gate_cell place = place / 2
+gate_cell index = index / 2
 
 abbrev pub count_cell : ℕ → ℕ
-count_cell place = place / 2 - 1
+count_cell index = index / 2 - 1
 
 -- the words of a table
 abbrev pub clock_of : List ℕ → ℕ

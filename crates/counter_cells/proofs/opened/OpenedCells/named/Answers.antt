@@ -1,7 +1,0 @@
-use Rattle.std.proofs.Common.{◌≡◌, ℕ, ◌<◌, List, [], length, get_or, sym, subst}
-use Rattle.counter_cells.specs.declared.view.View.{View}
-use Rattle.counter_cells.proofs.Passes.{new_bare}
-use Rattle.counter_cells.proofs.opened.OpenedCells.named.Goals as goal
-
-pub returns-clause-bare : goal.returns-clause-bare
-returns-clause-bare g c = subst (λ (l : List View). (k : ℕ) (d : View) → k < length l → (get_or l k d).good ≡ []) (sym c.in_ok-made.ensures.passes) (λ k d h. new_bare c.args.self.passes c.args.self.start k d h)
