@@ -26,12 +26,12 @@ pair_on k c (p ∷ ps) = keep (p.0 == k) (p.1 == c) (pair_on k c ps)
     keep true false r = omega arith
     keep false d r = omega arith
 
-module _ (a : Setup) (t : Register) (gate gate' count count' : ℕ → ℕ) (views : List CellView) (r : Rule a t gate count views) (id k : ℕ) (v : CellView) (at : get_elem? views id ≡ some v) (role : v.claimer ≡ true) (st st' : Cell) (cell : get_elem? t.cells k ≡ some st) (drawn' : List ℕ) (held' : List (ℕ × ℕ)) where
+module _ (a : Setup) (t : Register) (gate gate' count count' : ℕ → ℕ) (views : List CellView) (r : Rule a t gate count views) (id k : ℕ) (v : CellView) (at : get_elem? views id ≡ some v) (role : v.claimer ≡ true) (st st' : Cell) (cell : get_elem? t.cells k ≡ some st) (used' : List ℕ) (held' : List (ℕ × ℕ)) where
   abbrev T' : Register
-  T' = record { cells = set t.cells k st'; used_claims = drawn' }
+  T' = record { cells = set t.cells k st'; used_claims = used' }
 
   abbrev W : CellView
-  W = record v { cells = set v.cells k st'; used_claims = drawn'; held = held' }
+  W = record v { cells = set v.cells k st'; used_claims = used'; held = held' }
 
   within : (l : List Cell) (i : ℕ) (s : Cell) → get_elem? l i ≡ some s → i < length l
   within [] i s e = absurd (some-ne-none s (sym e))
@@ -46,7 +46,7 @@ module _ (a : Setup) (t : Register) (gate gate' count count' : ℕ → ℕ) (vie
 
   pub claim_keeps :
       ((j : ℕ) (x : CellView) → get_elem? views j ≡ some x → good_on k x ≡ 0)
-      → st'.ever ≡ true → RegisterFits T' → ((c : ℕ) → 1 ≤ times c t.used_claims → 1 ≤ times c drawn')
+      → st'.ever ≡ true → RegisterFits T' → ((c : ℕ) → 1 ≤ times c t.used_claims → 1 ≤ times c used')
       → cell_fits a.passes st' (gate' k) (count' k) (set views id W) k
       → ((j : ℕ) → (j ≡ k → ⊥) → gate' j ≡ gate j) → ((j : ℕ) → (j ≡ k → ⊥) → count' j ≡ count j)
       → (st'.is_open ≡ true → (j : ℕ) (x : CellView) → get_elem? views j ≡ some x → Capped st'.claim (count' k) x)
@@ -57,7 +57,7 @@ module _ (a : Setup) (t : Register) (gate gate' count count' : ℕ → ℕ) (vie
         (λ (q : (j ≡ k) × (st' ≡ u)). subst (λ (i : ℕ × Cell). cell_fits a.passes i.1 (gate' i.0) (count' i.0) (set views id W) i.0) (λ i. (sym q.0 i, q.1 i)) fits)
         (λ (q : (j ≢ k) × (get_elem? t.cells j ≡ some u)). other j u q.0 q.1)
         (at_set t.cells k j st' u e);
-    each = each_set (ViewFits T' count') views id W (λ j x n e. view_fits j x e x.cells x.used_claims x.held (λ c. absurd (one_claimer j x n e c))) (view_fits id v at (set v.cells k st') drawn' held' (λ _. (ap (λ l. set l k st') ((r.each id v at).claimer role).0, refl)));
+    each = each_set (ViewFits T' count') views id W (λ j x n e. view_fits j x e x.cells x.used_claims x.held (λ c. absurd (one_claimer j x n e c))) (view_fits id v at (set v.cells k st') used' held' (λ _. (ap (λ l. set l k st') ((r.each id v at).claimer role).0, refl)));
     once = λ c b. let s = total_same (charges_at c b) views id v W at refl in let o = r.once c b in omega arith;
     lawful = each_set (ViewLawful (set views id W)) views id W (λ j x _ e. law j x e) (let m = law id v at in record { charges = m.charges; looks = m.looks });
     claimer = total_same (λ (x : CellView). one_if x.claimer) views id v W at refl ∙ r.claimer;
@@ -85,7 +85,7 @@ module _ (a : Setup) (t : Register) (gate gate' count count' : ℕ → ℕ) (vie
             room = let m = f.room in let s = total_same (small_on j) views id v W at refl in omega arith;
           }
 
-      view_fits : (j : ℕ) (x : CellView) → get_elem? views j ≡ some x → (c1 : List Cell) (d1 : List ℕ) (h1 : List (ℕ × ℕ)) → (x.claimer ≡ true → (c1 ≡ set t.cells k st') × (d1 ≡ drawn')) → ViewFits T' count' (record x { cells = c1; used_claims = d1; held = h1 })
+      view_fits : (j : ℕ) (x : CellView) → get_elem? views j ≡ some x → (c1 : List Cell) (d1 : List ℕ) (h1 : List (ℕ × ℕ)) → (x.claimer ≡ true → (c1 ≡ set t.cells k st') × (d1 ≡ used')) → ViewFits T' count' (record x { cells = c1; used_claims = d1; held = h1 })
       view_fits j x e c1 d1 h1 cl =
           let f = r.each j x e in
           let none = bare j x e in

@@ -29,7 +29,7 @@ opened : (b : Bool) → one_if b ≡ 1 → b ≡ true
 opened true e = refl
 opened false e = absurd (omega arith)
 
-module _ (a : Setup) (t : Register) (gate gate' count : ℕ → ℕ) (views : List CellView) (r : Rule a t gate count views) (id k : ℕ) (v : CellView) (at : get_elem? views id ≡ some v) (st : Cell) (cell : get_elem? t.cells k ≡ some st) (here : gate' k ≡ gate k + 2) (else : (j : ℕ) → (j ≡ k → ⊥) → gate' j ≡ gate j) (hand : (pins_of v < 32) × (1 ≤ length v.numbers)) where
+module _ (a : Setup) (t : Register) (gate gate' count : ℕ → ℕ) (views : List CellView) (r : Rule a t gate count views) (id k : ℕ) (v : CellView) (at : get_elem? views id ≡ some v) (st : Cell) (cell : get_elem? t.cells k ≡ some st) (here : gate' k ≡ gate k + 2) (else : (j : ℕ) → (j ≡ k → ⊥) → gate' j ≡ gate j) (able : (pins_of v < 32) × (1 ≤ length v.numbers)) where
   -- a gate's word after one pin more
   word_more : (w : CellView) → ((j : ℕ) → pins_on j w ≡ pins_on j v + one_if (k == j)) → (j : ℕ) (u : Cell) → get_elem? t.cells j ≡ some u → gate' j ≡ gate_word u.claim (one_if u.is_open) (total (pins_on j) (set views id w))
   word_more w more j u e = pick (ℕ_discrete j k) (r.cells j u e).word (total_set (pins_on j) views id v w at) (more j)

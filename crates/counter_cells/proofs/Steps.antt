@@ -131,7 +131,7 @@ module _ (a : Setup) (slots id k : ℕ) (me : Me ℕ CellView) (within : k < a.c
   gate_cell_is = omega arith
 
   pub pins : (c : ℕ) → (pins_of me.0 < 32) × (1 ≤ length me.0.numbers) → Allows (Holds a) slots id me (gate_at k) (λ n. (n + 2) % 2 ^ 64) (λ n w. (w.0 ≡ pinned c (gate_cell (gate_at k)) n me.0) × (w.1 ≡ me.1))
-  pins c hand s hold homes at small =
+  pins c able s hold homes at small =
       let t = hold.0 in
       let ws = s.words in
       let n = gate_of ws k in
@@ -142,7 +142,7 @@ module _ (a : Setup) (slots id k : ℕ) (me : Me ℕ CellView) (within : k < a.c
       let low = hold.3.truth.small k st.0 st.1 in
       let bit = one_le st.0.is_open in
       let sum : new ≡ n + 2 = omega arith in
-      let rule = pinned_keeps a t (gate_of ws) (gate_of (set ws (gate_at k) new)) (count_of ws) s.views hold.3 id k me.0 at st.0 st.1 (gate_here ws k new (omega (arith, hold.1, hold.2)) ∙ sum) (λ j ne. gate_else ws k new j ne) hand c in
+      let rule = pinned_keeps a t (gate_of ws) (gate_of (set ws (gate_at k) new)) (count_of ws) s.views hold.3 id k me.0 at st.0 st.1 (gate_here ws k new (omega (arith, hold.1, hold.2)) ∙ sum) (λ j ne. gate_else ws k new j ne) able c in
       let clock = clock_same a (slice_index ws 0) s.views hold.4 id me.0 (pinned c k n me.0) at (quiet (shows c n)) in
       let after = on_gate a t ws k new (set s.views id (pinned c k n me.0)) hold.1 hold.2 [] rule clock in
       (pinned c k n me.0, keeps, tt, (t, after.0, after.1, after.2, after.3), (ap (λ (i : ℕ). pinned c i n me.0) gate_cell_is, refl))

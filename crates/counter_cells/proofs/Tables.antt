@@ -31,7 +31,7 @@ module _ (key setup : Setup) (same : key ≡ setup) (slots id k index : ℕ) (me
   gate_within = subst (λ (a : Setup). k < a.cells) (sym same) within
 
   pub pin_asks : (claim : ℕ) → (pins_of me.0 < 32) × (1 ≤ length me.0.numbers) → Allows (AreLawful key) slots id me index (λ n. (n + 2) % 2 ^ 64) (λ n w. (w.0 ≡ pinned claim (gate_cell index) n me.0) × (w.1 ≡ me.1))
-  pin_asks claim hand = indexed key slots id me (λ n. (n + 2) % 2 ^ 64) (λ x n w. (w.0 ≡ pinned claim (gate_cell x) n me.0) × (w.1 ≡ me.1)) (gate_at k) index is (steps.pins key slots id k me gate_within claim hand)
+  pin_asks claim able = indexed key slots id me (λ n. (n + 2) % 2 ^ 64) (λ x n w. (w.0 ≡ pinned claim (gate_cell x) n me.0) × (w.1 ≡ me.1)) (gate_at k) index is (steps.pins key slots id k me gate_within claim able)
 
   pub unpin_asks : 1 ≤ good_on k me.0 → Allows (AreLawful key) slots id me index (λ n. (n + (2 ^ 64 - 2)) % 2 ^ 64) (λ n w. (w.0 ≡ unpinned (gate_cell index) me.0) × (w.1 ≡ me.1))
   unpin_asks pin = indexed key slots id me (λ n. (n + (2 ^ 64 - 2)) % 2 ^ 64) (λ x n w. (w.0 ≡ unpinned (gate_cell x) me.0) × (w.1 ≡ me.1)) (gate_at k) index is (steps.unpins key slots id k me gate_within pin)

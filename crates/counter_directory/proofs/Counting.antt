@@ -11,7 +11,7 @@ use Rattle.counter_directory.specs.declared.claim.Claim.{Claim}
 use Rattle.counter_directory.specs.declared.ring.Ring.{Ring}
 use Rattle.counter_directory.specs.Claims.{last_end}
 use Rattle.counter_cells.specs.declared.answers.Spot.{Spot}
-use Rattle.counter_directory.specs.Filed.{Filed, ring_times, taken_on, live_below}
+use Rattle.counter_directory.specs.Pool.{IsLawfulPool, ring_times, reserved_on, live_below}
 use Rattle.counter_directory.specs.Windows.{ExpiredBelow}
 use Rattle.counter_directory.proofs.Lists.{at_within}
 use Rattle.counter_directory.proofs.Moves.{one_most}
@@ -84,37 +84,37 @@ module _ {A : Type 0} where
       pick zero is rest = let r = rest is in (suc r.0, r.1, r.2, r.3)
       pick (suc n) is rest = (zero, x, refl, omega arith)
 
-module _ (cells last fresh drawn : ℕ) (claims : List Claim) (rings : List Ring) (over held : List ℕ) (taken : List Spot) (f : Filed cells last fresh drawn claims rings over held taken) where
+module _ (cells last fresh next_claim : ℕ) (claims : List Claim) (rings : List Ring) (expired held : List ℕ) (reserved : List Spot) (f : IsLawfulPool cells last fresh next_claim claims rings expired held reserved) where
   outside : (k : ℕ) → fresh ≤ k → one_if (ltb k fresh) ≡ 0
   outside k h = ap one_if (le-ltb k fresh h)
 
-  -- the cells that were ever taken are those in the places
-  pub counted : ring_lens rings + length over + length held + length taken ≡ fresh
+  -- the cells that were ever taken are those in the lists
+  pub counted : ring_lens rings + length expired + length held + length reserved ≡ fresh
   counted =
-      let none = λ (k : ℕ) (l : fresh ≤ k). let o = f.once k in let z = outside k l in let q : ring_times k rings + times k over + times k held + taken_on k taken ≡ 0 = omega arith in q in
+      let none = λ (k : ℕ) (l : fresh ≤ k). let o = f.once k in let z = outside k l in let q : ring_times k rings + times k expired + times k held + reserved_on k reserved ≡ 0 = omega arith in q in
       let a = sum_rings fresh rings (λ k l. let q = none k l in omega arith) in
-      let b = sum_times fresh (λ x. x) over (λ k l. let q = none k l in omega arith) in
+      let b = sum_times fresh (λ x. x) expired (λ k l. let q = none k l in omega arith) in
       let d = sum_times fresh (λ x. x) held (λ k l. let q = none k l in omega arith) in
-      let e = sum_times fresh (λ (p : Spot). p.cell) taken (λ k l. let q = none k l in omega arith) in
+      let e = sum_times fresh (λ (p : Spot). p.cell) reserved (λ k l. let q = none k l in omega arith) in
       let o = sum_ones fresh fresh (omega arith) in
-      let s = sum_same fresh (λ k. ring_times k rings + times k over + times k held + taken_on k taken) (λ k. one_if (ltb k fresh)) (λ k l. f.once k) in
-      let p = sum_plus fresh (λ k. ring_times k rings + times k over + times k held) (λ k. taken_on k taken) in
-      let q = sum_plus fresh (λ k. ring_times k rings + times k over) (λ k. times k held) in
-      let r = sum_plus fresh (λ k. ring_times k rings) (λ k. times k over) in
+      let s = sum_same fresh (λ k. ring_times k rings + times k expired + times k held + reserved_on k reserved) (λ k. one_if (ltb k fresh)) (λ k l. f.once k) in
+      let p = sum_plus fresh (λ k. ring_times k rings + times k expired + times k held) (λ k. reserved_on k reserved) in
+      let q = sum_plus fresh (λ k. ring_times k rings + times k expired) (λ k. times k held) in
+      let r = sum_plus fresh (λ k. ring_times k rings) (λ k. times k expired) in
       omega arith
 
   live_at : length rings ≤ 4 → ExpiredBelow 4 last rings → (k : ℕ) → one_if (ltb last (last_end 0 k claims)) ≡ ring_times k rings
-  live_at four expired k = pick (ring_times k rings) refl
+  live_at four emptied k = pick (ring_times k rings) refl
     where
-      o : ring_times k rings + times k over + times k held + taken_on k taken ≡ one_if (ltb k fresh)
+      o : ring_times k rings + times k expired + times k held + reserved_on k reserved ≡ one_if (ltb k fresh)
       o = f.once k
 
-      gone : ring_times k rings ≡ 0 → Dec (1 ≤ times k over + times k held + taken_on k taken) → last_end 0 k claims ≤ last
+      gone : ring_times k rings ≡ 0 → Dec (1 ≤ times k expired + times k held + reserved_on k reserved) → last_end 0 k claims ≤ last
       gone z (yes h) = f.ended k h
       gone z (no n) = let w : one_if (ltb k fresh) ≡ 0 = omega arith in let l : fresh ≤ k = grind (arith, nat_tests) in let e = f.never k l in omega arith
 
       pick : (n : ℕ) → ring_times k rings ≡ n → one_if (ltb last (last_end 0 k claims)) ≡ n
-      pick zero is = ap one_if (le-ltb last (last_end 0 k claims) (gone is (dec_le 1 (times k over + times k held + taken_on k taken))))
+      pick zero is = ap one_if (le-ltb last (last_end 0 k claims) (gone is (dec_le 1 (times k expired + times k held + reserved_on k reserved))))
       pick (suc n) is =
           let s = total_some (λ (r : Ring). times k r.cells.items) rings (omega arith) in
           let e = f.ringed s.0 s.1 s.2 k s.3 in
@@ -125,13 +125,13 @@ module _ (cells last fresh drawn : ℕ) (claims : List Claim) (rings : List Ring
           omega arith
         where
           later_end : (u : ℕ) (r : Ring) → get_elem? rings u ≡ some r → 1 ≤ times k r.cells.items → Dec (r.end ≤ last) → last < r.end
-          later_end u r at h (yes le) = let w = at_within rings u r at in let z : times k r.cells.items ≡ 0 = ap (times k) (expired u (omega arith) r at le) in absurd (omega arith)
+          later_end u r at h (yes le) = let w = at_within rings u r at in let z : times k r.cells.items ≡ 0 = ap (times k) (emptied u (omega arith) r at le) in absurd (omega arith)
           later_end u r at h (no n) = omega arith
 
   live_sum : length rings ≤ 4 → ExpiredBelow 4 last rings → (n : ℕ) → live_below n last claims ≡ sum_below n (λ k. ring_times k rings)
-  live_sum four expired zero = refl
-  live_sum four expired (suc n) = let r = live_sum four expired n in let a = live_at four expired n in omega arith
+  live_sum four emptied zero = refl
+  live_sum four emptied (suc n) = let r = live_sum four emptied n in let a = live_at four emptied n in omega arith
 
   -- the cells of open windows are those in the rings
   pub live_is : length rings ≤ 4 → ExpiredBelow 4 last rings → live_below cells last claims ≡ ring_lens rings
-  live_is four expired = live_sum four expired cells ∙ sum_rings cells rings (λ k l. let m = f.most in let o = f.once k in let z = outside k (omega arith) in omega arith)
+  live_is four emptied = live_sum four emptied cells ∙ sum_rings cells rings (λ k l. let m = f.most in let o = f.once k in let z = outside k (omega arith) in omega arith)

@@ -1,4 +1,4 @@
-mod Keys
+mod CounterKeys
 mod Lists
 mod Sums
 mod Moves
@@ -6,7 +6,7 @@ mod Counting
 mod Opening
 mod Indexing
 mod Ringing
-mod Wanting
+mod Missing
 mod Pinning
 mod Acquiring
 mod Starting

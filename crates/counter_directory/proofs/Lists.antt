@@ -57,8 +57,8 @@ module _ {A : Type 0} where
       len : (xs : List A) → length (x ∷ (xs ++ k ∷ [])) - 1 ≡ suc (length (xs ++ k ∷ []) - 1)
       len xs = let e : length (xs ++ k ∷ []) ≡ length xs + 1 = length-append xs (k ∷ []) in omega arith
 
-  pub last_over : (xs front : List A) (k d cell : A) (n : ℕ) → xs ≡ front ++ k ∷ [] → n ≡ length xs → cell ≡ get_or xs (n - 1) d → cell ≡ k
-  last_over xs front k d cell n e l is = is ∙ ap (λ m. get_or xs (m - 1) d) l ∙ ap (λ (ys : List A). get_or ys (length ys - 1) d) e ∙ last_is front k d
+  pub last_expired : (xs front : List A) (k d cell : A) (n : ℕ) → xs ≡ front ++ k ∷ [] → n ≡ length xs → cell ≡ get_or xs (n - 1) d → cell ≡ k
+  last_expired xs front k d cell n e l is = is ∙ ap (λ m. get_or xs (m - 1) d) l ∙ ap (λ (ys : List A). get_or ys (length ys - 1) d) e ∙ last_is front k d
 
   -- what stands at an index reads the same whatever is read beyond the end
   pub at_read : (xs : List A) (i : ℕ) (d : A) → i < length xs → get_elem? xs i ≡ some (get_or xs i d)

@@ -11,15 +11,15 @@ use Rattle.window_keys.specs.Counter.{window_end_of}
 use Rattle.counter_cells.specs.Sums.{one_if}
 use Rattle.counter_cells.specs.Views.{cell_or}
 use Rattle.counter_cells.specs.Steps.{good_pin, missed}
-use Rattle.counter_cells.specs.declared.view.View.{View}
+use Rattle.counter_cells.specs.declared.view.CellView.{CellView}
 use Rattle.counter_cells.specs.declared.view.OtherGate.{OtherGate}
 use Rattle.counter_cells.specs.declared.answers.Spot.{Spot}
 use Rattle.counter_directory.specs.declared.claim.Claim.{Claim}
-use Rattle.counter_directory.specs.Claims.{binds, IsLawfulClaims}
-use Rattle.counter_directory.specs.Gates.{Gates}
-use Rattle.counter_directory.specs.Wants.{AreOf, Bound, AreShown, Agree, pinned_on}
+use Rattle.counter_directory.specs.Claims.{bindings_of, IsLawfulClaims}
+use Rattle.counter_directory.specs.Gates.{GatesFit}
+use Rattle.counter_directory.specs.Keys.{AreOf, Bound, AreShown, Agree, pinned_on}
 use Rattle.counter_directory.specs.Acquired.{PinsAfterMisses}
-use Rattle.counter_directory.proofs.Keys.{same_is}
+use Rattle.counter_directory.proofs.CounterKeys.{same_is}
 use Rattle.counter_directory.proofs.Lists.{at_cut, at_within}
 use Rattle.counter_directory.proofs.Counting.{total_some}
 use Rattle.counter_directory.proofs.Ringing.{end_later}
@@ -34,13 +34,13 @@ same_number : (a b : ℕ) → (a == b) ≡ true → a ≡ b
 same_number a b t = grind (arith, nat_tests)
 
 -- the claim that binds a counter
-found : (q : CounterKey) (k c : ℕ) (claims : List Claim) → 1 ≤ binds q k c claims → (i : ℕ) × (x : Claim) × (get_elem? claims i ≡ some x) × (x.key ≡ q) × (x.cell ≡ k) × (x.claim ≡ c)
+found : (q : CounterKey) (k c : ℕ) (claims : List Claim) → 1 ≤ bindings_of q k c claims → (i : ℕ) × (x : Claim) × (get_elem? claims i ≡ some x) × (x.key ≡ q) × (x.cell ≡ k) × (x.claim ≡ c)
 found q k c claims some_one =
     let s = total_some (λ (x : Claim). one_if (same_counter x.key q && ((x.cell == k) && (x.claim == c)))) claims some_one in
     let e = parts (same_counter s.1.key q) (s.1.cell == k) (s.1.claim == c) s.3 in
     (s.0, s.1, s.2, same_is s.1.key q e.0, same_number s.1.cell k e.1, same_number s.1.claim c e.2)
 
-pub cell_bound : (cells most : ℕ) (q : CounterKey) (k c : ℕ) (claims : List Claim) → IsLawfulClaims cells most claims → 1 ≤ binds q k c claims → k < cells
+pub cell_bound : (cells most : ℕ) (q : CounterKey) (k c : ℕ) (claims : List Claim) → IsLawfulClaims cells most claims → 1 ≤ bindings_of q k c claims → k < cells
 cell_bound cells most q k c claims law some_one =
     let s = found q k c claims some_one in
     let f = law s.0 s.1 s.2 in
@@ -48,54 +48,54 @@ cell_bound cells most q k c claims law some_one =
     let e = s.4 in
     omega arith
 
--- the claimer's view shows the number of a counter whose window isn't over
-pub shown_by : (v : View) (cells last drawn : ℕ) (q : CounterKey) (k c : ℕ) (claims : List Claim) (waiting : List Spot) → Gates v cells last drawn claims waiting → 1 ≤ binds q k c claims → last < window_end_of q → (cell_or v.cells k).claim ≡ c
-shown_by v cells last drawn q k c claims waiting g some_one lt =
+-- the claimer's view shows the number of a counter whose window hasn't ended
+pub shown_by : (v : CellView) (cells last next_claim : ℕ) (q : CounterKey) (k c : ℕ) (claims : List Claim) (waiting : List Spot) → GatesFit v cells last next_claim claims waiting → 1 ≤ bindings_of q k c claims → last < window_end_of q → (cell_or v.cells k).claim ≡ c
+shown_by v cells last next_claim q k c claims waiting g some_one lt =
     let s = found q k c claims some_one in
     let o = g.opened s.0 s.1 s.2 (subst (λ (z : CounterKey). last < window_end_of z) (sym s.3) lt) in
     ap (λ j. (cell_or v.cells j).claim) (sym s.4) ∙ o.2 ∙ s.5
 
-pinned_more : (ss : List Spot) (s : Spot) (v : View) → pinned_on (ss ++ s ∷ []) v ≡ good_pin s.cell s.claim (pinned_on ss v)
+pinned_more : (ss : List Spot) (s : Spot) (v : CellView) → pinned_on (ss ++ s ∷ []) v ≡ good_pin s.cell s.claim (pinned_on ss v)
 pinned_more [] s v = refl
 pinned_more (x ∷ xs) s v = pinned_more xs s (good_pin x.cell x.claim v)
 
 -- misses beside pins
-missed_through : (ss : List Spot) (more : List OtherGate) (v : View) → record (pinned_on ss v) { others = (pinned_on ss v).others ++ more } ≡ pinned_on ss (record v { others = v.others ++ more })
+missed_through : (ss : List Spot) (more : List OtherGate) (v : CellView) → record (pinned_on ss v) { others = (pinned_on ss v).others ++ more } ≡ pinned_on ss (record v { others = v.others ++ more })
 missed_through [] more v = refl
 missed_through (s ∷ ss) more v = missed_through ss more (good_pin s.cell s.claim v)
 
-pub no_misses : (v : View) → PinsAfterMisses [] v v
+pub no_misses : (v : CellView) → PinsAfterMisses [] v v
 no_misses v = ([], nil v.others)
   where
     nil : (l : List OtherGate) → v ≡ record v { others = v.others ++ [] }
     nil l = let e : v.others ++ [] ≡ v.others = simp append-nil in ap (λ (o : List OtherGate). record v { others = o }) (sym e)
 
 -- one more miss before a pin
-pub miss_more : (v w x : View) (cell claim : ℕ) (is_open : Bool) → PinsAfterMisses [] v w → x ≡ missed cell claim is_open w → PinsAfterMisses [] v x
+pub miss_more : (v w x : CellView) (cell claim : ℕ) (is_open : Bool) → PinsAfterMisses [] v w → x ≡ missed cell claim is_open w → PinsAfterMisses [] v x
 miss_more v w x cell claim is_open p e = let one : List OtherGate = record { cell = cell; claim = claim; is_open = is_open } ∷ [] in
-    (p.0 ++ one, e ∙ ap (λ (u : View). record u { others = u.others ++ one }) p.1 ∙ ap (λ (o : List OtherGate). record v { others = o }) (append_assoc v.others p.0 one))
+    (p.0 ++ one, e ∙ ap (λ (u : CellView). record u { others = u.others ++ one }) p.1 ∙ ap (λ (o : List OtherGate). record v { others = o }) (append_assoc v.others p.0 one))
 
-pub pin_after : (v w x : View) (s : Spot) → PinsAfterMisses [] v w → x ≡ good_pin s.cell s.claim w → PinsAfterMisses (s ∷ []) v x
+pub pin_after : (v w x : CellView) (s : Spot) → PinsAfterMisses [] v w → x ≡ good_pin s.cell s.claim w → PinsAfterMisses (s ∷ []) v x
 pin_after v w x s p e = (p.0, e ∙ ap (good_pin s.cell s.claim) p.1)
 
-pub pins_more : (ss new : List Spot) (s : Spot) (v w x : View) → new ≡ ss ++ s ∷ [] → PinsAfterMisses ss v w → PinsAfterMisses (s ∷ []) w x → PinsAfterMisses new v x
+pub pins_more : (ss new : List Spot) (s : Spot) (v w x : CellView) → new ≡ ss ++ s ∷ [] → PinsAfterMisses ss v w → PinsAfterMisses (s ∷ []) w x → PinsAfterMisses new v x
 pins_more ss new s v w x e p q =
     let a : record w { others = w.others ++ q.0 } ≡ pinned_on ss (record v { others = v.others ++ (p.0 ++ q.0) })
-    = ap (λ (u : View). record u { others = u.others ++ q.0 }) p.1 ∙ missed_through ss q.0 (record v { others = v.others ++ p.0 }) ∙ ap (λ (o : List OtherGate). pinned_on ss (record v { others = o })) (append_assoc v.others p.0 q.0) in
+    = ap (λ (u : CellView). record u { others = u.others ++ q.0 }) p.1 ∙ missed_through ss q.0 (record v { others = v.others ++ p.0 }) ∙ ap (λ (o : List OtherGate). pinned_on ss (record v { others = o })) (append_assoc v.others p.0 q.0) in
     (p.0 ++ q.0, q.1 ∙ ap (good_pin s.cell s.claim) a ∙ sym (pinned_more ss s (record v { others = v.others ++ (p.0 ++ q.0) })) ∙ ap (λ (l : List Spot). pinned_on l (record v { others = v.others ++ (p.0 ++ q.0) })) (sym e))
 
 -- how many pins there are then
-good_count : (ss : List Spot) (v : View) → length (pinned_on ss v).good ≡ length ss + length v.good
+good_count : (ss : List Spot) (v : CellView) → length (pinned_on ss v).good ≡ length ss + length v.good
 good_count [] v = omega arith
 good_count (s ∷ ss) v = let r = good_count ss (good_pin s.cell s.claim v) in omega arith
 
-pub pins_good : (ss : List Spot) (v w : View) → PinsAfterMisses ss v w → length w.good ≡ length ss + length v.good
-pins_good ss v w p = ap (λ (u : View). length u.good) p.1 ∙ good_count ss (record v { others = v.others ++ p.0 })
+pub pins_good : (ss : List Spot) (v w : CellView) → PinsAfterMisses ss v w → length w.good ≡ length ss + length v.good
+pins_good ss v w p = ap (λ (u : CellView). length u.good) p.1 ∙ good_count ss (record v { others = v.others ++ p.0 })
 
-pub pins_moment : (ss : List Spot) (v w : View) → PinsAfterMisses ss v w → w.moment ≡ v.moment
-pins_moment ss v w p = ap (λ (u : View). u.moment) p.1 ∙ same ss (record v { others = v.others ++ p.0 })
+pub pins_moment : (ss : List Spot) (v w : CellView) → PinsAfterMisses ss v w → w.moment ≡ v.moment
+pins_moment ss v w p = ap (λ (u : CellView). u.moment) p.1 ∙ same ss (record v { others = v.others ++ p.0 })
   where
-    same : (ss : List Spot) (v : View) → (pinned_on ss v).moment ≡ v.moment
+    same : (ss : List Spot) (v : CellView) → (pinned_on ss v).moment ≡ v.moment
     same [] v = refl
     same (s ∷ ss) v = same ss (good_pin s.cell s.claim v)
 
@@ -115,14 +115,14 @@ each_more P keys spots new i d s lt len e here all j k t at there =
     pick n (inr x) (inl y) = let a = x.0 in let b = y.0 in absurd (omega arith)
     pick n (inr x) (inr y) = subst (λ (u : CounterKey). P u t) x.1 (subst (λ (r : Spot). P (get_or keys i d) r) y.1 here)
 
-pub bound_more : (claims : List Claim) (keys : List CounterKey) (spots new : List Spot) (i : ℕ) (d : CounterKey) (s : Spot) → i < length keys → length spots ≡ i → new ≡ spots ++ s ∷ [] → 1 ≤ binds (get_or keys i d) s.cell s.claim claims → Bound claims (take i keys) spots → Bound claims (take (i + 1) keys) new
-bound_more claims keys spots new i d s = each_more (λ k t. 1 ≤ binds k t.cell t.claim claims) keys spots new i d s
+pub bound_more : (claims : List Claim) (keys : List CounterKey) (spots new : List Spot) (i : ℕ) (d : CounterKey) (s : Spot) → i < length keys → length spots ≡ i → new ≡ spots ++ s ∷ [] → 1 ≤ bindings_of (get_or keys i d) s.cell s.claim claims → Bound claims (take i keys) spots → Bound claims (take (i + 1) keys) new
+bound_more claims keys spots new i d s = each_more (λ k t. 1 ≤ bindings_of k t.cell t.claim claims) keys spots new i d s
 
-pub shown_more : (v : View) (last : ℕ) (keys : List CounterKey) (spots new : List Spot) (i : ℕ) (d : CounterKey) (s : Spot) → i < length keys → length spots ≡ i → new ≡ spots ++ s ∷ [] → (last < window_end_of (get_or keys i d) → (cell_or v.cells s.cell).claim ≡ s.claim) → AreShown v last (take i keys) spots → AreShown v last (take (i + 1) keys) new
+pub shown_more : (v : CellView) (last : ℕ) (keys : List CounterKey) (spots new : List Spot) (i : ℕ) (d : CounterKey) (s : Spot) → i < length keys → length spots ≡ i → new ≡ spots ++ s ∷ [] → (last < window_end_of (get_or keys i d) → (cell_or v.cells s.cell).claim ≡ s.claim) → AreShown v last (take i keys) spots → AreShown v last (take (i + 1) keys) new
 shown_more v last keys spots new i d s = each_more (λ k t. last < window_end_of k → (cell_or v.cells t.cell).claim ≡ t.claim) keys spots new i d s
 
 -- spots of one cell have one number
-pub agrees : (v : View) (last : ℕ) (keys : List CounterKey) (spots : List Spot) → length spots ≡ length keys → AreOf last keys → AreShown v last keys spots → Agree spots
+pub agrees : (v : CellView) (last : ℕ) (keys : List CounterKey) (spots : List Spot) → length spots ≡ length keys → AreOf last keys → AreShown v last keys spots → Agree spots
 agrees v last keys spots len all shown i j s t at there same =
     sym (one i s at) ∙ ap (λ k. (cell_or v.cells k).claim) same ∙ one j t there
   where

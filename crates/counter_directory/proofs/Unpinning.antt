@@ -5,9 +5,9 @@ use native.Mathlib.Decide.{ℕ_discrete}
 use Rattle.counter_cells.specs.Sums.{total, one_if}
 use Rattle.counter_cells.specs.Views.{good_on}
 use Rattle.counter_cells.specs.Steps.{drop_pin, unpinned}
-use Rattle.counter_cells.specs.declared.view.View.{View}
+use Rattle.counter_cells.specs.declared.view.CellView.{CellView}
 use Rattle.counter_cells.specs.declared.answers.Spot.{Spot}
-use Rattle.counter_directory.specs.Wants.{spots_on}
+use Rattle.counter_directory.specs.Keys.{spots_on}
 
 -- a pin given back is one less on its cell
 pins_less : (k j : ℕ) (ps : List (ℕ × ℕ)) → 1 ≤ total (λ p. one_if (p.0 == k)) ps → total (λ p. one_if (p.0 == j)) (drop_pin k ps) + one_if (k == j) ≡ total (λ p. one_if (p.0 == j)) ps
@@ -26,7 +26,7 @@ drop_one : (k : ℕ) (spots : List Spot) (i : ℕ) (d : Spot) → i < length spo
 drop_one k spots i d lt = ap (spots_on k) (drop-cons spots i d lt ∙ ap (λ n. get_or spots i d ∷ drop n spots) (let e : suc i ≡ i + 1 = omega arith in e))
 
 -- the next spot's cell is pinned
-pub next_pinned : (i : ℕ) (d : Spot) (spots : List Spot) (v : View) → i < length spots → ((k : ℕ) → good_on k v ≡ spots_on k (drop i spots)) → 1 ≤ good_on (get_or spots i d).cell v
+pub next_pinned : (i : ℕ) (d : Spot) (spots : List Spot) (v : CellView) → i < length spots → ((k : ℕ) → good_on k v ≡ spots_on k (drop i spots)) → 1 ≤ good_on (get_or spots i d).cell v
 next_pinned i d spots v lt left =
     let c = (get_or spots i d).cell in
     let h = left c in
@@ -34,7 +34,7 @@ next_pinned i d spots v lt left =
     let one : one_if (c == c) ≡ 1 = ap one_if (eq-eqb c c refl) in
     omega arith
 
-pub left_less : (i : ℕ) (d : Spot) (spots : List Spot) (v w : View) → i < length spots → w ≡ unpinned (get_or spots i d).cell v → ((k : ℕ) → good_on k v ≡ spots_on k (drop i spots)) → (k : ℕ) → good_on k w ≡ spots_on k (drop (i + 1) spots)
+pub left_less : (i : ℕ) (d : Spot) (spots : List Spot) (v w : CellView) → i < length spots → w ≡ unpinned (get_or spots i d).cell v → ((k : ℕ) → good_on k v ≡ spots_on k (drop i spots)) → (k : ℕ) → good_on k w ≡ spots_on k (drop (i + 1) spots)
 left_less i d spots v w lt e left k =
     let c = (get_or spots i d).cell in
     let a = left k in

@@ -7,7 +7,7 @@ use Rattle.rate_types.specs.declared.counter_key.CounterKey.{CounterKey}
 use Rattle.rate_types.specs.declared.counter_name.CounterName.{CounterName}
 use Rattle.counter_cells.specs.Sums.{times}
 use Rattle.counter_cells.specs.Steps.{number_of, last_moment}
-use Rattle.counter_cells.specs.declared.view.View.{View}
+use Rattle.counter_cells.specs.declared.view.CellView.{CellView}
 use Rattle.counter_cells.specs.declared.view.Tick.{Tick}
 use Rattle.counter_cells.specs.declared.view.OtherGate.{OtherGate}
 use Rattle.counter_cells.specs.declared.answers.Spot.{Spot}
@@ -16,38 +16,38 @@ use Rattle.counter_directory.specs.declared.acquired.Acquired.{Acquired}
 use Rattle.counter_directory.specs.declared.acquired.AcquireFault.{AcquireFault}
 use Rattle.counter_directory.specs.declared.acquired.AcquireFault.TheVariants.{OutOfMemory, ClaimsSpent, CountersFull}
 use Rattle.counter_directory.specs.Claims.{last_end}
-use Rattle.counter_directory.specs.Filed.{live_below}
+use Rattle.counter_directory.specs.Pool.{live_below}
 use Rattle.counter_directory.specs.Gates.{HeldSince}
-use Rattle.counter_directory.specs.Wants.{keys_at, IsMissing, AddsEach, Bound, pinned_on, Agree}
+use Rattle.counter_directory.specs.Keys.{keys_at, IsMissing, AddsEach, Bound, pinned_on, Agree}
 
 -- a tick of the pass that offered nothing
-abbrev pub OffersNothing : View → Tick → Type 0
+abbrev pub OffersNothing : CellView → Tick → Type 0
 OffersNothing v x = (x.number ≡ number_of v) × (x.offer ≡ None)
 
 -- the pass has ticked with its own moment, and done nothing else
-pub record HasTicked (v w : View) : Type 0 where
+pub record HasTicked (v w : CellView) : Type 0 where
   pub added : List Tick
   pub ticks : AllByRecursion (OffersNothing v) added
   pub view : w ≡ record v { ticks = v.ticks ++ added; moment = last_moment v.moment added }
   pub later : v.moment ≤ w.moment
 
 -- the pass has one more pin on each spot, in order; some tries before them may have missed
-abbrev pub PinsAfterMisses : List Spot → View → View → Type 0
+abbrev pub PinsAfterMisses : List Spot → CellView → CellView → Type 0
 PinsAfterMisses spots v w = (missed : List OtherGate) × (w ≡ pinned_on spots (record v { others = v.others ++ missed }))
 
 -- so many counters of the names have no claim
 abbrev pub IsWanted : List Claim → List CounterKey → ℕ → Type 0
 IsWanted claims keys wanted = (missing : List CounterKey) × IsMissing claims keys missing × (wanted ≡ length missing)
 
--- so many cells, each once and with its windows over, were found pinned
-abbrev pub AreHeld : List Claim → ℕ → View → View → ℕ → Type 0
+-- so many cells, each once and with its windows ended, were found pinned
+abbrev pub AreHeld : List Claim → ℕ → CellView → CellView → ℕ → Type 0
 AreHeld claims m v w n =
     (held : List ℕ) × (n ≡ length held) × HeldSince v w [] held
     × ((k : ℕ) → (times k held ≤ 1) × (1 ≤ times k held → last_end 0 k claims ≤ m))
 
--- what the lock's holder found and left: the claimer's view and the claims
-pub record Desk : Type 0 where
-  pub claimer : View
+-- the table of claims, as a call finds and leaves it: the claimer's view and the claims
+pub record ClaimTableView : Type 0 where
+  pub claimer : CellView
   pub claims : List Claim
 
 -- the numbers of cells, of claims and of held cells that there are at most
@@ -61,17 +61,17 @@ abbrev pub Grows : ℕ → List Claim → List Claim → Type 0
 Grows moment found left =
     (added : List Claim) × (left ≡ found ++ added) × ((i : ℕ) (x : Claim) → get_elem? added i ≡ some x → x.moment ≡ moment)
 
--- Each counter without a claim got one at the moment. A number is drawn only where all numbers that were drawn are claimed
-pub record HasBound (b : Bounds) (moment : ℕ) (keys : List CounterKey) (found left : Desk) : Type 0 where
+-- Each counter without a claim got one at the moment. A number is used only where all numbers used before are claimed
+pub record HasBound (b : Bounds) (moment : ℕ) (keys : List CounterKey) (found left : ClaimTableView) : Type 0 where
   pub grows : Grows moment found.claims left.claims
   pub missing : List CounterKey
   pub are : IsMissing found.claims keys missing
   pub adds : AddsEach found.claims missing left.claims
   pub room : length found.claims + length missing ≤ b.claims
-  pub drawn : length left.claimer.drawn ≡ max (length found.claimer.drawn) (length left.claims)
+  pub used : length left.claimer.used_claims ≡ max (length found.claimer.used_claims) (length left.claims)
 
 -- more claims are wanted than there can be
-pub record AreSpent (b : Bounds) (keys : List CounterKey) (found left : Desk) (claims wanted : ℕ) : Type 0 where
+pub record AreSpent (b : Bounds) (keys : List CounterKey) (found left : ClaimTableView) (claims wanted : ℕ) : Type 0 where
   pub same : left ≡ found
   pub claims_is : claims ≡ length found.claims
   pub wanted_is : IsWanted found.claims keys wanted
@@ -79,7 +79,7 @@ pub record AreSpent (b : Bounds) (keys : List CounterKey) (found left : Desk) (c
 
 -- The live, the held and the wanted cells are more than there are. Cells may have been taken, under new numbers, but
 -- fewer than are wanted
-pub record AreFull (b : Bounds) (keys : List CounterKey) (found left : Desk) (moment live held wanted : ℕ) : Type 0 where
+pub record AreFull (b : Bounds) (keys : List CounterKey) (found left : ClaimTableView) (moment live held wanted : ℕ) : Type 0 where
   pub same : left.claims ≡ found.claims
   pub wanted_is : IsWanted found.claims keys wanted
   pub unspent : length found.claims + wanted ≤ b.claims
@@ -87,29 +87,29 @@ pub record AreFull (b : Bounds) (keys : List CounterKey) (found left : Desk) (mo
   pub held_is : AreHeld found.claims moment found.claimer left.claimer held
   pub few : held ≤ b.held
   pub full : b.cells < live + held + wanted
-  pub drawn : length left.claimer.drawn < length found.claims + wanted
+  pub used : length left.claimer.used_claims < length found.claims + wanted
 
 -- the counters were bound at the moment, or why not
-abbrev pub Binds : Bounds → ℕ → List CounterKey → Desk → Result (Unit {0}) AcquireFault → Desk → Type 0
+abbrev pub Binds : Bounds → ℕ → List CounterKey → ClaimTableView → Result (Unit {0}) AcquireFault → ClaimTableView → Type 0
 Binds b m keys found (Ok _) left = HasBound b m keys found left
 Binds b m keys found (Err OutOfMemory) left = left ≡ found
 Binds b m keys found (Err (ClaimsSpent claims wanted)) left = AreSpent b keys found left claims wanted
 Binds b m keys found (Err (CountersFull moment live held wanted)) left = (moment ≡ m) × AreFull b keys found left moment live held wanted
 
--- the hand has one pin for each name, in order, under the claim of the name's counter at the answer's moment
-pub record HasPinned (names : List CounterName) (hand hand' : View) (a : Acquired) (left : Desk) : Type 0 where
-  pub ticked : View
-  pub ticks : HasTicked hand ticked
-  pub pins : PinsAfterMisses a.spots.items ticked hand'
-  pub moment : a.moment ≡ hand'.moment
+-- the cell pass has one pin for each name, in order, under the claim of the name's counter at the answer's moment
+pub record HasPinned (names : List CounterName) (cell_pass cell_pass' : CellView) (a : Acquired) (left : ClaimTableView) : Type 0 where
+  pub ticked : CellView
+  pub ticks : HasTicked cell_pass ticked
+  pub pins : PinsAfterMisses a.spots.items ticked cell_pass'
+  pub moment : a.moment ≡ cell_pass'.moment
   pub count : length a.spots.items ≡ length names
   pub bound : Bound left.claims (keys_at a.moment names) a.spots.items
   pub agree : Agree a.spots.items
 
--- of the bounds, the names, the hand and what was found: what a call left
-abbrev pub Acquires : Bounds → List CounterName → View → Desk → Result Acquired AcquireFault → View → Desk → Type 0
-Acquires b names hand found (Ok a) hand' left = HasPinned names hand hand' a left × HasBound b a.moment (keys_at a.moment names) found left
-Acquires b names hand found (Err OutOfMemory) hand' left = HasTicked hand hand' × (left ≡ found)
-Acquires b names hand found (Err (ClaimsSpent claims wanted)) hand' left = HasTicked hand hand' × AreSpent b (keys_at hand'.moment names) found left claims wanted
-Acquires b names hand found (Err (CountersFull moment live held wanted)) hand' left =
-    HasTicked hand hand' × (moment ≡ hand'.moment) × AreFull b (keys_at moment names) found left moment live held wanted
+-- of the bounds, the names, the cell pass and the table found: what a call left
+abbrev pub Acquires : Bounds → List CounterName → CellView → ClaimTableView → Result Acquired AcquireFault → CellView → ClaimTableView → Type 0
+Acquires b names cell_pass found (Ok a) cell_pass' left = HasPinned names cell_pass cell_pass' a left × HasBound b a.moment (keys_at a.moment names) found left
+Acquires b names cell_pass found (Err OutOfMemory) cell_pass' left = HasTicked cell_pass cell_pass' × (left ≡ found)
+Acquires b names cell_pass found (Err (ClaimsSpent claims wanted)) cell_pass' left = HasTicked cell_pass cell_pass' × AreSpent b (keys_at cell_pass'.moment names) found left claims wanted
+Acquires b names cell_pass found (Err (CountersFull moment live held wanted)) cell_pass' left =
+    HasTicked cell_pass cell_pass' × (moment ≡ cell_pass'.moment) × AreFull b (keys_at moment names) found left moment live held wanted

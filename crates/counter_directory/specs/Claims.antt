@@ -9,16 +9,16 @@ use Rattle.counter_cells.specs.Sums.{total, one_if}
 use Rattle.counter_directory.specs.declared.claim.Claim.{Claim}
 
 -- how many claims are of the counter
-abbrev pub counts : CounterKey → List Claim → ℕ
-counts q xs = total (λ (x : Claim). one_if (same_counter x.key q)) xs
+abbrev pub claims_of : CounterKey → List Claim → ℕ
+claims_of q xs = total (λ (x : Claim). one_if (same_counter x.key q)) xs
 
 -- how many claims bind the counter to the cell under the number
-abbrev pub binds : CounterKey → ℕ → ℕ → List Claim → ℕ
-binds q cell number xs = total (λ (x : Claim). one_if (same_counter x.key q && ((x.cell == cell) && (x.claim == number)))) xs
+abbrev pub bindings_of : CounterKey → ℕ → ℕ → List Claim → ℕ
+bindings_of q cell number xs = total (λ (x : Claim). one_if (same_counter x.key q && ((x.cell == cell) && (x.claim == number)))) xs
 
 -- how many claims have the number
-abbrev pub numbers : ℕ → List Claim → ℕ
-numbers number xs = total (λ (x : Claim). one_if (x.claim == number)) xs
+abbrev pub claims_with : ℕ → List Claim → ℕ
+claims_with number xs = total (λ (x : Claim). one_if (x.claim == number)) xs
 
 -- the end of the window of a claim's counter
 abbrev pub end_of : Claim → ℕ
@@ -35,15 +35,15 @@ last_of d [] = d
 last_of d (x ∷ xs) = last_of x.moment xs
 
 -- A claim fits behind the claims before it: its counter and its number are new, its number is below the most claims,
--- its moment is no earlier, lies in its counter's window, and comes when the cell's last window is over
+-- its moment is no earlier, lies in its counter's window, and comes when the cell's last window has ended
 pub record Fits (cells most : ℕ) (before : List Claim) (x : Claim) : Type 0 where
-  pub counter : counts x.key before ≡ 0
-  pub number : numbers x.claim before ≡ 0
+  pub counter : claims_of x.key before ≡ 0
+  pub number : claims_with x.claim before ≡ 0
   pub small : x.claim < most
   pub cell : x.cell < cells
   pub moment : last_of 0 before ≤ x.moment
   pub window : (x.key.start ≤ x.moment) × (x.moment < end_of x)
-  pub over : last_end 0 x.cell before ≤ x.moment
+  pub expired : last_end 0 x.cell before ≤ x.moment
 
 -- each claim fits behind those before it
 abbrev pub IsLawfulClaims : ℕ → ℕ → List Claim → Type 0

@@ -1,7 +1,7 @@
 pub mod Claims
 pub mod Windows
-pub mod Filed
+pub mod Pool
 pub mod Gates
-pub mod Wants
+pub mod Keys
 pub mod Acquired
 pub mod Turns

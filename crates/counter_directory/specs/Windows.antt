@@ -34,7 +34,7 @@ RingsFit last rings = (u : ℕ) → u < 4 → FitsRing u (end_at u last) rings
 abbrev pub KeepsFits : ℕ → ℕ → List Ring → List Ring → Type 0
 KeepsFits u end rings new = (v e : ℕ) → (v ≡ u → e ≡ end) → FitsRing v e rings → FitsRing v e new
 
--- the first rings hold no cell where they are over
+-- the first n rings hold no cell where their windows have ended
 abbrev pub ExpiredBelow : ℕ → ℕ → List Ring → Type 0
 ExpiredBelow n m rings = (u : ℕ) → u < n → (r : Ring) → get_elem? rings u ≡ some r → r.end ≤ m → r.cells.items ≡ []
 

@@ -5,9 +5,9 @@ use rate_types::Seconds;
 /// What a call has pinned.
 #[derive(Drop)]
 pub struct Acquired {
-    /// The moment of the hand, in whose windows the counters are.
+    /// The moment of the cell pass, in whose windows the counters are.
     pub moment: Seconds,
-    /// For each name the cell and the number of its counter, in order. The hand has one pin for each.
+    /// For each name the cell and the number of its counter, in order. The cell pass has one pin for each.
     pub spots: ArrayVec<Spot, 32>,
 }
 
@@ -22,8 +22,8 @@ pub enum AcquireFault {
         claims: u64,
         wanted: u32,
     },
-    /// At the moment `live` cells are bound to windows that aren't over, `held` cells of windows that are over were found
-    /// pinned, and `wanted` counters are new: these are more than the cells.
+    /// At the moment `live` cells are bound to windows that haven't ended, `held` cells of windows that have ended were
+    /// found pinned, and `wanted` counters are new: these are more than the cells.
     CountersFull {
         moment: Seconds,
         live: u32,

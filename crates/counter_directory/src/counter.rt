@@ -6,7 +6,7 @@ ghost use Rattle.rate_types.specs.Hashes.{key_writes, key_alike};
 ghost use Rattle.rate_types.specs.Units.{unit_rank};
 ghost use Rattle.rate_types.specs.contracts.counter_name.CounterNameOrd.TheImpl.Laws.{matches_eq-law as name_ties};
 ghost use Rattle.window_keys.specs.Counter.{window_end_of};
-ghost use Rattle.counter_directory.specs.Wants.{key_at};
+ghost use Rattle.counter_directory.specs.Keys.{key_at};
 
 use rate_types::{CounterKey, CounterName, OutOfMemory, Seconds};
 use std::alloc::Global;

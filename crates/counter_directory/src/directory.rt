@@ -3,9 +3,8 @@ ghost use Rattle.told_list.specs.Tokens.{list_of, list_id, first_value, tokens, 
 
 use crate::acquire::Acquire;
 use crate::acquired::{AcquireFault, Acquired};
-use crate::book::Book;
 use crate::claim::{Claim, Claims};
-use crate::made;
+use crate::claim_table::ClaimTable;
 use counter_cells::{CellClaimer, CellNaming, CellPass, Cells};
 use rate_types::{CounterName, OutOfMemory, Seconds};
 use std::alloc::Global;
@@ -15,25 +14,25 @@ use told_list::{Seen, Told};
 
 /// What one thread has of a directory: it knows a prefix of the list of claims. It goes with the [`Directory`] that it
 /// was made with.
-pub type DirectoryPass<N: CellNaming> = Seen<Book<N>, Claim>;
+pub type DirectoryPass<N: CellNaming> = Seen<ClaimTable<N>, Claim>;
 
-/// The claims on the cells with the name `N`, behind their lock. Contracts see it as an `Office`.
+/// The claims on the cells with the name `N`, behind their lock. Contracts see it as a `DirectoryView`.
 #[derive(Drop)]
 pub struct Directory<N: CellNaming> {
-    told: Told<Book<N>>,
+    told: Told<ClaimTable<N>>,
     passes: u32,
 }
 
 impl<N: CellNaming> Model for Directory<N> {
     ghost use Rattle.std.specs.Prelude.{◌≡◌, ◌≤◌, []};
     ghost use Rattle.told_list.specs.Tokens.{list_id, first_value, tokens};
-    ghost use Rattle.counter_directory.specs.Turns.{Office};
+    ghost use Rattle.counter_directory.specs.Turns.{DirectoryView};
 
-    ghost Value = { Office };
+    ghost Value = { DirectoryView };
 
-    ghost view = { λ d. record { list_id = list_id d.told; passes = tokens d.told; claims_max = (first_value d.told).shelf.most } };
+    ghost view = { λ d. record { list_id = list_id d.told; passes = tokens d.told; claims_max = (first_value d.told).pool.most } };
 
-    ghost invariant = { λ d. (d.passes ≡ tokens d.told) × (1 ≤ d.passes) × (d.passes ≤ 1024) × ((first_value d.told).shelf.claims.items ≡ []) };
+    ghost invariant = { λ d. (d.passes ≡ tokens d.told) × (1 ≤ d.passes) × (d.passes ≤ 1024) × ((first_value d.told).pool.claims.items ≡ []) };
 }
 
 /// What is left of a directory that is closed.
@@ -60,7 +59,7 @@ impl<N: CellNaming> Directory<N> {
     ghost use Rattle.told_list.specs.Tokens.{list_of, view, known, IsFresh};
     ghost use Rattle.counter_directory.specs.Claims.{IsLawfulClaims};
     ghost use Rattle.counter_directory.specs.Gates.{AreOpen};
-    ghost use Rattle.counter_directory.specs.Wants.{spots_on};
+    ghost use Rattle.counter_directory.specs.Keys.{spots_on};
     ghost use Rattle.counter_directory.specs.Turns.{Turned};
 
     /// No claims yet on the claimer's cells, at most `claims_max` of them, 1 to 2^40, and 1 to 1,024 passes. The claimer
@@ -71,43 +70,43 @@ impl<N: CellNaming> Directory<N> {
         claims_max: u64,
         passes: u32,
     ) -> Result<(Directory<N>, Vec<DirectoryPass<N>>), OutOfMemory>
-        requires claimer { claimer.drawn ≡ [] }
+        requires claimer { claimer.used_claims ≡ [] }
         requires claims_max { (1 ≤ claims_max) × (claims_max ≤ 2 ^ 40) }
         requires passes { (1 ≤ passes) × (passes ≤ 1024) }
         ensures directory { IfOk result (λ r. (r.0.passes ≡ passes) × (r.0.claims_max ≡ claims_max)) }
         ensures count { IfOk result (λ r. vec_len r.1 ≡ passes) }
         ensures passes { IfOk result (λ r. All (λ p. (list_of p ≡ r.0.list_id) × IsFresh [] (view p)) r.1.items) }
     {
-        let book = made::book(alloc, claimer, claims_max)?;
-        let (told, seats) = Told::make(alloc, book, passes)?;
+        let table = ClaimTable::make(alloc, claimer, claims_max)?;
+        let (told, seats) = Told::make(alloc, table, passes)?;
         Ok((Directory { told, passes }, seats))
     }
 
-    /// Pins with `hand`, for each name in order, the cell of its counter in the window of a moment, which becomes the
-    /// hand's and isn't earlier than that of the last claim. A counter without a claim gets one. The hand holds no pin
-    /// before, and after a refusal. It may wait for other calls on this directory.
+    /// Pins with `cell_pass`, for each name in order, the cell of its counter in the window of a moment, which becomes
+    /// that of the cell pass and isn't earlier than that of the last claim. A counter without a claim gets one. The cell
+    /// pass holds no pin before, and after a refusal. It may wait for other calls on this directory.
     pub fn acquire<R: Wait>(
         &self,
         rt: &R,
         pass: &mut DirectoryPass<N>,
         cells: &Cells<N>,
-        hand: &mut CellPass<N>,
+        cell_pass: &mut CellPass<N>,
         names: &[CounterName],
     ) -> Result<Acquired, AcquireFault>
         requires pass { list_of pass.old ≡ self.now.list_id }
-        requires hand { hand.old.good ≡ [] }
+        requires cell_pass { cell_pass.old.good ≡ [] }
         requires names { (1 ≤ length names.now) × (length names.now ≤ 32) }
         ensures pass { list_of pass.new ≡ self.now.list_id }
         ensures within { IfOk result (λ a. All (λ s. s.cell < N.setup.cells) a.spots.items) }
-        ensures pins { IfOk result (λ a. (cell : ℕ) → good_on cell hand.new ≡ spots_on cell a.spots.items) }
-        ensures none { OnErr result (hand.new.good ≡ []) }
-        ensures turn { Turned (record { cells = N.setup.cells; claims = self.now.claims_max; held = 32 * (self.now.passes - 1) }) names.now hand.old result hand.new (view pass.old) (view pass.new) }
+        ensures pins { IfOk result (λ a. (cell : ℕ) → good_on cell cell_pass.new ≡ spots_on cell a.spots.items) }
+        ensures none { OnErr result (cell_pass.new.good ≡ []) }
+        ensures turn { Turned (record { cells = N.setup.cells; claims = self.now.claims_max; held = 32 * (self.now.passes - 1) }) names.now cell_pass.old result cell_pass.new (view pass.old) (view pass.new) }
     {
         let most_held = 32 * (self.passes as usize - 1);
         let mut act = Acquire {
             rt,
             cells,
-            hand,
+            cell_pass,
             names,
             most_held,
         };
@@ -125,15 +124,15 @@ impl<N: CellNaming> Directory<N> {
         ensures owned { (n : ℕ) → IsOwnedOnce 0 (length result.claims) n (total (λ p. times n (view p).own) passes.items) }
     {
         let Directory { told, passes: _ } = self;
-        let Book {
-            shelf,
+        let ClaimTable {
+            pool,
             index: _,
             claimer,
         } = told.close(passes);
         ClosedDirectory {
-            claims: Claims::of(shelf.claims),
+            claims: Claims::of(pool.claims),
             claimer,
-            last: shelf.last,
+            last: pool.last,
         }
     }
 }

@@ -1,12 +1,12 @@
 //! Which cell a counter has, and when a cell may be used again.
 //!
 //! A limiter with millions of keys has a fixed number of cells. The directory binds each counter once, under its lock,
-//! to a cell whose last window is over and that no pass holds. The bindings are one list of claims that only grows. Each
+//! to a cell whose last window has ended and that no pass has pinned. The bindings are one list of claims that only grows. Each
 //! thread owns a [`DirectoryPass`], which knows a prefix of it.
 //!
 //! The promise: the list of claims is lawful (`specs/Claims.antt`): counters and numbers differ, moments never fall and
-//! lie in their counters' windows, and a cell is claimed anew only where its last window is over. [`Directory::acquire`]
-//! pins, by the hand of the caller, the cell of each counter under the number of its claim, or says why not, in exact
+//! lie in their counters' windows, and a cell is claimed anew only once its last window has ended. [`Directory::acquire`]
+//! pins, with the cell pass of the caller, the cell of each counter under the number of its claim, or says why not, in exact
 //! numbers. A call that is refused adds no claim and leaves no pin.
 //!
 //! The limits: `acquire` may wait for other calls, and nothing is said of how long. At most 2^40 claims are ever made.
@@ -14,16 +14,15 @@
 
 mod acquire;
 mod acquired;
-mod book;
+mod cell_pool;
 mod claim;
+mod claim_table;
 mod counter;
 mod directory;
-mod made;
-mod pins;
+mod keys;
+mod new_counter;
 mod ring;
-mod shelf;
 mod ticks;
-mod wants;
 
 pub use acquired::{AcquireFault, Acquired};
 pub use claim::{Claim, Claims};

@@ -2,7 +2,7 @@ ghost use Rattle.std.specs.Prelude.{◌≡◌, ℕ, ◌^◌, ◌≤◌, ◌<◌,
 ghost use Rattle.counter_cells.specs.Views.{good_on};
 ghost use Rattle.counter_cells.specs.Opened.{table_of, setup_of};
 ghost use Rattle.told_list.specs.Tokens.{list_of};
-ghost use Rattle.counter_directory.specs.Wants.{spots_on};
+ghost use Rattle.counter_directory.specs.Keys.{spots_on};
 
 use super::*;
 use counter_cells::{CellNaming, CellPass, Cells, OpenedCells, Spot};
@@ -20,24 +20,24 @@ mod threads;
 #[derive(Drop)]
 struct Worker<N: CellNaming> {
     pass: DirectoryPass<N>,
-    hand: CellPass<N>,
+    cell_pass: CellPass<N>,
 }
 
-// Each hand with a pass.
+// Each cell pass with a pass of the directory.
 fn pair<N: CellNaming>(
     alloc: Global,
-    hands: Vec<CellPass<N>>,
+    cell_passes: Vec<CellPass<N>>,
     mut passes: Vec<DirectoryPass<N>>,
     directory: &Directory<N>,
 ) -> Option<Vec<Worker<N>>>
-    requires hands { All (λ h. h.good ≡ []) hands.items }
+    requires cell_passes { All (λ h. h.good ≡ []) cell_passes.items }
     requires passes { All (λ p. list_of p ≡ directory.now.list_id) passes.items }
-    ensures { IfSome result (λ v. All (λ w. (w.hand.good ≡ []) × (list_of w.pass ≡ directory.now.list_id)) v.items) }
+    ensures { IfSome result (λ v. All (λ w. (w.cell_pass.good ≡ []) × (list_of w.pass ≡ directory.now.list_id)) v.items) }
 {
     let mut workers = Vec::new(alloc);
-    for hand in hands {
+    for cell_pass in cell_passes {
         let pass = passes.pop()?;
-        workers.push(Worker { pass, hand }).ok()?;
+        workers.push(Worker { pass, cell_pass }).ok()?;
     }
     Some(workers)
 }
@@ -53,11 +53,11 @@ fn open<N: CellNaming>(
     requires claims_max { (1 ≤ claims_max) × (claims_max ≤ 2 ^ 40) }
     requires workers { (1 ≤ workers) × (workers ≤ 1024) }
     ensures passes { IfSome result (λ r. r.1.passes ≡ workers) }
-    ensures workers { IfSome result (λ r. All (λ w. (w.hand.good ≡ []) × (list_of w.pass ≡ r.1.list_id)) r.2.items) }
+    ensures workers { IfSome result (λ r. All (λ w. (w.cell_pass.good ≡ []) × (list_of w.pass ≡ r.1.list_id)) r.2.items) }
 {
-    let (cells, hands, claimer) = opened.named::<N>(alloc).ok()?;
+    let (cells, cell_passes, claimer) = opened.with_name::<N>(alloc).ok()?;
     let (directory, passes) = Directory::make(alloc, claimer, claims_max, workers).ok()?;
-    let workers = pair(alloc, hands, passes, &directory)?;
+    let workers = pair(alloc, cell_passes, passes, &directory)?;
     Some((cells, directory, workers))
 }
 
@@ -77,13 +77,13 @@ fn name(alloc: Global, value: &str) -> Option<CounterName> {
 }
 
 // Gives all pins back.
-fn unpin_all<N: CellNaming>(cells: &Cells<N>, hand: &mut CellPass<N>, spots: &[Spot])
+fn unpin_all<N: CellNaming>(cells: &Cells<N>, cell_pass: &mut CellPass<N>, spots: &[Spot])
     requires cells { All (λ s. s.cell < N.setup.cells) spots.now }
-    requires pins { (cell : ℕ) → good_on cell hand.old ≡ spots_on cell spots.now }
-    ensures none { hand.new.good ≡ [] }
+    requires pins { (cell : ℕ) → good_on cell cell_pass.old ≡ spots_on cell spots.now }
+    ensures none { cell_pass.new.good ≡ [] }
 {
     for spot in spots {
-        cells.unpin(hand, spot.cell);
+        cells.unpin(cell_pass, spot.cell);
     }
 }
 
@@ -96,14 +96,14 @@ fn pin<N: CellNaming, R: Wait>(
     names: &[CounterName],
 ) -> Result<Acquired, AcquireFault>
     requires pass { list_of worker.old.pass ≡ directory.now.list_id }
-    requires hand { worker.old.hand.good ≡ [] }
+    requires cell_pass { worker.old.cell_pass.good ≡ [] }
     requires names { (1 ≤ length names.now) × (length names.now ≤ 32) }
     ensures pass { list_of worker.new.pass ≡ directory.now.list_id }
     ensures within { IfOk result (λ a. All (λ s. s.cell < N.setup.cells) a.spots.items) }
-    ensures pins { IfOk result (λ a. (cell : ℕ) → good_on cell worker.new.hand ≡ spots_on cell a.spots.items) }
-    ensures none { OnErr result (worker.new.hand.good ≡ []) }
+    ensures pins { IfOk result (λ a. (cell : ℕ) → good_on cell worker.new.cell_pass ≡ spots_on cell a.spots.items) }
+    ensures none { OnErr result (worker.new.cell_pass.good ≡ []) }
 {
-    directory.acquire(rt, &mut worker.pass, cells, &mut worker.hand, names)
+    directory.acquire(rt, &mut worker.pass, cells, &mut worker.cell_pass, names)
 }
 
 // Acquires the names, and gives the pins back.
@@ -115,13 +115,13 @@ fn take<N: CellNaming, R: Wait>(
     names: &[CounterName],
 ) -> Result<Acquired, AcquireFault>
     requires pass { list_of worker.old.pass ≡ directory.now.list_id }
-    requires hand { worker.old.hand.good ≡ [] }
+    requires cell_pass { worker.old.cell_pass.good ≡ [] }
     requires names { (1 ≤ length names.now) × (length names.now ≤ 32) }
     ensures pass { list_of worker.new.pass ≡ directory.now.list_id }
-    ensures hand { worker.new.hand.good ≡ [] }
+    ensures cell_pass { worker.new.cell_pass.good ≡ [] }
 {
     let acquired = pin(rt, directory, cells, worker, names)?;
-    unpin_all(cells, &mut worker.hand, acquired.spots.as_slice());
+    unpin_all(cells, &mut worker.cell_pass, acquired.spots.as_slice());
     Ok(acquired)
 }
 
@@ -135,9 +135,9 @@ fn take_one<N: CellNaming, R: Wait>(
     value: &str,
 ) -> Result<(u64, Spot), AcquireFault>
     requires pass { list_of worker.old.pass ≡ directory.now.list_id }
-    requires hand { worker.old.hand.good ≡ [] }
+    requires cell_pass { worker.old.cell_pass.good ≡ [] }
     ensures pass { list_of worker.new.pass ≡ directory.now.list_id }
-    ensures hand { worker.new.hand.good ≡ [] }
+    ensures cell_pass { worker.new.cell_pass.good ≡ [] }
 {
     let names = [name(alloc, value).ok_or(AcquireFault::OutOfMemory)?];
     let acquired = take(rt, directory, cells, worker, names.as_slice())?;
@@ -183,11 +183,11 @@ fn claim_three<N: CellNaming, R: Abort + Wait>(
 #[test]
 fn a_cell_of_a_later_window_is_full(rt: HostRuntime) -> Result<(), Fail> {
     let opened = OpenedCells::make(rt.alloc(), 1, 2, Seconds::capped(0))?;
-    take_over_the_cell::<Brand, _>(&rt, rt.alloc(), opened)
+    take_the_expired_cell::<Brand, _>(&rt, rt.alloc(), opened)
 }
 
 // One takes the cell in the first minute, the other in the second, and then the one asks again for its counter.
-fn take_over_the_cell<N: CellNaming, R: Abort + Wait>(
+fn take_the_expired_cell<N: CellNaming, R: Abort + Wait>(
     rt: &R,
     alloc: Global,
     opened: OpenedCells,
@@ -198,9 +198,9 @@ fn take_over_the_cell<N: CellNaming, R: Abort + Wait>(
     let mut one = workers.pop().ok_or("two workers")?;
     let mut other = workers.pop().ok_or("two workers")?;
     let first = take_one(rt, alloc, &directory, &cells, &mut one, "a");
-    cells.tick(&mut other.hand, Seconds::capped(60));
+    cells.tick(&mut other.cell_pass, Seconds::capped(60));
     let second = take_one(rt, alloc, &directory, &cells, &mut other, "b");
-    let before = one.hand.moment().get();
+    let before = one.cell_pass.moment().get();
     let third = take_one(rt, alloc, &directory, &cells, &mut one, "a");
     assert_eq!(rt; first, Ok((0, Spot { cell: 0, claim: 0 })));
     assert_eq!(rt; second, Ok((60, Spot { cell: 0, claim: 1 })));
@@ -214,7 +214,10 @@ fn take_over_the_cell<N: CellNaming, R: Abort + Wait>(
             wanted: 1
         })
     );
-    assert_eq!(rt; (one.hand.moment().get(), one.hand.pins()), (60, 0));
+    assert_eq!(rt;
+        (one.cell_pass.moment().get(), one.cell_pass.pins()),
+        (60, 0)
+    );
     Ok(())
 }
 
@@ -246,17 +249,17 @@ fn take_beside_a_pin<N: CellNaming, R: Abort + Wait>(
     one: &mut Worker<N>,
     other: &mut Worker<N>,
 ) -> Result<(), Fail>
-    requires one { (list_of one.old.pass ≡ directory.now.list_id) × (one.old.hand.good ≡ []) }
-    requires other { (list_of other.old.pass ≡ directory.now.list_id) × (other.old.hand.good ≡ []) }
+    requires one { (list_of one.old.pass ≡ directory.now.list_id) × (one.old.cell_pass.good ≡ []) }
+    requires other { (list_of other.old.pass ≡ directory.now.list_id) × (other.old.cell_pass.good ≡ []) }
 {
     let names = [name(alloc, "a").ok_or("memory")?];
     let Ok(held) = pin(rt, directory, cells, one, names.as_slice()) else {
         return Err("a cell".into());
     };
-    cells.tick(&mut other.hand, Seconds::capped(60));
+    cells.tick(&mut other.cell_pass, Seconds::capped(60));
     let refused = take_one(rt, alloc, directory, cells, other, "b");
-    unpin_all(cells, &mut one.hand, held.spots.as_slice());
-    let taken = take_one(rt, alloc, directory, cells, other, "b");
+    unpin_all(cells, &mut one.cell_pass, held.spots.as_slice());
+    let reserved = take_one(rt, alloc, directory, cells, other, "b");
     assert_eq!(rt;
         refused,
         Err(AcquireFault::CountersFull {
@@ -266,7 +269,7 @@ fn take_beside_a_pin<N: CellNaming, R: Abort + Wait>(
             wanted: 1
         })
     );
-    assert_eq!(rt; taken, Ok((60, Spot { cell: 0, claim: 1 })));
+    assert_eq!(rt; reserved, Ok((60, Spot { cell: 0, claim: 1 })));
     Ok(())
 }
 
@@ -296,7 +299,7 @@ fn pin_one_name_twice<N: CellNaming, R: Abort + Wait>(
     worker: &mut Worker<N>,
 ) -> Result<(), Fail>
     requires pass { list_of worker.old.pass ≡ directory.now.list_id }
-    requires hand { worker.old.hand.good ≡ [] }
+    requires cell_pass { worker.old.cell_pass.good ≡ [] }
 {
     let one = name(alloc, "a").ok_or("memory")?;
     let names = [one, name(alloc, "a").ok_or("memory")?];
@@ -305,7 +308,7 @@ fn pin_one_name_twice<N: CellNaming, R: Abort + Wait>(
     };
     let spot = Spot { cell: 0, claim: 0 };
     assert_eq!(rt; acquired.spots.as_slice(), [spot, spot].as_slice());
-    assert_eq!(rt; worker.hand.pins(), 2);
+    assert_eq!(rt; worker.cell_pass.pins(), 2);
     assert_eq!(rt; claims(&worker.pass), 1);
     Ok(())
 }

@@ -3,7 +3,7 @@
 //! A [`Told`] keeps a value that stands for a list, as a [`Kept`], and each thread owns a token, a [`Seen`]. What a
 //! token knows is a prefix of the one list. [`Told::behind`] tells by one load, without the lock, how long the list is,
 //! where that is more than the token knows. [`Told::with`] lends the kept value to an [`Act`], which may add items
-//! behind those that are there; the token then knows the list that the act left. At the end [`Told::close`] hands the
+//! behind those that are there; the token then knows the list that the act left. At the end [`Told::close`] gives the
 //! kept value back.
 //!
 //! The promise: what a token knew is a prefix of each list that a later turn finds, which is at least as long as what

@@ -56,7 +56,7 @@ fn have_counters_of_their_own(alloc: Global, claims: &[Claim]) -> Option<bool> {
     Some(counters.len() == claims.len())
 }
 
-// Each cell is claimed only where the window of its last claim is over.
+// Each cell is claimed only once the window of its last claim has ended.
 fn follow_ended_windows(alloc: Global, claims: &[Claim], cells: usize) -> Option<bool> {
     let mut ends = vec![in alloc; 0u64; cells].ok()?;
     for claim in claims {

@@ -29,17 +29,17 @@ fn take_in_some_window<N: CellNaming, R: Wait>(
     names: &[CounterName],
 ) -> Option<()>
     requires pass { list_of worker.old.pass ≡ directory.now.list_id }
-    requires hand { worker.old.hand.good ≡ [] }
+    requires cell_pass { worker.old.cell_pass.good ≡ [] }
     requires names { (1 ≤ length names.now) × (length names.now ≤ 32) }
     ensures pass { list_of worker.new.pass ≡ directory.now.list_id }
-    ensures hand { worker.new.hand.good ≡ [] }
+    ensures cell_pass { worker.new.cell_pass.good ≡ [] }
 {
     for _ in 0..1_000u32 {
         if take(rt, directory, cells, worker, names).is_ok() {
             return Some(());
         }
-        let next = worker.hand.moment().get() + 60;
-        cells.tick(&mut worker.hand, Seconds::capped(next));
+        let next = worker.cell_pass.moment().get() + 60;
+        cells.tick(&mut worker.cell_pass, Seconds::capped(next));
     }
     None
 }
@@ -54,7 +54,7 @@ fn take_often<N: CellNaming, R: Wait>(
     first: u32,
 ) -> Option<DirectoryPass<N>>
     requires pass { list_of worker.pass ≡ directory.now.list_id }
-    requires hand { worker.hand.good ≡ [] }
+    requires cell_pass { worker.cell_pass.good ≡ [] }
     requires first { first ≤ 7500 }
     ensures { IfSome result (λ p. list_of p ≡ directory.now.list_id) }
 {
@@ -75,19 +75,19 @@ fn take_in_two_threads<N: CellNaming + Send + Sync, R: Threads + Wait + Sync>(
     other: Worker<N>,
     first: u32,
 ) -> Option<(DirectoryPass<N>, DirectoryPass<N>)>
-    requires one { (list_of one.pass ≡ directory.now.list_id) × (one.hand.good ≡ []) }
-    requires other { (list_of other.pass ≡ directory.now.list_id) × (other.hand.good ≡ []) }
+    requires one { (list_of one.pass ≡ directory.now.list_id) × (one.cell_pass.good ≡ []) }
+    requires other { (list_of other.pass ≡ directory.now.list_id) × (other.cell_pass.good ≡ []) }
     requires first { first ≤ 5000 }
     ensures { IfSome result (λ r. (list_of r.0 ≡ directory.now.list_id) × (list_of r.1 ≡ directory.now.list_id)) }
 {
     let (one, other) = join(
         rt,
         || -> Option<DirectoryPass<N>>
-            requires { (list_of one.pass ≡ directory.now.list_id) × (one.hand.good ≡ []) × (first ≤ 5000) }
+            requires { (list_of one.pass ≡ directory.now.list_id) × (one.cell_pass.good ≡ []) × (first ≤ 5000) }
             ensures { IfSome result (λ p. list_of p ≡ directory.entry.now.list_id) }
         { take_often(rt, alloc, directory, cells, one, first) },
         || -> Option<DirectoryPass<N>>
-            requires { (list_of other.pass ≡ directory.now.list_id) × (other.hand.good ≡ []) × (first ≤ 5000) }
+            requires { (list_of other.pass ≡ directory.now.list_id) × (other.cell_pass.good ≡ []) × (first ≤ 5000) }
             ensures { IfSome result (λ p. list_of p ≡ directory.entry.now.list_id) }
         { take_often(rt, alloc, directory, cells, other, first + 2_500) },
     );
@@ -99,10 +99,10 @@ fn last_two<N: CellNaming>(
     workers: &mut Vec<Worker<N>>,
     directory: &Directory<N>,
 ) -> Option<(Worker<N>, Worker<N>)>
-    requires workers { All (λ w. (w.hand.good ≡ []) × (list_of w.pass ≡ directory.now.list_id)) workers.old.items }
-    ensures workers { All (λ w. (w.hand.good ≡ []) × (list_of w.pass ≡ directory.now.list_id)) workers.new.items }
-    ensures one { IfSome result (λ r. (r.0.hand.good ≡ []) × (list_of r.0.pass ≡ directory.now.list_id)) }
-    ensures other { IfSome result (λ r. (r.1.hand.good ≡ []) × (list_of r.1.pass ≡ directory.now.list_id)) }
+    requires workers { All (λ w. (w.cell_pass.good ≡ []) × (list_of w.pass ≡ directory.now.list_id)) workers.old.items }
+    ensures workers { All (λ w. (w.cell_pass.good ≡ []) × (list_of w.pass ≡ directory.now.list_id)) workers.new.items }
+    ensures one { IfSome result (λ r. (r.0.cell_pass.good ≡ []) × (list_of r.0.pass ≡ directory.now.list_id)) }
+    ensures other { IfSome result (λ r. (r.1.cell_pass.good ≡ []) × (list_of r.1.pass ≡ directory.now.list_id)) }
 {
     let _ = directory;
     let one = workers.pop()?;
@@ -118,7 +118,7 @@ fn take_in_four_threads<N: CellNaming + Send + Sync, R: Threads + Wait + Sync>(
     cells: &Cells<N>,
     mut workers: Vec<Worker<N>>,
 ) -> Option<Vec<DirectoryPass<N>>>
-    requires workers { All (λ w. (w.hand.good ≡ []) × (list_of w.pass ≡ directory.now.list_id)) workers.items }
+    requires workers { All (λ w. (w.cell_pass.good ≡ []) × (list_of w.pass ≡ directory.now.list_id)) workers.items }
     ensures count { IfSome result (λ v. vec_len v ≡ 4) }
     ensures passes { IfSome result (λ v. All (λ p. list_of p ≡ directory.now.list_id) v.items) }
 {
@@ -127,11 +127,11 @@ fn take_in_four_threads<N: CellNaming + Send + Sync, R: Threads + Wait + Sync>(
     let (ab, cd) = join(
         rt,
         || -> Option<(DirectoryPass<N>, DirectoryPass<N>)>
-            requires { (list_of a.pass ≡ directory.now.list_id) × (a.hand.good ≡ []) × (list_of b.pass ≡ directory.now.list_id) × (b.hand.good ≡ []) }
+            requires { (list_of a.pass ≡ directory.now.list_id) × (a.cell_pass.good ≡ []) × (list_of b.pass ≡ directory.now.list_id) × (b.cell_pass.good ≡ []) }
             ensures { IfSome result (λ r. (list_of r.0 ≡ directory.entry.now.list_id) × (list_of r.1 ≡ directory.entry.now.list_id)) }
         { take_in_two_threads(rt, alloc, directory, cells, a, b, 0) },
         || -> Option<(DirectoryPass<N>, DirectoryPass<N>)>
-            requires { (list_of c.pass ≡ directory.now.list_id) × (c.hand.good ≡ []) × (list_of d.pass ≡ directory.now.list_id) × (d.hand.good ≡ []) }
+            requires { (list_of c.pass ≡ directory.now.list_id) × (c.cell_pass.good ≡ []) × (list_of d.pass ≡ directory.now.list_id) × (d.cell_pass.good ≡ []) }
             ensures { IfSome result (λ r. (list_of r.0 ≡ directory.entry.now.list_id) × (list_of r.1 ≡ directory.entry.now.list_id)) }
         { take_in_two_threads(rt, alloc, directory, cells, c, d, 5_000) },
     );

@@ -5,5 +5,5 @@ use Rattle.counter_directory.proofs.tests.threads.take_in_some_window.Given as g
 abbrev pub invariant-loop : goal.invariant-loop
 invariant-loop g l = record {
   pass : list_of l.worker.pass ≡ l.directory.list_id;
-  hand : l.worker.hand.good ≡ [];
+  cell_pass : l.worker.cell_pass.good ≡ [];
 }

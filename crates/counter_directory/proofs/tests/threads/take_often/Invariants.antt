@@ -5,5 +5,5 @@ use Rattle.counter_directory.proofs.tests.threads.take_often.Given as goal
 abbrev pub invariant-loop-round : goal.invariant-loop-round
 invariant-loop-round g l = record {
   pass : list_of l.worker.pass ≡ l.directory.list_id;
-  hand : l.worker.hand.good ≡ [];
+  cell_pass : l.worker.cell_pass.good ≡ [];
 }

@@ -1,6 +1,0 @@
-use Rattle.std.proofs.Common.{refl, subst}
-use Rattle.counter_directory.specs.Claims.{IsLawfulClaims}
-use Rattle.counter_directory.proofs.acquire.AcquireActBook.act.Goals as goal
-
-pub returns-clause-did : goal.returns-clause-did
-returns-clause-did g c = let b = c.acquire.new.self in (refl, c.acquire.ensures.did, subst (λ n. IsLawfulClaims n b.shelf.most b.shelf.claims.items) b.size b.shelf.lawful, c.acquire.ensures.later)

@@ -1,0 +1,28 @@
+use Rattle.std.proofs.Common.{ap, ◌∙◌}
+use Rattle.counter_directory.proofs.Opening.{fresh_cell, gates_to, gates_claimed, gates_held, held_since_reserved}
+use Rattle.counter_directory.proofs.Indexing.{indexed_to}
+use Rattle.counter_directory.proofs.claim_table.ClaimTable.try_fresh.Goals as goal
+
+pub invariant_of-self : goal.invariant_of-self
+invariant_of-self g c =
+    let b = c.args.self.now in
+    let m = fresh_cell b.pool.cells b.pool.last b.pool.fresh _ b.pool.claims.items _ _ _ b.pool.reserved.items b.pool.cells_lawful in
+    let e = c.reserve_fresh.ensures in
+    record {
+      size = e.same.6 ∙ b.size;
+      gates = gates_to _ _ _ _ _ _ _ _ _ _ _ e.same.6 e.same.5 e.next_claim (ap (λ z. z.items) e.same.0) e.reserved
+          (gates_claimed b.claimer _ b.pool.cells b.pool.most b.pool.last b.pool.next_claim b.pool.fresh b.pool.claims.items b.pool.reserved.items c.requires.some m.0 m.1 b.pool.lawful c.in-Claimed.ensures.reclaim b.gates);
+      found = indexed_to _ _ _ (ap (λ z. z.items) e.same.0) b.found;
+    }
+
+pub invariant_of-self-in-Held : goal.invariant_of-self-in-Held
+invariant_of-self-in-Held g c =
+    let b = c.args.self.now in
+    record {
+      size = b.size;
+      gates = gates_held b.claimer _ b.pool.cells b.pool.last b.pool.next_claim b.pool.fresh c.in-Held.pins b.pool.claims.items b.pool.reserved.items c.in-Held.ensures.reclaim.0 b.gates;
+      found = b.found;
+    }
+
+pub returns-in-Held-clause-held : goal.returns-in-Held-clause-held
+returns-in-Held-clause-held g c = held_since_reserved c.args.self.now.claimer _ c.args.self.now.pool.fresh c.in-Held.pins c.args.self.now.pool.held.items c.in-Held.ensures.reclaim.0

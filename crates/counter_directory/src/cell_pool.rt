@@ -1,0 +1,210 @@
+// The claims, and the pool of cells.
+ghost use Rattle.std.specs.Prelude.{◌≡◌, ℕ, ◌+◌, ◌-◌, ◌≤◌, ◌<◌, ◌^◌, ◌++◌, ◌∷◌, [], vec_len, vec_capacity, OnOk, IfOk};
+ghost use Rattle.rate_types.specs.Units.{unit_rank};
+ghost use Rattle.window_keys.specs.Window.{window_start};
+ghost use Rattle.window_keys.specs.Counter.{window_end_of};
+ghost use Rattle.counter_directory.specs.Claims.{IsLawfulClaims, claims_of};
+ghost use Rattle.counter_directory.specs.Pool.{IsLawfulPool, BindsLast, live_below, spot};
+ghost use Rattle.counter_directory.specs.Windows.{RingWindows, ExpiredBelow, FitsRing, KeepsFits, AreRoomy};
+
+use crate::claim::Claim;
+use crate::counter::SharedCounter;
+use crate::ring::{Ring, rings};
+use counter_cells::Spot;
+use rate_types::{OutOfMemory, Seconds};
+use std::alloc::Global;
+
+/// The most cells that may be reserved: as many as one call has names.
+pub(crate) const MOST_RESERVED: usize = 32;
+
+/// The claims, and the pool of cells. Each cell that was ever taken is in exactly one list: in a ring, or expired, held or
+/// reserved.
+#[derive(Drop)]
+pub(crate) struct CellPool {
+    pub claims: Vec<Claim>,
+    /// One for each unit: the cells of the newest window in which one was bound.
+    pub rings: Vec<Ring>,
+    /// The cells whose windows have ended.
+    pub expired: Vec<u32>,
+    /// The expired cells that were found pinned.
+    pub held: Vec<u32>,
+    /// The cells that are taken and not yet bound to a counter, each with the number of its claim to be.
+    pub reserved: Vec<Spot>,
+    /// The first cell that was never taken.
+    pub fresh: u32,
+    /// The number of the next claim.
+    pub next_claim: u64,
+    /// The moment of the last turn.
+    pub last: Seconds,
+    /// How many cells there are.
+    pub cells: u32,
+    /// How many claims there may be at most.
+    pub most: u64,
+    pub ghost cells_lawful: { IsLawfulPool cells last fresh next_claim claims.items rings.items expired.items held.items reserved.items },
+    pub ghost lawful: { IsLawfulClaims cells most claims.items },
+    pub ghost four: { vec_len rings ≡ 4 },
+    pub ghost next_claim_is: { next_claim ≡ vec_len claims + vec_len reserved },
+    pub ghost few: { next_claim ≤ most },
+    pub ghost room: { (cells ≤ vec_capacity expired) × (cells ≤ vec_capacity held) × (32 ≤ vec_capacity reserved) × AreRoomy cells rings.items },
+    pub ghost windows: { RingWindows last rings.items },
+    pub ghost sizes: { (cells ≤ 1048576) × (most ≤ 2 ^ 40) },
+}
+
+impl CellPool {
+    /// No claim, and no cell taken.
+    pub fn make(alloc: Global, cells: u32, most: u64) -> Result<CellPool, OutOfMemory>
+        requires { (cells ≤ 1048576) × (most ≤ 2 ^ 40) }
+        ensures { IfOk result (λ s. (s.cells ≡ cells) × (s.most ≡ most) × (s.next_claim ≡ 0) × (s.claims.items ≡ []) × (s.reserved.items ≡ [])) }
+    {
+        let rings = rings(alloc, cells)?;
+        let expired = Vec::with_capacity(alloc, cells as usize)?;
+        let held = Vec::with_capacity(alloc, cells as usize)?;
+        let reserved = Vec::with_capacity(alloc, MOST_RESERVED)?;
+        Ok(CellPool {
+            claims: Vec::new(alloc),
+            rings,
+            expired,
+            held,
+            reserved,
+            fresh: 0,
+            next_claim: 0,
+            last: Seconds::capped(0),
+            cells,
+            most,
+        })
+    }
+
+    /// Reserves the last expired cell under the number of the next claim.
+    pub fn reserve_expired(&mut self)
+        requires some { 0 < vec_len self.old.expired }
+        requires room { vec_len self.old.reserved < 32 }
+        requires next_claim { self.old.next_claim < self.old.most }
+        ensures same { (self.new.claims ≡ self.old.claims) × (self.new.rings ≡ self.old.rings) × (self.new.held ≡ self.old.held) × (self.new.fresh ≡ self.old.fresh) × (self.new.last ≡ self.old.last) × (self.new.cells ≡ self.old.cells) × (self.new.most ≡ self.old.most) }
+        ensures reserved { (k : ℕ) × (self.old.expired.items ≡ self.new.expired.items ++ k ∷ []) × (self.new.reserved.items ≡ self.old.reserved.items ++ spot k self.old.next_claim ∷ []) }
+        ensures next_claim { self.new.next_claim ≡ self.old.next_claim + 1 }
+        ensures lens { (vec_len self.new.reserved ≡ vec_len self.old.reserved + 1) × (vec_len self.new.expired + 1 ≡ vec_len self.old.expired) }
+    {
+        if let Some(cell) = self.expired.pop() {
+            self.reserved.push_reserved(Spot {
+                cell,
+                claim: self.next_claim,
+            });
+            self.next_claim += 1;
+        }
+    }
+
+    /// The last expired cell was found pinned.
+    pub fn hold_expired(&mut self)
+        requires some { 0 < vec_len self.old.expired }
+        ensures same { (self.new.claims ≡ self.old.claims) × (self.new.rings ≡ self.old.rings) × (self.new.reserved ≡ self.old.reserved) × (self.new.fresh ≡ self.old.fresh) × (self.new.next_claim ≡ self.old.next_claim) × (self.new.last ≡ self.old.last) × (self.new.cells ≡ self.old.cells) × (self.new.most ≡ self.old.most) }
+        ensures held { (k : ℕ) × (self.old.expired.items ≡ self.new.expired.items ++ k ∷ []) × (self.new.held.items ≡ self.old.held.items ++ k ∷ []) }
+        ensures lens { (vec_len self.new.held ≡ vec_len self.old.held + 1) × (vec_len self.new.expired + 1 ≡ vec_len self.old.expired) }
+    {
+        if let Some(cell) = self.expired.pop() {
+            self.held.push_reserved(cell);
+        }
+    }
+
+    /// Reserves the first cell that was never taken, under the number of the next claim.
+    pub fn reserve_fresh(&mut self)
+        requires some { self.old.fresh < self.old.cells }
+        requires room { vec_len self.old.reserved < 32 }
+        requires next_claim { self.old.next_claim < self.old.most }
+        ensures same { (self.new.claims ≡ self.old.claims) × (self.new.rings ≡ self.old.rings) × (self.new.expired ≡ self.old.expired) × (self.new.held ≡ self.old.held) × (self.new.fresh ≡ self.old.fresh + 1) × (self.new.last ≡ self.old.last) × (self.new.cells ≡ self.old.cells) × (self.new.most ≡ self.old.most) }
+        ensures reserved { self.new.reserved.items ≡ self.old.reserved.items ++ spot self.old.fresh self.old.next_claim ∷ [] }
+        ensures next_claim { self.new.next_claim ≡ self.old.next_claim + 1 }
+        ensures len { vec_len self.new.reserved ≡ vec_len self.old.reserved + 1 }
+    {
+        self.reserved.push_reserved(Spot {
+            cell: self.fresh,
+            claim: self.next_claim,
+        });
+        self.fresh += 1;
+        self.next_claim += 1;
+    }
+
+    /// Raises the moment, and moves the cells of windows that have then ended from their rings to the expired ones.
+    pub fn expire(&mut self, moment: Seconds) -> Result<(), OutOfMemory>
+        requires { self.old.last ≤ moment }
+        ensures same { (self.new.claims ≡ self.old.claims) × (self.new.reserved ≡ self.old.reserved) × (self.new.fresh ≡ self.old.fresh) × (self.new.next_claim ≡ self.old.next_claim) × (self.new.cells ≡ self.old.cells) × (self.new.most ≡ self.old.most) }
+        ensures last { self.new.last ≡ moment }
+        ensures expired { OnOk result (ExpiredBelow 4 moment self.new.rings.items × (self.new.held.items ≡ [])) }
+    {
+        self.last = moment;
+        self.expired.append(&mut self.held)?;
+        for unit in 0..4 {
+            self.expire_ring(unit)?;
+        }
+        Ok(())
+    }
+
+    // Empties the ring of a unit where its window has ended.
+    fn expire_ring(&mut self, unit: usize) -> Result<(), OutOfMemory>
+        requires unit { unit < 4 }
+        requires before { ExpiredBelow unit self.old.last self.old.rings.items }
+        ensures same { (self.new.claims ≡ self.old.claims) × (self.new.reserved ≡ self.old.reserved) × (self.new.held ≡ self.old.held) × (self.new.fresh ≡ self.old.fresh) × (self.new.next_claim ≡ self.old.next_claim) × (self.new.last ≡ self.old.last) × (self.new.cells ≡ self.old.cells) × (self.new.most ≡ self.old.most) }
+        ensures expired { OnOk result (ExpiredBelow (unit + 1) self.old.last self.new.rings.items) }
+    {
+        let last = self.last.get();
+        let ring = &mut self.rings[unit];
+        if ring.end <= last {
+            self.expired.append(&mut ring.cells)?;
+        }
+        Ok(())
+    }
+
+    /// Room for as many new claims.
+    pub fn make_room(&mut self, wanted: usize) -> Result<(), OutOfMemory>
+        ensures same { (self.new.claims.items ≡ self.old.claims.items) × (self.new.rings ≡ self.old.rings) × (self.new.reserved ≡ self.old.reserved) × (self.new.expired ≡ self.old.expired) × (self.new.held ≡ self.old.held) × (self.new.fresh ≡ self.old.fresh) × (self.new.next_claim ≡ self.old.next_claim) × (self.new.last ≡ self.old.last) × (self.new.cells ≡ self.old.cells) × (self.new.most ≡ self.old.most) }
+        ensures room { OnOk result (vec_len self.new.claims + wanted ≤ vec_capacity self.new.claims) }
+    {
+        self.claims.reserve(wanted)?;
+        Ok(())
+    }
+
+    /// Binds the counter to the cell that was reserved last.
+    pub fn bind_reserved(&mut self, key: SharedCounter)
+        requires reserved { 0 < vec_len self.old.reserved }
+        requires room { vec_len self.old.claims < vec_capacity self.old.claims }
+        requires counter { claims_of key self.old.claims.items ≡ 0 }
+        requires window { key.start ≡ window_start key.name.unit self.old.last }
+        requires ring { FitsRing (unit_rank key.name.unit) (window_end_of key) self.old.rings.items }
+        ensures claims { BindsLast self.old.reserved.items self.new.reserved.items self.old.claims.items self.new.claims.items key self.old.last }
+        ensures rings { KeepsFits (unit_rank key.name.unit) (window_end_of key) self.old.rings.items self.new.rings.items }
+        ensures lens { (vec_len self.new.reserved + 1 ≡ vec_len self.old.reserved) × (vec_len self.new.claims ≡ vec_len self.old.claims + 1) × (vec_capacity self.new.claims ≡ vec_capacity self.old.claims) }
+        ensures same { (self.new.expired ≡ self.old.expired) × (self.new.held ≡ self.old.held) × (self.new.fresh ≡ self.old.fresh) × (self.new.next_claim ≡ self.old.next_claim) × (self.new.last ≡ self.old.last) × (self.new.cells ≡ self.old.cells) × (self.new.most ≡ self.old.most) }
+    {
+        if let Some(spot) = self.reserved.pop() {
+            let end = key.end();
+            let unit = key.ring();
+            self.claims.push_reserved(Claim {
+                key,
+                cell: spot.cell,
+                claim: spot.claim,
+                moment: self.last,
+            });
+            let ring = &mut self.rings[unit];
+            ring.end = end;
+            ring.cells.push_reserved(spot.cell);
+        }
+    }
+
+    /// How many cells have windows that haven't ended.
+    pub fn live(&self) -> u32
+        requires expired { ExpiredBelow 4 self.now.last self.now.rings.items }
+        ensures live { result ≡ live_below self.now.cells self.now.last self.now.claims.items }
+        ensures all { result + vec_len self.now.expired + vec_len self.now.held + vec_len self.now.reserved ≡ self.now.fresh }
+    {
+        let rest = self.expired.len() + self.held.len() + self.reserved.len();
+        self.fresh - rest as u32
+    }
+
+    /// The held cells are tried again.
+    pub fn retry_held(&mut self)
+        requires { vec_len self.old.expired ≡ 0 }
+        ensures same { (self.new.claims ≡ self.old.claims) × (self.new.rings ≡ self.old.rings) × (self.new.reserved ≡ self.old.reserved) × (self.new.fresh ≡ self.old.fresh) × (self.new.next_claim ≡ self.old.next_claim) × (self.new.last ≡ self.old.last) × (self.new.cells ≡ self.old.cells) × (self.new.most ≡ self.old.most) }
+        ensures held { (self.new.expired.items ≡ self.old.held.items) × (self.new.held.items ≡ []) }
+    {
+        std::mem::swap(&mut self.expired, &mut self.held);
+    }
+}

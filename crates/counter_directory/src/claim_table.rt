@@ -1,0 +1,48 @@
+// What lies behind the lock: the claims, where they are found, and the claimer.
+ghost use Rattle.std.specs.Prelude.{◌≡◌, ℕ, ◌-◌, ◌<◌};
+ghost use Rattle.std.specs.HashMap.{get};
+ghost use Rattle.rate_types.specs.Counters.{same_counter};
+ghost use Rattle.counter_directory.specs.Gates.{GatesFit, Indexed};
+
+use crate::cell_pool::CellPool;
+use crate::claim::Claim;
+use crate::counter::SharedCounter;
+use counter_cells::{CellClaimer, CellNaming, Spot};
+use std::collections::HashMap;
+use told_list::Kept;
+
+mod acquire;
+mod bind;
+mod make;
+mod missing;
+mod pin;
+mod reserve;
+
+/// The claims, the index of them, and the claimer of the cells with the name `N`.
+#[derive(Drop)]
+pub struct ClaimTable<N: CellNaming> {
+    pub(crate) pool: CellPool,
+    pub(crate) index: HashMap<SharedCounter, Spot>,
+    pub(crate) claimer: CellClaimer<N>,
+    ghost size: { pool.cells ≡ N.setup.cells },
+    ghost gates: { GatesFit claimer pool.cells pool.last pool.next_claim pool.claims.items pool.reserved.items },
+    ghost found: { Indexed (get same_counter index) pool.claims.items },
+}
+
+impl<N: CellNaming> Kept for ClaimTable<N> {
+    type Item = Claim;
+
+    ghost MOST = { 1099511627776 };
+
+    const MOST: u64 = 1_099_511_627_776;
+
+    ghost Fixed = { ℕ };
+
+    ghost fixed = { λ b. b.pool.most };
+
+    ghost items = { λ b. b.pool.claims.items };
+
+    fn len(&self) -> u64 {
+        self.pool.claims.len() as u64
+    }
+}

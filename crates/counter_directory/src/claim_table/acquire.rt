@@ -1,0 +1,48 @@
+// One call of `acquire` under the lock.
+ghost use Rattle.std.specs.Prelude.{◌≡◌, ◌≤◌, [], length};
+ghost use Rattle.counter_directory.specs.Claims.{last_of};
+ghost use Rattle.counter_directory.specs.Acquired.{Acquires};
+
+use crate::acquired::{AcquireFault, Acquired};
+use crate::claim_table::ClaimTable;
+use crate::keys::keys_at;
+use crate::ticks::tick_up;
+use counter_cells::{CellNaming, CellPass, Cells};
+use rate_types::CounterName;
+use std::sync::Wait;
+
+impl<N: CellNaming> ClaimTable<N> {
+    // Ticks the cell pass, binds the counters of the names at its moment and pins their cells, or says why not.
+    pub(crate) fn acquire<R: Wait>(
+        &mut self,
+        rt: &R,
+        cells: &Cells<N>,
+        cell_pass: &mut CellPass<N>,
+        names: &[CounterName],
+        most_held: usize,
+    ) -> Result<Acquired, AcquireFault>
+        requires cell_pass { cell_pass.old.good ≡ [] }
+        requires names { length names.now ≤ 32 }
+        ensures most { self.new.pool.most ≡ self.old.pool.most }
+        ensures later { last_of 0 self.old.pool.claims.items ≤ cell_pass.new.moment }
+        ensures did { Acquires (record { cells = N.setup.cells; claims = self.old.pool.most; held = most_held }) names.now cell_pass.old (record { claimer = self.old.claimer; claims = self.old.pool.claims.items }) result cell_pass.new (record { claimer = self.new.claimer; claims = self.new.pool.claims.items }) }
+    {
+        let alloc = *self.pool.claims.allocator();
+        let moment = tick_up(rt, cells, cell_pass, self.pool.last);
+        let Ok(keys) = keys_at(alloc, names, moment) else {
+            return Err(AcquireFault::OutOfMemory);
+        };
+        if let Err(fault) = self.bind_missing(
+            rt,
+            alloc,
+            cells,
+            moment,
+            keys.as_slice(),
+            most_held,
+        ) {
+            return Err(fault);
+        }
+        let spots = self.pin_all(rt, cells, cell_pass, keys.as_slice());
+        Ok(Acquired { moment, spots })
+    }
+}

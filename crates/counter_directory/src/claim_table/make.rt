@@ -1,0 +1,28 @@
+ghost use Rattle.std.specs.Prelude.{◌≡◌, ◌≤◌, ◌^◌, [], IfOk, ◌-◌, ◌<◌};
+
+use crate::cell_pool::CellPool;
+use crate::claim_table::ClaimTable;
+use counter_cells::{CellClaimer, CellNaming};
+use rate_types::OutOfMemory;
+use std::alloc::Global;
+use std::collections::HashMap;
+
+impl<N: CellNaming> ClaimTable<N> {
+    /// The table over a claimer that has used no claim.
+    pub(crate) fn make(
+        alloc: Global,
+        claimer: CellClaimer<N>,
+        most: u64,
+    ) -> Result<ClaimTable<N>, OutOfMemory>
+        requires most { most ≤ 2 ^ 40 }
+        requires claimer { claimer.used_claims ≡ [] }
+        ensures { IfOk result (λ b. (b.pool.claims.items ≡ []) × (b.pool.most ≡ most)) }
+    {
+        let pool = CellPool::make(alloc, claimer.cells(), most)?;
+        Ok(ClaimTable {
+            pool,
+            index: HashMap::new(alloc),
+            claimer,
+        })
+    }
+}

@@ -1,0 +1,74 @@
+// How cells are reserved for new claims.
+ghost use Rattle.std.specs.Prelude.{◌≡◌, ◌+◌, ◌-◌, ◌≤◌, ◌<◌, [], max, vec_len, MatchBool};
+ghost use Rattle.counter_directory.specs.Gates.{HeldSince};
+
+use crate::claim_table::ClaimTable;
+use counter_cells::{CellNaming, Cells, Reclaim};
+use std::sync::Wait;
+
+impl<N: CellNaming> ClaimTable<N> {
+    /// Tries the last expired cell.
+    pub(crate) fn try_expired(&mut self, cells: &Cells<N>)
+        requires some { 0 < vec_len self.old.pool.expired }
+        requires room { vec_len self.old.pool.reserved < 32 }
+        requires next_claim { self.old.pool.next_claim < self.old.pool.most }
+        ensures same { (self.new.pool.claims ≡ self.old.pool.claims) × (self.new.pool.rings ≡ self.old.pool.rings) × (self.new.pool.last ≡ self.old.pool.last) × (self.new.pool.most ≡ self.old.pool.most) × (self.new.pool.fresh ≡ self.old.pool.fresh) × (self.new.index ≡ self.old.index) }
+        ensures less { vec_len self.new.pool.expired + 1 ≡ vec_len self.old.pool.expired }
+        ensures one { vec_len self.new.pool.reserved + vec_len self.new.pool.held ≡ vec_len self.old.pool.reserved + vec_len self.old.pool.held + 1 }
+        ensures none_less { (vec_len self.old.pool.reserved ≤ vec_len self.new.pool.reserved) × (vec_len self.old.pool.held ≤ vec_len self.new.pool.held) }
+        ensures held { HeldSince self.old.claimer self.new.claimer self.old.pool.held.items self.new.pool.held.items }
+    {
+        let cell = self.pool.expired[self.pool.expired.len() - 1];
+        match cells.reclaim(&mut self.claimer, cell, self.pool.next_claim) {
+            Reclaim::Claimed => self.pool.reserve_expired(),
+            Reclaim::Held { pins: _ } => self.pool.hold_expired(),
+        }
+    }
+
+    /// Tries the first cell that was never taken.
+    pub(crate) fn try_fresh(&mut self, cells: &Cells<N>)
+        requires some { self.old.pool.fresh < self.old.pool.cells }
+        requires room { vec_len self.old.pool.reserved < 32 }
+        requires next_claim { self.old.pool.next_claim < self.old.pool.most }
+        ensures same { (self.new.pool.claims ≡ self.old.pool.claims) × (self.new.pool.rings ≡ self.old.pool.rings) × (self.new.pool.last ≡ self.old.pool.last) × (self.new.pool.most ≡ self.old.pool.most) × (self.new.pool.expired ≡ self.old.pool.expired) × (self.new.pool.held ≡ self.old.pool.held) × (self.new.index ≡ self.old.index) }
+        ensures lens { (vec_len self.old.pool.reserved ≤ vec_len self.new.pool.reserved) × (vec_len self.new.pool.reserved ≤ vec_len self.old.pool.reserved + 1) }
+        ensures held { HeldSince self.old.claimer self.new.claimer self.old.pool.held.items self.new.pool.held.items }
+    {
+        match cells.reclaim(&mut self.claimer, self.pool.fresh, self.pool.next_claim) {
+            Reclaim::Claimed => self.pool.reserve_fresh(),
+            Reclaim::Held { pins: _ } => {}
+        }
+    }
+
+    /// Reserves cells until there are as many as are wanted. False where no cell is left to try; then few are held.
+    pub(crate) fn reserve_cells<R: Wait>(
+        &mut self,
+        rt: &R,
+        cells: &Cells<N>,
+        wanted: usize,
+        most_held: usize,
+    ) -> bool
+        requires few { wanted ≤ 32 }
+        requires claims { vec_len self.old.pool.claims + wanted ≤ self.old.pool.most }
+        requires held { self.old.pool.held.items ≡ [] }
+        ensures same { (self.new.pool.claims ≡ self.old.pool.claims) × (self.new.pool.rings ≡ self.old.pool.rings) × (self.new.pool.last ≡ self.old.pool.last) × (self.new.pool.most ≡ self.old.pool.most) × (self.new.index ≡ self.old.index) }
+        ensures reserved { MatchBool result ((wanted ≤ vec_len self.new.pool.reserved) × (vec_len self.new.pool.reserved ≡ max (vec_len self.old.pool.reserved) wanted)) ((vec_len self.new.pool.reserved < wanted) × (vec_len self.new.pool.expired ≡ 0) × (self.new.pool.cells ≤ self.new.pool.fresh) × (vec_len self.new.pool.held ≤ most_held)) }
+        ensures held { HeldSince self.old.claimer self.new.claimer [] self.new.pool.held.items }
+    {
+        for _round in rt.forever() {
+            if self.pool.reserved.len() >= wanted {
+                return true;
+            }
+            if !self.pool.expired.is_empty() {
+                self.try_expired(cells);
+            } else if self.pool.fresh < self.pool.cells {
+                self.try_fresh(cells);
+            } else if self.pool.held.len() <= most_held {
+                return false;
+            } else {
+                self.pool.retry_held();
+            }
+        }
+        unreachable!()
+    }
+}
