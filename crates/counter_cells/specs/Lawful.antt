@@ -4,6 +4,7 @@ use Rattle.std.specs.List.{AllByRecursion}
 use mathlib.Core.Option.{some}
 use lib.ListN.{get_elem?}
 use Rattle.atomic_table.specs.Table.{State}
+use Rattle.rate_types.specs.declared.limits.TheConstants.{MOST_PASSES, MOST_PINS, MOST_CLAIM_NUMBERS, LATEST_MOMENT}
 use Rattle.rate_types.specs.Ledger.{IsLawfulLedger, IsLawfulSight, charged_total}
 use Rattle.counter_cells.specs.declared.view.Tick.{Tick}
 use Rattle.counter_cells.specs.declared.view.Cell.{Cell}
@@ -63,14 +64,14 @@ pub record TicksFit (start clock : ℕ) (others : ℕ → ℕ → ℕ) (v : Cell
 pub record ClockIsGreatestOffer (a : Setup) (clock : ℕ) (views : List CellView) : Type 0 where
   pub least : a.start ≤ clock
   pub top : (clock ≡ a.start) ⊎ (1 ≤ total (offers clock) views)
-  pub most : clock ≤ 1000000000000
+  pub most : clock ≤ LATEST_MOMENT
   pub each : EachView views (TicksFit a.start clock (λ i m. total (other_offers i m) views))
   pub numbers : (i : ℕ) → total (λ v. times i v.numbers + one_if (nat_lt i v.unmade)) views ≤ one_if (nat_lt i a.passes)
 
 -- 2. The pins that a gate shows are the pins on its cell in all views. A pass has at most 32 pins, a view that is of no pass has none
 pub record PinsAreCounted (r : Register) (gate : ℕ → ℕ) (views : List CellView) : Type 0 where
   pub words : EachCell r (λ k c. gate k ≡ gate_word c.claim (one_if c.is_open) (total (pins_on k) views))
-  pub few : EachView views (λ v. (pins_of v ≤ 32) × (pins_of v ≤ 32 * length v.numbers))
+  pub few : EachView views (λ v. (pins_of v ≤ MOST_PINS) × (pins_of v ≤ MOST_PINS * length v.numbers))
 
 -- 3. Under a good pin the gate is open with the pin's claim. There is at most one unused look a cell, under a good pin
 pub record GoodPinsHold (r : Register) (views : List CellView) : Type 0 where
@@ -83,7 +84,7 @@ pub record GoodPinsHold (r : Register) (views : List CellView) : Type 0 where
 pub record ClaimsAreUsedOnce (r : Register) (views : List CellView) : Type 0 where
   pub apart : (j k : ℕ) (c d : Cell) → get_elem? r.cells j ≡ some c → get_elem? r.cells k ≡ some d → c.ever ≡ true → d.ever ≡ true → c.claim ≡ d.claim → j ≡ k
   pub used_claims : EachCell r (λ k c. c.ever ≡ true → 1 ≤ times c.claim r.used_claims)
-  pub small : EachCell r (λ k c. c.claim < 2 ^ 40)
+  pub small : EachCell r (λ k c. c.claim < MOST_CLAIM_NUMBERS)
   pub never : EachCell r (λ k c. c.ever ≡ false → (c.is_open ≡ false) × (c.claim ≡ 0))
   pub pinned : EachView views (λ v. (k claim : ℕ) → 1 ≤ good_at k claim v → 1 ≤ pair_at k claim v)
   pub past : EachView views (λ v. (k claim : ℕ) → 1 ≤ pair_at k claim v → (1 ≤ times claim r.used_claims) × WasTaken r k)
@@ -113,7 +114,7 @@ HasHeadroom a r count views = EachCell r (λ k c. count k + most_hits * total (s
 pub record SeatsAreCounted (a : Setup) (views : List CellView) : Type 0 where
   pub claimer : total (λ v. one_if v.claimer) views ≡ 1
   pub passes : total (λ v. length v.numbers + v.unmade) views ≡ a.passes
-  pub few : a.passes ≤ 1024
+  pub few : a.passes ≤ MOST_PASSES
   pub idle : EachView views (λ v. v.claimer ≡ false → length v.numbers ≡ 0 → (v.charges ≡ []) × (v.looks ≡ []))
 
 -- the seven parts together

@@ -1,6 +1,7 @@
 -- What is counted in a view.
 use Rattle.std.specs.Prelude.{◌≡◌, ℕ, ◌+◌, ◌≤◌, ◌==◌, ◌&&◌, nat_lt, Bool, Option, Some, None, List, [], ◌∷◌, length, if◌then◌else◌, slice_index_or, false}
 use Rattle.std.specs.List.{AllByRecursion}
+use Rattle.rate_types.specs.declared.limits.TheConstants.{MOST_HITS}
 use Rattle.counter_cells.specs.declared.view.Tick.{Tick}
 use Rattle.counter_cells.specs.declared.view.Charge.{Charge}
 use Rattle.counter_cells.specs.declared.view.Cell.{Cell}
@@ -9,7 +10,7 @@ use Rattle.counter_cells.specs.Sums.{total, one_if}
 
 -- the most hits of one charge
 abbrev pub most_hits : ℕ
-most_hits = 4294967295
+most_hits = MOST_HITS
 
 -- a pair of a cell and a claim is this one
 abbrev pub is_pair : ℕ → ℕ → ℕ × ℕ → Bool
@@ -39,7 +40,7 @@ abbrev pub unused_on : ℕ → CellView → ℕ
 unused_on cell v = total (λ p. one_if (p.0 == cell)) v.unused
 
 abbrev pub small_on : ℕ → CellView → ℕ
-small_on cell v = total (λ p. if p.0 == cell then one_if (nat_lt p.1 4294967296) else 0) v.unused
+small_on cell v = total (λ p. if p.0 == cell then one_if (nat_lt p.1 (MOST_HITS + 1)) else 0) v.unused
 
 -- the pairs (cell, claim) under which the view has or had a good pin: of this cell and claim, and of this claim
 abbrev pub pair_at : ℕ → ℕ → CellView → ℕ

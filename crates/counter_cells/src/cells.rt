@@ -1,4 +1,5 @@
 ghost use Rattle.std.specs.Prelude.{◌≡◌, ℕ, ◌*◌, ◌≤◌, ◌<◌, ◌^◌, length, true, false, []};
+ghost use Rattle.rate_types.specs.declared.limits.TheConstants.{MOST_CELLS, MOST_CLAIM_NUMBERS, MOST_PINS};
 ghost use Rattle.counter_cells.specs.Sums.{times};
 ghost use Rattle.counter_cells.specs.WordIndex.{words_of};
 ghost use Rattle.counter_cells.specs.Views.{most_hits, good_on, small_on, claim_on, cell_or, Capped};
@@ -27,14 +28,14 @@ pub struct Cells<N: CellNaming> {
     pub(crate) count: u32,
     pub(crate) of: PhantomData<N>,
     ghost named: { (table.shared.table_id ≡ N.table) × (table.shared.key ≡ N.setup) },
-    ghost size: { (count ≡ N.setup.cells) × (count ≤ 1048576) },
+    ghost size: { (count ≡ N.setup.cells) × (count ≤ MOST_CELLS) },
     ghost words: { (table.shared.table_id.words ≡ words_of count) × (table.shared.table_id.slots ≡ 0) },
 }
 
 impl<N: CellNaming> Cells<N> {
     pub(crate) fn new(table: CellTable, count: u32) -> Cells<N>
         requires named { (table.shared.table_id ≡ N.table) × (table.shared.key ≡ N.setup) }
-        requires size { (count ≡ N.setup.cells) × (count ≤ 1048576) }
+        requires size { (count ≡ N.setup.cells) × (count ≤ MOST_CELLS) }
         requires words { (table.shared.table_id.words ≡ words_of count) × (table.shared.table_id.slots ≡ 0) }
     {
         Cells {
@@ -61,7 +62,7 @@ impl<N: CellNaming> Cells<N> {
     fn take_pin<A: Asked>(&self, seat: &mut CellSeat, spot: Spot) -> u64
         requires seat { IsBareSeatOf N.table seat.old × (length seat.old.me.0.numbers ≡ 1) × (seat.old.me.0.stray ≡ []) }
         requires cell { spot.cell < N.setup.cells }
-        requires room { length seat.old.me.0.good < 32 }
+        requires room { length seat.old.me.0.good < MOST_PINS }
         requires asked { A.claim ≡ spot.claim }
         ensures seat { IsBareSeatOf N.table seat.new }
         ensures pinned { seat.new.me.0 ≡ pinned spot.claim spot.cell result seat.old.me.0 }
@@ -75,7 +76,7 @@ impl<N: CellNaming> Cells<N> {
     /// No pin is held then.
     pub fn pin(&self, pass: &mut CellPass<N>, spot: Spot) -> Pin
         requires cell { spot.cell < N.setup.cells }
-        requires room { length pass.old.good < 32 }
+        requires room { length pass.old.good < MOST_PINS }
         ensures pin { MatchPin result (pass.new ≡ good_pin spot.cell spot.claim pass.old) (λ claim is_open. (pass.new ≡ missed spot.cell claim is_open pass.old) × IsOther spot.claim claim is_open) }
         ensures held { result ≡ Pinned → 1 ≤ good_on spot.cell pass.new }
     {
@@ -134,7 +135,7 @@ impl<N: CellNaming> Cells<N> {
     /// `Held` comes exactly where the gate read shows pins.
     pub fn reclaim(&self, claimer: &mut CellClaimer<N>, cell: u32, next: u64) -> Reclaim
         requires cell { cell < N.setup.cells }
-        requires next { (next < 2 ^ 40) × (times next claimer.old.used_claims ≡ 0) }
+        requires next { (next < MOST_CLAIM_NUMBERS) × (times next claimer.old.used_claims ≡ 0) }
         ensures taken { result ≡ Claimed → cell_or claimer.new.cells cell ≡ taken_cell next }
         ensures reclaim { MatchReclaim result (claimer.new ≡ claimed_by cell next claimer.old) (λ pins. (claimer.new ≡ held_by cell pins claimer.old) × (1 ≤ pins)) }
     {

@@ -3,6 +3,7 @@ ghost use Rattle.counter_cells.specs.Seats.{IsClaimer, IsBareSeatOf};
 
 use crate::naming::CellNaming;
 use crate::rule::CellSeat;
+use rate_types::limits::MOST_CELLS;
 use std::marker::{Model, PhantomData};
 
 /// The right to take cells under new claims. There is one for all cells of a table. Contracts see it as what it knows.
@@ -14,6 +15,7 @@ pub struct CellClaimer<N: CellNaming> {
 }
 
 impl<N: CellNaming> Model for CellClaimer<N> {
+    ghost use Rattle.rate_types.specs.declared.limits.TheConstants.{MOST_CELLS};
     ghost use Rattle.counter_cells.specs.declared.view.CellView.{CellView};
 
     ghost Value = { CellView };
@@ -23,13 +25,13 @@ impl<N: CellNaming> Model for CellClaimer<N> {
 
     ghost view = { λ c. c.seat.me.0 };
 
-    ghost invariant = { λ c. IsBareSeatOf N.table c.seat × IsClaimer N.setup c.seat.me.0 × (c.cells ≡ N.setup.cells) × (c.cells ≤ 1048576) };
+    ghost invariant = { λ c. IsBareSeatOf N.table c.seat × IsClaimer N.setup c.seat.me.0 × (c.cells ≡ N.setup.cells) × (c.cells ≤ MOST_CELLS) };
 }
 
 impl<N: CellNaming> CellClaimer<N> {
     pub(crate) fn new(seat: CellSeat, cells: u32) -> CellClaimer<N>
         requires seat { IsBareSeatOf N.table seat × IsClaimer N.setup seat.me.0 }
-        requires cells { (cells ≡ N.setup.cells) × (cells ≤ 1048576) }
+        requires cells { (cells ≡ N.setup.cells) × (cells ≤ MOST_CELLS) }
         ensures { result ≡ seat.me.0 }
     {
         CellClaimer {
@@ -41,7 +43,7 @@ impl<N: CellNaming> CellClaimer<N> {
 
     /// How many cells there are: 1 to 1,048,576.
     pub fn cells(&self) -> u32
-        ensures cells { (result ≡ N.setup.cells) × (result ≤ 1048576) }
+        ensures cells { (result ≡ N.setup.cells) × (result ≤ MOST_CELLS) }
         ensures view { (length self.now.cells ≡ result) × (self.now.claimer ≡ true) }
     {
         self.cells

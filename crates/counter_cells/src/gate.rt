@@ -2,6 +2,8 @@
 ghost use Rattle.std.specs.Prelude.{◌≡◌, ◌*◌, ◌^◌, ◌<◌, ◌==◌};
 ghost use Rattle.counter_cells.specs.Gates.{gate_word, claim_shown, bit_shown, pins_shown, shows};
 
+use rate_types::limits::MOST_CLAIM_NUMBERS;
+
 /// One pin.
 pub(crate) const PIN: u64 = 2;
 
@@ -10,7 +12,7 @@ pub(crate) const OPEN: u64 = 1;
 
 /// The word of a closed gate without pins.
 pub(crate) fn closed(claim: u64) -> u64
-    requires { claim < 2 ^ 40 }
+    requires { claim < MOST_CLAIM_NUMBERS }
     ensures { result ≡ gate_word claim 0 0 }
 {
     claim * 131_072

@@ -1,4 +1,5 @@
 ghost use Rattle.std.specs.Prelude.{◌≡◌, ℕ, ◌+◌, ◌-◌, ◌*◌, ◌≤◌, ◌<◌, ◌++◌, [], IfOk, vec_len, vec_capacity};
+ghost use Rattle.rate_types.specs.declared.limits.TheConstants.{LATEST_MOMENT, MOST_CELLS, MOST_PASSES};
 ghost use Rattle.counter_cells.specs.WordIndex.{words_of, first_words};
 ghost use Rattle.counter_cells.specs.Steps.{first_claimer, claimer_left, fresh_pass, new_passes};
 
@@ -23,15 +24,15 @@ pub struct OpenedCells {
     start: Seconds,
     ghost seat: { (claimer.table_id ≡ table.shared.table_id) × (claimer.me ≡ (first_claimer table.shared.key, [])) },
     ghost setup: { table.shared.key ≡ record { cells = cells; passes = passes; start = start } },
-    ghost sizes: { (cells ≤ 1048576) × (passes ≤ 1024) },
+    ghost sizes: { (cells ≤ MOST_CELLS) × (passes ≤ MOST_PASSES) },
     ghost words: { (table.shared.table_id.words ≡ words_of cells) × (table.shared.table_id.slots ≡ 0) },
 }
 
 // The clock, and gates and counts of 0.
 fn words(alloc: Global, cells: u32, start: Seconds) -> Result<Vec<u64>, OutOfMemory>
-    requires { cells ≤ 1048576 }
+    requires { cells ≤ MOST_CELLS }
     ensures words { IfOk result (λ v. v.items ≡ first_words cells start) }
-    ensures bound { IfOk result (λ _. start ≤ 1000000000000) }
+    ensures bound { IfOk result (λ _. start ≤ LATEST_MOMENT) }
 {
     let mut words = Vec::new(alloc);
     words.push(start.get())?;
@@ -91,8 +92,8 @@ impl OpenedCells {
         passes: u32,
         start: Seconds,
     ) -> Result<OpenedCells, OutOfMemory>
-        requires cells { (1 ≤ cells) × (cells ≤ 1048576) }
-        requires passes { (1 ≤ passes) × (passes ≤ 1024) }
+        requires cells { (1 ≤ cells) × (cells ≤ MOST_CELLS) }
+        requires passes { (1 ≤ passes) × (passes ≤ MOST_PASSES) }
         ensures { IfOk result (λ o. setup_of o ≡ record { cells = cells; passes = passes; start = start }) }
     {
         let setup = Setup {

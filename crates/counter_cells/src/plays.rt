@@ -7,10 +7,11 @@ use std::marker::{Brand, PhantomData};
 pub(crate) struct Ticks;
 
 impl Play<u8, CellView> for Ticks {
+    ghost use Rattle.rate_types.specs.declared.limits.TheConstants.{LATEST_MOMENT};
     ghost use Rattle.std.specs.Prelude.{◌≡◌, ◌≤◌, max};
     ghost use Rattle.counter_cells.specs.Steps.{ticked};
 
-    ghost then = { λ s v n w. (w.0 ≡ ticked (max n s.first) s.first v.0) × (w.1 ≡ v.1) × (v.0.moment ≤ n) × (n ≤ 1000000000000) };
+    ghost then = { λ s v n w. (w.0 ≡ ticked (max n s.first) s.first v.0) × (w.1 ≡ v.1) × (v.0.moment ≤ n) × (n ≤ LATEST_MOMENT) };
 }
 
 /// The claim that a pin asks for.

@@ -10,6 +10,10 @@ pub const MOST_CELLS: u32 = 1_048_576;
 pub const DEFAULT_CELLS: u32 = 262_144;
 /// The most claims of a run.
 pub const MOST_CLAIMS: u64 = 33_554_432;
+/// The most claims that are ever made on the cells of a table. Their numbers are below it.
+pub const MOST_CLAIM_NUMBERS: u64 = 1_099_511_627_776;
+/// The most hits of one charge.
+pub const MOST_HITS: u32 = 4_294_967_295;
 /// The most configuration versions of a run.
 pub const MOST_VERSIONS: u32 = 1_048_576;
 /// The most workers.

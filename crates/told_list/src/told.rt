@@ -1,5 +1,6 @@
 ghost use Rattle.std.specs.Prelude.{◌≡◌, ◌≤◌, ◌<◌, ◌+◌, ℕ, List, [], ◌++◌, length, false, All, IfOk, MatchOption, vec_len};
 
+use rate_types::limits::MOST_PASSES;
 use crate::act::Act;
 use crate::kept::Kept;
 use crate::rule::{AWAITED, LENGTH, ListRule, Loads, Setup, TokenView};
@@ -36,7 +37,7 @@ impl<K: Kept + Drop> Told<K> {
         kept: K,
         seats: u32,
     ) -> Result<(Told<K>, Vec<Seen<K, K::Item>>), OutOfMemory>
-        requires seats { (1 ≤ seats) × (seats ≤ 1024) }
+        requires seats { (1 ≤ seats) × (seats ≤ MOST_PASSES) }
         ensures told { IfOk result (λ r. (first_value r.0 ≡ kept) × (tokens r.0 ≡ seats)) }
         ensures count { IfOk result (λ r. vec_len r.1 ≡ seats) }
         ensures tokens { IfOk result (λ r. All (λ s. (list_of s ≡ list_id r.0) × IsFresh (K.items kept) (view s)) r.1.items) }
