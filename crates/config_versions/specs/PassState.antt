@@ -1,11 +1,8 @@
 -- What a call on the versions does with a pass.
 use Rattle.std.specs.Prelude.{◌≡◌, ℕ, ◌+◌, ◌<◌, ◌≤◌, List, [], ◌∷◌, ◌++◌, length, slice_get, Some}
 use mathlib.Core.List.{IsPrefix}
+use Rattle.rate_types.specs.declared.limits.TheConstants.{MOST_VERSIONS}
 use Rattle.told_list.specs.declared.rule.TokenView.{TokenView}
-
--- how many versions there are at most
-abbrev pub most_versions : ℕ
-most_versions = 1048576
 
 -- the state of a pass: the number of its version, that version, and what its token knows
 pub record PassState (I : Type 0) : Type 0 where
@@ -39,7 +36,7 @@ module _ {I : Type 0} where
     pub found : List I
     pub turn : HasFound found s t
     pub place : number ≡ length found
-    pub room : number < most_versions
+    pub room : number < MOST_VERSIONS
     pub known : t.view.known ≡ found ++ next ∷ []
     pub own : t.view.own ≡ s.view.own ++ number ∷ []
     pub version : t.version ≡ number
@@ -64,7 +61,7 @@ module _ {I : Type 0} where
   -- one load, and nothing else changed
   pub record HasLoaded (s t : PassState I) : Type 0 where
     pub loads : t.view.loads ≡ s.view.loads + 1
-    pub shown : (s.version < t.view.shown) × (length s.view.known ≤ t.view.shown) × (t.view.shown ≤ most_versions)
+    pub shown : (s.version < t.view.shown) × (length s.view.known ≤ t.view.shown) × (t.view.shown ≤ MOST_VERSIONS)
     pub known : t.view.known ≡ s.view.known
     pub own : t.view.own ≡ s.view.own
     pub version : t.version ≡ s.version

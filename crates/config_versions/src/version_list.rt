@@ -1,31 +1,31 @@
 ghost use Rattle.std.specs.Prelude.{◌≤◌, vec_len};
+ghost use Rattle.rate_types.specs.declared.limits.TheConstants.{MOST_VERSIONS};
 
 use crate::install::Installed;
 use crate::refresh::Refreshed;
+use rate_types::limits::MOST_VERSIONS;
 use std::alloc::{AllocError, Global};
 use std::sync::Arc;
 use told_list::Kept;
-
-/// How many versions there are at most.
-pub const MOST: u32 = 1_048_576;
 
 /// The versions, in the order in which they were installed.
 #[derive(Drop)]
 pub struct VersionList<I> {
     pub versions: Vec<Arc<I>>,
     ghost some: { 1 ≤ vec_len versions },
-    ghost few: { vec_len versions ≤ 1048576 },
+    ghost few: { vec_len versions ≤ MOST_VERSIONS },
 }
 
 impl<I> Kept for VersionList<I> {
+    ghost use Rattle.rate_types.specs.declared.limits.TheConstants.{MOST_VERSIONS};
     ghost use Rattle.std.specs.Prelude.{map};
     ghost use Rattle.std.specs.Arc.{arc_value};
 
     type Item = I;
 
-    ghost MOST = { 1048576 };
+    ghost MOST = { MOST_VERSIONS };
 
-    const MOST: u64 = MOST as u64;
+    const MOST: u64 = MOST_VERSIONS as u64;
 
     ghost Fixed = { Unit {0} };
 
@@ -67,7 +67,7 @@ impl<I: Drop> VersionList<I> {
         ensures { Installs (arc_value next.now) (map arc_value self.old.versions.items) result (map arc_value self.new.versions.items) }
     {
         let number = self.versions.len();
-        if number >= MOST as usize {
+        if number >= MOST_VERSIONS as usize {
             return match self.copy(number - 1) {
                 Ok(newest) => Installed::Full(newest),
                 Err(_) => Installed::OutOfMemory,

@@ -1,5 +1,6 @@
 ghost use Rattle.std.specs.Prelude.{◌≡◌, length, map};
 ghost use Rattle.std.specs.Arc.{arc_value};
+ghost use Rattle.rate_types.specs.declared.limits.TheConstants.{MOST_PASSES};
 ghost use Rattle.told_list.specs.Tokens.{first_value};
 
 use crate::fault::InstallFault;
@@ -7,8 +8,9 @@ use crate::install::{Install, Installed};
 use crate::pass::VersionPass;
 use crate::passes::{passes_of, tokens_of};
 use crate::refresh::{Refresh, Refreshed};
-use crate::version_list::{MOST, VersionList};
+use crate::version_list::VersionList;
 use rate_types::OutOfMemory;
+use rate_types::limits::MOST_VERSIONS;
 use std::alloc::Global;
 use std::sync::{Arc, Wait};
 use told_list::Told;
@@ -34,7 +36,7 @@ impl<I: Drop> Versions<I> {
         first: Arc<I>,
         passes: u32,
     ) -> Result<(Versions<I>, Vec<VersionPass<I>>), OutOfMemory>
-        requires passes { (1 ≤ passes) × (passes ≤ 1024) }
+        requires passes { (1 ≤ passes) × (passes ≤ MOST_PASSES) }
         ensures count { IfOk result (λ r. (pass_count r.0 ≡ passes) × (vec_len r.1 ≡ passes)) }
         ensures first { IfOk result (λ r. All (λ p. IsPassOf r.0 p × IsFirst (arc_value first) (pass_state p)) r.1.items) }
     {
@@ -66,9 +68,11 @@ impl<I: Drop> Versions<I> {
                 Ok(number)
             }
             Installed::Full(newest) => {
-                pass.version = MOST - 1;
+                pass.version = MOST_VERSIONS - 1;
                 pass.index = newest;
-                Err(InstallFault::VersionsFull { versions: MOST })
+                Err(InstallFault::VersionsFull {
+                    versions: MOST_VERSIONS,
+                })
             }
             Installed::OutOfMemory => Err(InstallFault::OutOfMemory),
         }

@@ -12,39 +12,11 @@ use crate::naming::CellNaming;
 use crate::pass::CellPass;
 use crate::rule::{CellSeat, CellTable, Passes};
 use crate::word_index;
-use rate_types::{OutOfMemory, Seconds};
+use rate_types::{Items, OutOfMemory, Seconds};
 use std::alloc::Global;
-use std::marker::Model;
 
 /// One count for each cell. Contracts see it as the list of the counts.
-#[derive(Drop)]
-pub struct Counts {
-    items: Vec<u64>,
-}
-
-impl Model for Counts {
-    ghost use Rattle.std.specs.Prelude.{ℕ, List};
-
-    ghost Value = { List ℕ };
-
-    ghost view = { λ c. c.items.items };
-}
-
-impl Counts {
-    /// The counts of these items, in order.
-    pub fn of(items: Vec<u64>) -> Counts
-        ensures { result ≡ items.items }
-    {
-        Counts { items }
-    }
-
-    /// The counts, in order.
-    pub fn items(&self) -> &[u64]
-        ensures { result.now ≡ self.now }
-    {
-        self.items.as_slice()
-    }
-}
+pub type Counts = Items<u64>;
 
 /// What is left of cells that are closed.
 #[derive(Drop)]

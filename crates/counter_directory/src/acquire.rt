@@ -20,13 +20,14 @@ pub(crate) struct Acquire<'a, N: CellNaming, R: Wait> {
 }
 
 impl<'a, N: CellNaming, R: Wait> Act<ClaimTable<N>> for Acquire<'a, N, R> {
+    ghost use Rattle.rate_types.specs.declared.limits.TheConstants.{MOST_PINS};
     ghost use Rattle.std.specs.Prelude.{◌≡◌, ◌≤◌, [], length};
     ghost use Rattle.counter_directory.specs.Claims.{IsLawfulClaims, last_of};
     ghost use Rattle.counter_directory.specs.Acquired.{Acquires};
 
     type Out = Result<Acquired, AcquireFault>;
 
-    ghost ready = { λ p _. (p.cell_pass.now.good ≡ []) × (length p.names.now ≤ 32) };
+    ghost ready = { λ p _. (p.cell_pass.now.good ≡ []) × (length p.names.now ≤ MOST_PINS) };
 
     ghost did = { λ p b r q c. (q.cell_pass.ghost_name ≡ p.cell_pass.ghost_name) × Acquires (record { cells = N.setup.cells; claims = b.pool.most; held = p.most_held }) p.names.now p.cell_pass.now (record { claimer = b.claimer; claims = b.pool.claims.items }) r q.cell_pass.now (record { claimer = c.claimer; claims = c.pool.claims.items }) × IsLawfulClaims N.setup.cells c.pool.most c.pool.claims.items × (last_of 0 b.pool.claims.items ≤ q.cell_pass.now.moment) };
 

@@ -1,5 +1,6 @@
 // The claims, and the pool of cells.
 ghost use Rattle.std.specs.Prelude.{◌≡◌, ℕ, ◌+◌, ◌-◌, ◌≤◌, ◌<◌, ◌^◌, ◌++◌, ◌∷◌, [], vec_len, vec_capacity, OnOk, IfOk};
+ghost use Rattle.rate_types.specs.declared.limits.TheConstants.{MOST_CELLS, MOST_CLAIM_NUMBERS, MOST_PINS};
 ghost use Rattle.rate_types.specs.Units.{unit_rank};
 ghost use Rattle.window_keys.specs.Window.{window_start};
 ghost use Rattle.window_keys.specs.Counter.{window_end_of};
@@ -11,11 +12,9 @@ use crate::claim::Claim;
 use crate::counter::SharedCounter;
 use crate::ring::{Ring, rings};
 use counter_cells::Spot;
+use rate_types::limits::MOST_PINS;
 use rate_types::{OutOfMemory, Seconds};
 use std::alloc::Global;
-
-/// The most cells that may be reserved: as many as one call has names.
-pub(crate) const MOST_RESERVED: usize = 32;
 
 /// The claims, and the pool of cells. Each cell that was ever taken is in exactly one list: in a ring, or expired, held or
 /// reserved.
@@ -45,21 +44,23 @@ pub(crate) struct CellPool {
     pub ghost four: { vec_len rings ≡ 4 },
     pub ghost next_claim_is: { next_claim ≡ vec_len claims + vec_len reserved },
     pub ghost few: { next_claim ≤ most },
-    pub ghost room: { (cells ≤ vec_capacity expired) × (cells ≤ vec_capacity held) × (32 ≤ vec_capacity reserved) × AreRoomy cells rings.items },
+    pub ghost room: { (cells ≤ vec_capacity expired) × (cells ≤ vec_capacity held) × (MOST_PINS ≤ vec_capacity reserved) × AreRoomy cells rings.items },
     pub ghost windows: { RingWindows last rings.items },
-    pub ghost sizes: { (cells ≤ 1048576) × (most ≤ 2 ^ 40) },
+    pub ghost sizes: { (cells ≤ MOST_CELLS) × (most ≤ MOST_CLAIM_NUMBERS) },
 }
 
 impl CellPool {
+    ghost use Rattle.counter_directory.specs.Keeps.{KeepsClaims, KeepsNumbers};
+
     /// No claim, and no cell taken.
     pub fn make(alloc: Global, cells: u32, most: u64) -> Result<CellPool, OutOfMemory>
-        requires { (cells ≤ 1048576) × (most ≤ 2 ^ 40) }
+        requires { (cells ≤ MOST_CELLS) × (most ≤ MOST_CLAIM_NUMBERS) }
         ensures { IfOk result (λ s. (s.cells ≡ cells) × (s.most ≡ most) × (s.next_claim ≡ 0) × (s.claims.items ≡ []) × (s.reserved.items ≡ [])) }
     {
         let rings = rings(alloc, cells)?;
         let expired = Vec::with_capacity(alloc, cells as usize)?;
         let held = Vec::with_capacity(alloc, cells as usize)?;
-        let reserved = Vec::with_capacity(alloc, MOST_RESERVED)?;
+        let reserved = Vec::with_capacity(alloc, MOST_PINS as usize)?;
         Ok(CellPool {
             claims: Vec::new(alloc),
             rings,
@@ -77,9 +78,10 @@ impl CellPool {
     /// Reserves the last expired cell under the number of the next claim.
     pub fn reserve_expired(&mut self)
         requires some { 0 < vec_len self.old.expired }
-        requires room { vec_len self.old.reserved < 32 }
+        requires room { vec_len self.old.reserved < MOST_PINS }
         requires next_claim { self.old.next_claim < self.old.most }
-        ensures same { (self.new.claims ≡ self.old.claims) × (self.new.rings ≡ self.old.rings) × (self.new.held ≡ self.old.held) × (self.new.fresh ≡ self.old.fresh) × (self.new.last ≡ self.old.last) × (self.new.cells ≡ self.old.cells) × (self.new.most ≡ self.old.most) }
+        ensures keeps { KeepsClaims self.old self.new }
+        ensures same { (self.new.held ≡ self.old.held) × (self.new.fresh ≡ self.old.fresh) }
         ensures reserved { (k : ℕ) × (self.old.expired.items ≡ self.new.expired.items ++ k ∷ []) × (self.new.reserved.items ≡ self.old.reserved.items ++ spot k self.old.next_claim ∷ []) }
         ensures next_claim { self.new.next_claim ≡ self.old.next_claim + 1 }
         ensures lens { (vec_len self.new.reserved ≡ vec_len self.old.reserved + 1) × (vec_len self.new.expired + 1 ≡ vec_len self.old.expired) }
@@ -96,7 +98,9 @@ impl CellPool {
     /// The last expired cell was found pinned.
     pub fn hold_expired(&mut self)
         requires some { 0 < vec_len self.old.expired }
-        ensures same { (self.new.claims ≡ self.old.claims) × (self.new.rings ≡ self.old.rings) × (self.new.reserved ≡ self.old.reserved) × (self.new.fresh ≡ self.old.fresh) × (self.new.next_claim ≡ self.old.next_claim) × (self.new.last ≡ self.old.last) × (self.new.cells ≡ self.old.cells) × (self.new.most ≡ self.old.most) }
+        ensures keeps { KeepsClaims self.old self.new }
+        ensures numbers { KeepsNumbers self.old self.new }
+        ensures same { self.new.reserved ≡ self.old.reserved }
         ensures held { (k : ℕ) × (self.old.expired.items ≡ self.new.expired.items ++ k ∷ []) × (self.new.held.items ≡ self.old.held.items ++ k ∷ []) }
         ensures lens { (vec_len self.new.held ≡ vec_len self.old.held + 1) × (vec_len self.new.expired + 1 ≡ vec_len self.old.expired) }
     {
@@ -108,9 +112,10 @@ impl CellPool {
     /// Reserves the first cell that was never taken, under the number of the next claim.
     pub fn reserve_fresh(&mut self)
         requires some { self.old.fresh < self.old.cells }
-        requires room { vec_len self.old.reserved < 32 }
+        requires room { vec_len self.old.reserved < MOST_PINS }
         requires next_claim { self.old.next_claim < self.old.most }
-        ensures same { (self.new.claims ≡ self.old.claims) × (self.new.rings ≡ self.old.rings) × (self.new.expired ≡ self.old.expired) × (self.new.held ≡ self.old.held) × (self.new.fresh ≡ self.old.fresh + 1) × (self.new.last ≡ self.old.last) × (self.new.cells ≡ self.old.cells) × (self.new.most ≡ self.old.most) }
+        ensures keeps { KeepsClaims self.old self.new }
+        ensures same { (self.new.expired ≡ self.old.expired) × (self.new.held ≡ self.old.held) × (self.new.fresh ≡ self.old.fresh + 1) }
         ensures reserved { self.new.reserved.items ≡ self.old.reserved.items ++ spot self.old.fresh self.old.next_claim ∷ [] }
         ensures next_claim { self.new.next_claim ≡ self.old.next_claim + 1 }
         ensures len { vec_len self.new.reserved ≡ vec_len self.old.reserved + 1 }
@@ -126,7 +131,8 @@ impl CellPool {
     /// Raises the moment, and moves the cells of windows that have then ended from their rings to the expired ones.
     pub fn expire(&mut self, moment: Seconds) -> Result<(), OutOfMemory>
         requires { self.old.last ≤ moment }
-        ensures same { (self.new.claims ≡ self.old.claims) × (self.new.reserved ≡ self.old.reserved) × (self.new.fresh ≡ self.old.fresh) × (self.new.next_claim ≡ self.old.next_claim) × (self.new.cells ≡ self.old.cells) × (self.new.most ≡ self.old.most) }
+        ensures numbers { KeepsNumbers self.old self.new }
+        ensures same { (self.new.claims ≡ self.old.claims) × (self.new.reserved ≡ self.old.reserved) }
         ensures last { self.new.last ≡ moment }
         ensures expired { OnOk result (ExpiredBelow 4 moment self.new.rings.items × (self.new.held.items ≡ [])) }
     {
@@ -142,7 +148,9 @@ impl CellPool {
     fn expire_ring(&mut self, unit: usize) -> Result<(), OutOfMemory>
         requires unit { unit < 4 }
         requires before { ExpiredBelow unit self.old.last self.old.rings.items }
-        ensures same { (self.new.claims ≡ self.old.claims) × (self.new.reserved ≡ self.old.reserved) × (self.new.held ≡ self.old.held) × (self.new.fresh ≡ self.old.fresh) × (self.new.next_claim ≡ self.old.next_claim) × (self.new.last ≡ self.old.last) × (self.new.cells ≡ self.old.cells) × (self.new.most ≡ self.old.most) }
+        ensures numbers { KeepsNumbers self.old self.new }
+        ensures same { (self.new.claims ≡ self.old.claims) × (self.new.reserved ≡ self.old.reserved) × (self.new.held ≡ self.old.held)
+            × (self.new.last ≡ self.old.last) }
         ensures expired { OnOk result (ExpiredBelow (unit + 1) self.old.last self.new.rings.items) }
     {
         let last = self.last.get();
@@ -155,7 +163,9 @@ impl CellPool {
 
     /// Room for as many new claims.
     pub fn make_room(&mut self, wanted: usize) -> Result<(), OutOfMemory>
-        ensures same { (self.new.claims.items ≡ self.old.claims.items) × (self.new.rings ≡ self.old.rings) × (self.new.reserved ≡ self.old.reserved) × (self.new.expired ≡ self.old.expired) × (self.new.held ≡ self.old.held) × (self.new.fresh ≡ self.old.fresh) × (self.new.next_claim ≡ self.old.next_claim) × (self.new.last ≡ self.old.last) × (self.new.cells ≡ self.old.cells) × (self.new.most ≡ self.old.most) }
+        ensures numbers { KeepsNumbers self.old self.new }
+        ensures lists { (self.new.claims.items ≡ self.old.claims.items) × (self.new.rings ≡ self.old.rings) × (self.new.last ≡ self.old.last) }
+        ensures same { (self.new.reserved ≡ self.old.reserved) × (self.new.expired ≡ self.old.expired) × (self.new.held ≡ self.old.held) }
         ensures room { OnOk result (vec_len self.new.claims + wanted ≤ vec_capacity self.new.claims) }
     {
         self.claims.reserve(wanted)?;
@@ -172,7 +182,8 @@ impl CellPool {
         ensures claims { BindsLast self.old.reserved.items self.new.reserved.items self.old.claims.items self.new.claims.items key self.old.last }
         ensures rings { KeepsFits (unit_rank key.name.unit) (window_end_of key) self.old.rings.items self.new.rings.items }
         ensures lens { (vec_len self.new.reserved + 1 ≡ vec_len self.old.reserved) × (vec_len self.new.claims ≡ vec_len self.old.claims + 1) × (vec_capacity self.new.claims ≡ vec_capacity self.old.claims) }
-        ensures same { (self.new.expired ≡ self.old.expired) × (self.new.held ≡ self.old.held) × (self.new.fresh ≡ self.old.fresh) × (self.new.next_claim ≡ self.old.next_claim) × (self.new.last ≡ self.old.last) × (self.new.cells ≡ self.old.cells) × (self.new.most ≡ self.old.most) }
+        ensures numbers { KeepsNumbers self.old self.new }
+        ensures same { (self.new.expired ≡ self.old.expired) × (self.new.held ≡ self.old.held) × (self.new.last ≡ self.old.last) }
     {
         if let Some(spot) = self.reserved.pop() {
             let end = key.end();
@@ -202,7 +213,9 @@ impl CellPool {
     /// The held cells are tried again.
     pub fn retry_held(&mut self)
         requires { vec_len self.old.expired ≡ 0 }
-        ensures same { (self.new.claims ≡ self.old.claims) × (self.new.rings ≡ self.old.rings) × (self.new.reserved ≡ self.old.reserved) × (self.new.fresh ≡ self.old.fresh) × (self.new.next_claim ≡ self.old.next_claim) × (self.new.last ≡ self.old.last) × (self.new.cells ≡ self.old.cells) × (self.new.most ≡ self.old.most) }
+        ensures keeps { KeepsClaims self.old self.new }
+        ensures numbers { KeepsNumbers self.old self.new }
+        ensures same { self.new.reserved ≡ self.old.reserved }
         ensures held { (self.new.expired.items ≡ self.old.held.items) × (self.new.held.items ≡ []) }
     {
         std::mem::swap(&mut self.expired, &mut self.held);

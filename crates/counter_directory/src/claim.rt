@@ -1,8 +1,5 @@
-ghost use Rattle.std.specs.Prelude.{◌≡◌};
-
 use crate::counter::SharedCounter;
-use rate_types::Seconds;
-use std::marker::Model;
+use rate_types::{Items, Seconds};
 
 /// A counter that was bound to a cell, under a number, at a moment of its window.
 #[derive(Drop)]
@@ -15,32 +12,4 @@ pub struct Claim {
 }
 
 /// Claims in the order in which they were made.
-#[derive(Drop)]
-pub struct Claims {
-    items: Vec<Claim>,
-}
-
-impl Model for Claims {
-    ghost use Rattle.std.specs.Prelude.{List};
-    ghost use Rattle.counter_directory.specs.declared.claim.Claim.{Claim};
-
-    ghost Value = { List Claim };
-
-    ghost view = { λ c. c.items.items };
-}
-
-impl Claims {
-    /// The list of these. It takes no memory.
-    pub fn of(items: Vec<Claim>) -> Claims
-        ensures { result ≡ items.items }
-    {
-        Claims { items }
-    }
-
-    /// The claims in order.
-    pub fn items(&self) -> &[Claim]
-        ensures { result.now ≡ self.now }
-    {
-        self.items.as_slice()
-    }
-}
+pub type Claims = Items<Claim>;

@@ -8,6 +8,7 @@ use crate::cell_pool::CellPool;
 use crate::claim::Claim;
 use crate::counter::SharedCounter;
 use counter_cells::{CellClaimer, CellNaming, Spot};
+use rate_types::limits::MOST_CLAIM_NUMBERS;
 use std::collections::HashMap;
 use told_list::Kept;
 
@@ -30,11 +31,13 @@ pub struct ClaimTable<N: CellNaming> {
 }
 
 impl<N: CellNaming> Kept for ClaimTable<N> {
+    ghost use Rattle.rate_types.specs.declared.limits.TheConstants.{MOST_CLAIM_NUMBERS};
+
     type Item = Claim;
 
-    ghost MOST = { 1099511627776 };
+    ghost MOST = { MOST_CLAIM_NUMBERS };
 
-    const MOST: u64 = 1_099_511_627_776;
+    const MOST: u64 = MOST_CLAIM_NUMBERS;
 
     ghost Fixed = { ℕ };
 

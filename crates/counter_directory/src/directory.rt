@@ -1,4 +1,5 @@
 ghost use Rattle.std.specs.Prelude.{◌≡◌, ◌≤◌, [], length, All, vec_len, vec_capacity};
+ghost use Rattle.rate_types.specs.declared.limits.TheConstants.{MOST_CLAIM_NUMBERS, MOST_PASSES};
 ghost use Rattle.told_list.specs.Tokens.{list_of, list_id, first_value, tokens, view, known};
 
 use crate::acquire::Acquire;
@@ -6,6 +7,7 @@ use crate::acquired::{AcquireFault, Acquired};
 use crate::claim::{Claim, Claims};
 use crate::claim_table::ClaimTable;
 use counter_cells::{CellClaimer, CellNaming, CellPass, Cells};
+use rate_types::limits::MOST_PINS;
 use rate_types::{CounterName, OutOfMemory, Seconds};
 use std::alloc::Global;
 use std::marker::Model;
@@ -24,6 +26,7 @@ pub struct Directory<N: CellNaming> {
 }
 
 impl<N: CellNaming> Model for Directory<N> {
+    ghost use Rattle.rate_types.specs.declared.limits.TheConstants.{MOST_PASSES};
     ghost use Rattle.std.specs.Prelude.{◌≡◌, ◌≤◌, []};
     ghost use Rattle.told_list.specs.Tokens.{list_id, first_value, tokens};
     ghost use Rattle.counter_directory.specs.Turns.{DirectoryView};
@@ -32,7 +35,7 @@ impl<N: CellNaming> Model for Directory<N> {
 
     ghost view = { λ d. record { list_id = list_id d.told; passes = tokens d.told; claims_max = (first_value d.told).pool.most } };
 
-    ghost invariant = { λ d. (d.passes ≡ tokens d.told) × (1 ≤ d.passes) × (d.passes ≤ 1024) × ((first_value d.told).pool.claims.items ≡ []) };
+    ghost invariant = { λ d. (d.passes ≡ tokens d.told) × (1 ≤ d.passes) × (d.passes ≤ MOST_PASSES) × ((first_value d.told).pool.claims.items ≡ []) };
 }
 
 /// What is left of a directory that is closed.
@@ -71,8 +74,8 @@ impl<N: CellNaming> Directory<N> {
         passes: u32,
     ) -> Result<(Directory<N>, Vec<DirectoryPass<N>>), OutOfMemory>
         requires claimer { claimer.used_claims ≡ [] }
-        requires claims_max { (1 ≤ claims_max) × (claims_max ≤ 2 ^ 40) }
-        requires passes { (1 ≤ passes) × (passes ≤ 1024) }
+        requires claims_max { (1 ≤ claims_max) × (claims_max ≤ MOST_CLAIM_NUMBERS) }
+        requires passes { (1 ≤ passes) × (passes ≤ MOST_PASSES) }
         ensures directory { IfOk result (λ r. (r.0.passes ≡ passes) × (r.0.claims_max ≡ claims_max)) }
         ensures count { IfOk result (λ r. vec_len r.1 ≡ passes) }
         ensures passes { IfOk result (λ r. All (λ p. (list_of p ≡ r.0.list_id) × IsFresh [] (view p)) r.1.items) }
@@ -95,14 +98,14 @@ impl<N: CellNaming> Directory<N> {
     ) -> Result<Acquired, AcquireFault>
         requires pass { list_of pass.old ≡ self.now.list_id }
         requires cell_pass { cell_pass.old.good ≡ [] }
-        requires names { (1 ≤ length names.now) × (length names.now ≤ 32) }
+        requires names { (1 ≤ length names.now) × (length names.now ≤ MOST_PINS) }
         ensures pass { list_of pass.new ≡ self.now.list_id }
         ensures within { IfOk result (λ a. All (λ s. s.cell < N.setup.cells) a.spots.items) }
         ensures pins { IfOk result (λ a. (cell : ℕ) → good_on cell cell_pass.new ≡ spots_on cell a.spots.items) }
         ensures none { OnErr result (cell_pass.new.good ≡ []) }
-        ensures turn { Turned (record { cells = N.setup.cells; claims = self.now.claims_max; held = 32 * (self.now.passes - 1) }) names.now cell_pass.old result cell_pass.new (view pass.old) (view pass.new) }
+        ensures turn { Turned (record { cells = N.setup.cells; claims = self.now.claims_max; held = MOST_PINS * (self.now.passes - 1) }) names.now cell_pass.old result cell_pass.new (view pass.old) (view pass.new) }
     {
-        let most_held = 32 * (self.passes as usize - 1);
+        let most_held = MOST_PINS as usize * (self.passes as usize - 1);
         let mut act = Acquire {
             rt,
             cells,

@@ -1,4 +1,5 @@
 ghost use Rattle.std.specs.Prelude.{◌≡◌, ℕ, ◌^◌, ◌≤◌, ◌<◌, [], length, All, IfOk, IfSome, OnErr};
+ghost use Rattle.rate_types.specs.declared.limits.TheConstants.{MOST_CLAIM_NUMBERS, MOST_PASSES, MOST_PINS};
 ghost use Rattle.counter_cells.specs.Views.{good_on};
 ghost use Rattle.counter_cells.specs.Opened.{table_of, setup_of};
 ghost use Rattle.told_list.specs.Tokens.{list_of};
@@ -50,8 +51,8 @@ fn open<N: CellNaming>(
     workers: u32,
 ) -> Option<(Cells<N>, Directory<N>, Vec<Worker<N>>)>
     requires name { (table_of opened ≡ N.table) × (setup_of opened ≡ N.setup) }
-    requires claims_max { (1 ≤ claims_max) × (claims_max ≤ 2 ^ 40) }
-    requires workers { (1 ≤ workers) × (workers ≤ 1024) }
+    requires claims_max { (1 ≤ claims_max) × (claims_max ≤ MOST_CLAIM_NUMBERS) }
+    requires workers { (1 ≤ workers) × (workers ≤ MOST_PASSES) }
     ensures passes { IfSome result (λ r. r.1.passes ≡ workers) }
     ensures workers { IfSome result (λ r. All (λ w. (w.cell_pass.good ≡ []) × (list_of w.pass ≡ r.1.list_id)) r.2.items) }
 {
@@ -97,7 +98,7 @@ fn pin<N: CellNaming, R: Wait>(
 ) -> Result<Acquired, AcquireFault>
     requires pass { list_of worker.old.pass ≡ directory.now.list_id }
     requires cell_pass { worker.old.cell_pass.good ≡ [] }
-    requires names { (1 ≤ length names.now) × (length names.now ≤ 32) }
+    requires names { (1 ≤ length names.now) × (length names.now ≤ MOST_PINS) }
     ensures pass { list_of worker.new.pass ≡ directory.now.list_id }
     ensures within { IfOk result (λ a. All (λ s. s.cell < N.setup.cells) a.spots.items) }
     ensures pins { IfOk result (λ a. (cell : ℕ) → good_on cell worker.new.cell_pass ≡ spots_on cell a.spots.items) }
@@ -116,7 +117,7 @@ fn take<N: CellNaming, R: Wait>(
 ) -> Result<Acquired, AcquireFault>
     requires pass { list_of worker.old.pass ≡ directory.now.list_id }
     requires cell_pass { worker.old.cell_pass.good ≡ [] }
-    requires names { (1 ≤ length names.now) × (length names.now ≤ 32) }
+    requires names { (1 ≤ length names.now) × (length names.now ≤ MOST_PINS) }
     ensures pass { list_of worker.new.pass ≡ directory.now.list_id }
     ensures cell_pass { worker.new.cell_pass.good ≡ [] }
 {

@@ -1,6 +1,6 @@
 ghost use Rattle.std.specs.Prelude.{◌≡◌, ◌≤◌, ◌<◌, ◌+◌, ℕ, List, [], ◌++◌, length, false, All, IfOk, MatchOption, vec_len};
+ghost use Rattle.rate_types.specs.declared.limits.TheConstants.{MOST_PASSES};
 
-use rate_types::limits::MOST_PASSES;
 use crate::act::Act;
 use crate::kept::Kept;
 use crate::rule::{AWAITED, LENGTH, ListRule, Loads, Setup, TokenView};

@@ -1,5 +1,6 @@
 // One call of `acquire` under the lock.
 ghost use Rattle.std.specs.Prelude.{◌≡◌, ◌≤◌, [], length};
+ghost use Rattle.rate_types.specs.declared.limits.TheConstants.{MOST_PINS};
 ghost use Rattle.counter_directory.specs.Claims.{last_of};
 ghost use Rattle.counter_directory.specs.Acquired.{Acquires};
 
@@ -22,7 +23,7 @@ impl<N: CellNaming> ClaimTable<N> {
         most_held: usize,
     ) -> Result<Acquired, AcquireFault>
         requires cell_pass { cell_pass.old.good ≡ [] }
-        requires names { length names.now ≤ 32 }
+        requires names { length names.now ≤ MOST_PINS }
         ensures most { self.new.pool.most ≡ self.old.pool.most }
         ensures later { last_of 0 self.old.pool.claims.items ≤ cell_pass.new.moment }
         ensures did { Acquires (record { cells = N.setup.cells; claims = self.old.pool.most; held = most_held }) names.now cell_pass.old (record { claimer = self.old.claimer; claims = self.old.pool.claims.items }) result cell_pass.new (record { claimer = self.new.claimer; claims = self.new.pool.claims.items }) }

@@ -1,6 +1,7 @@
 // How counters get claims.
 ghost use Rattle.std.specs.Prelude.{◌≡◌, ◌+◌, ◌-◌, ◌≤◌, ◌<◌, [], vec_len, vec_capacity, OnOk, length};
 ghost use Rattle.std.specs.HashMap.{spare};
+ghost use Rattle.rate_types.specs.declared.limits.TheConstants.{MOST_PINS};
 ghost use Rattle.rate_types.specs.Units.{unit_rank};
 ghost use Rattle.window_keys.specs.Window.{window_start};
 ghost use Rattle.window_keys.specs.Counter.{window_end_of};
@@ -92,7 +93,7 @@ impl<N: CellNaming> ClaimTable<N> {
         keys: &[SharedCounter],
         most_held: usize,
     ) -> Result<(), AcquireFault>
-        requires keys { AreOf moment keys.now × (length keys.now ≤ 32) }
+        requires keys { AreOf moment keys.now × (length keys.now ≤ MOST_PINS) }
         requires later { self.old.pool.last ≤ moment }
         ensures last { OnOk result (self.new.pool.last ≡ moment) }
         ensures most { self.new.pool.most ≡ self.old.pool.most }

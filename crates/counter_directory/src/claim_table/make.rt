@@ -1,4 +1,5 @@
 ghost use Rattle.std.specs.Prelude.{◌≡◌, ◌≤◌, ◌^◌, [], IfOk, ◌-◌, ◌<◌};
+ghost use Rattle.rate_types.specs.declared.limits.TheConstants.{MOST_CLAIM_NUMBERS};
 
 use crate::cell_pool::CellPool;
 use crate::claim_table::ClaimTable;
@@ -14,7 +15,7 @@ impl<N: CellNaming> ClaimTable<N> {
         claimer: CellClaimer<N>,
         most: u64,
     ) -> Result<ClaimTable<N>, OutOfMemory>
-        requires most { most ≤ 2 ^ 40 }
+        requires most { most ≤ MOST_CLAIM_NUMBERS }
         requires claimer { claimer.used_claims ≡ [] }
         ensures { IfOk result (λ b. (b.pool.claims.items ≡ []) × (b.pool.most ≡ most)) }
     {

@@ -1,5 +1,6 @@
 // The pins of a call.
 ghost use Rattle.std.specs.Prelude.{◌≡◌, ◌≤◌, ◌<◌, [], ◌∷◌, length};
+ghost use Rattle.rate_types.specs.declared.limits.TheConstants.{MOST_PINS};
 ghost use Rattle.rate_types.specs.declared.counter_key.CounterKey.{CounterKey};
 ghost use Rattle.window_keys.specs.Counter.{window_end_of};
 ghost use Rattle.counter_cells.specs.Views.{cell_or};
@@ -22,7 +23,7 @@ impl<N: CellNaming> ClaimTable<N> {
         cell_pass: &mut CellPass<N>,
         key: &SharedCounter,
     ) -> Spot
-        requires cell_pass { length cell_pass.old.good < 32 }
+        requires cell_pass { length cell_pass.old.good < MOST_PINS }
         requires bound { 1 ≤ claims_of key.now self.now.pool.claims.items }
         ensures pinned { PinsAfterMisses (result ∷ []) cell_pass.old cell_pass.new }
         ensures bound { 1 ≤ bindings_of key.now result.cell result.claim self.now.pool.claims.items }
@@ -49,7 +50,7 @@ impl<N: CellNaming> ClaimTable<N> {
         keys: &[SharedCounter],
     ) -> ArrayVec<Spot, 32>
         requires cell_pass { cell_pass.old.good ≡ [] }
-        requires keys { length keys.now ≤ 32 }
+        requires keys { length keys.now ≤ MOST_PINS }
         requires bound { (q : CounterKey) → 1 ≤ key_count q keys.now → 1 ≤ claims_of q self.now.pool.claims.items }
         ensures pinned { PinsAfterMisses result.items cell_pass.old cell_pass.new }
         ensures bound { (length result.items ≡ length keys.now) × Bound self.now.pool.claims.items keys.now result.items }

@@ -1,5 +1,7 @@
 // How cells are reserved for new claims.
 ghost use Rattle.std.specs.Prelude.{◌≡◌, ◌+◌, ◌-◌, ◌≤◌, ◌<◌, [], max, vec_len, MatchBool};
+ghost use Rattle.rate_types.specs.declared.limits.TheConstants.{MOST_PINS};
+ghost use Rattle.counter_directory.specs.Keeps.{KeepsClaims};
 ghost use Rattle.counter_directory.specs.Gates.{HeldSince};
 
 use crate::claim_table::ClaimTable;
@@ -10,9 +12,10 @@ impl<N: CellNaming> ClaimTable<N> {
     /// Tries the last expired cell.
     pub(crate) fn try_expired(&mut self, cells: &Cells<N>)
         requires some { 0 < vec_len self.old.pool.expired }
-        requires room { vec_len self.old.pool.reserved < 32 }
+        requires room { vec_len self.old.pool.reserved < MOST_PINS }
         requires next_claim { self.old.pool.next_claim < self.old.pool.most }
-        ensures same { (self.new.pool.claims ≡ self.old.pool.claims) × (self.new.pool.rings ≡ self.old.pool.rings) × (self.new.pool.last ≡ self.old.pool.last) × (self.new.pool.most ≡ self.old.pool.most) × (self.new.pool.fresh ≡ self.old.pool.fresh) × (self.new.index ≡ self.old.index) }
+        ensures keeps { KeepsClaims self.old.pool self.new.pool }
+        ensures same { (self.new.pool.fresh ≡ self.old.pool.fresh) × (self.new.index ≡ self.old.index) }
         ensures less { vec_len self.new.pool.expired + 1 ≡ vec_len self.old.pool.expired }
         ensures one { vec_len self.new.pool.reserved + vec_len self.new.pool.held ≡ vec_len self.old.pool.reserved + vec_len self.old.pool.held + 1 }
         ensures none_less { (vec_len self.old.pool.reserved ≤ vec_len self.new.pool.reserved) × (vec_len self.old.pool.held ≤ vec_len self.new.pool.held) }
@@ -28,9 +31,10 @@ impl<N: CellNaming> ClaimTable<N> {
     /// Tries the first cell that was never taken.
     pub(crate) fn try_fresh(&mut self, cells: &Cells<N>)
         requires some { self.old.pool.fresh < self.old.pool.cells }
-        requires room { vec_len self.old.pool.reserved < 32 }
+        requires room { vec_len self.old.pool.reserved < MOST_PINS }
         requires next_claim { self.old.pool.next_claim < self.old.pool.most }
-        ensures same { (self.new.pool.claims ≡ self.old.pool.claims) × (self.new.pool.rings ≡ self.old.pool.rings) × (self.new.pool.last ≡ self.old.pool.last) × (self.new.pool.most ≡ self.old.pool.most) × (self.new.pool.expired ≡ self.old.pool.expired) × (self.new.pool.held ≡ self.old.pool.held) × (self.new.index ≡ self.old.index) }
+        ensures keeps { KeepsClaims self.old.pool self.new.pool }
+        ensures same { (self.new.pool.expired ≡ self.old.pool.expired) × (self.new.pool.held ≡ self.old.pool.held) × (self.new.index ≡ self.old.index) }
         ensures lens { (vec_len self.old.pool.reserved ≤ vec_len self.new.pool.reserved) × (vec_len self.new.pool.reserved ≤ vec_len self.old.pool.reserved + 1) }
         ensures held { HeldSince self.old.claimer self.new.claimer self.old.pool.held.items self.new.pool.held.items }
     {
@@ -48,10 +52,11 @@ impl<N: CellNaming> ClaimTable<N> {
         wanted: usize,
         most_held: usize,
     ) -> bool
-        requires few { wanted ≤ 32 }
+        requires few { wanted ≤ MOST_PINS }
         requires claims { vec_len self.old.pool.claims + wanted ≤ self.old.pool.most }
         requires held { self.old.pool.held.items ≡ [] }
-        ensures same { (self.new.pool.claims ≡ self.old.pool.claims) × (self.new.pool.rings ≡ self.old.pool.rings) × (self.new.pool.last ≡ self.old.pool.last) × (self.new.pool.most ≡ self.old.pool.most) × (self.new.index ≡ self.old.index) }
+        ensures keeps { KeepsClaims self.old.pool self.new.pool }
+        ensures same { self.new.index ≡ self.old.index }
         ensures reserved { MatchBool result ((wanted ≤ vec_len self.new.pool.reserved) × (vec_len self.new.pool.reserved ≡ max (vec_len self.old.pool.reserved) wanted)) ((vec_len self.new.pool.reserved < wanted) × (vec_len self.new.pool.expired ≡ 0) × (self.new.pool.cells ≤ self.new.pool.fresh) × (vec_len self.new.pool.held ≤ most_held)) }
         ensures held { HeldSince self.old.claimer self.new.claimer [] self.new.pool.held.items }
     {

@@ -1,4 +1,5 @@
 ghost use Rattle.std.specs.Prelude.{◌≡◌, ◌≤◌, [], length, vec_len, All, IfSome};
+ghost use Rattle.rate_types.specs.declared.limits.TheConstants.{MOST_PINS};
 ghost use Rattle.counter_cells.specs.Opened.{table_of, setup_of};
 ghost use Rattle.told_list.specs.Tokens.{list_of};
 
@@ -30,7 +31,7 @@ fn take_in_some_window<N: CellNaming, R: Wait>(
 ) -> Option<()>
     requires pass { list_of worker.old.pass ≡ directory.now.list_id }
     requires cell_pass { worker.old.cell_pass.good ≡ [] }
-    requires names { (1 ≤ length names.now) × (length names.now ≤ 32) }
+    requires names { (1 ≤ length names.now) × (length names.now ≤ MOST_PINS) }
     ensures pass { list_of worker.new.pass ≡ directory.now.list_id }
     ensures cell_pass { worker.new.cell_pass.good ≡ [] }
 {

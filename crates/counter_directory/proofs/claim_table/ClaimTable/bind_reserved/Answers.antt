@@ -39,8 +39,8 @@ invariant_of-self g c =
     let e = c.bind_reserved.ensures in
     let x : Claim = record { key = c.args.listed; cell = e.claims.0; claim = e.claims.1; moment = b.pool.last } in
     record {
-      size = e.same.5 ∙ b.size;
-      gates = gates_to _ _ _ _ _ _ _ _ _ _ _ e.same.5 e.same.4 e.same.3 refl refl
+      size = e.numbers.cells ∙ b.size;
+      gates = gates_to _ _ _ _ _ _ _ _ _ _ _ e.numbers.cells e.same.2 e.numbers.next_claim refl refl
           (opens b.claimer _ _ b.pool.cells b.pool.most b.pool.last b.pool.fresh b.pool.next_claim c.len.result x c.index-spot.result.now c.index-spot.result.now b.pool.claims.items _ b.pool.rings.items b.pool.expired.items b.pool.held.items b.pool.reserved.items _
           (omega (arith, b.pool.reserved.ok.0, c.len.ensures)) c.index-spot.ensures e.claims.2 e.claims.3 b.pool.lawful b.pool.cells_lawful c.reset.ensures.reset c.open_cell.ensures.opened b.gates);
       found = finds (get same_counter b.index) _ c.len.result x c.index-spot.result.now c.index-spot.result.now b.pool.claims.items _ b.pool.reserved.items _

@@ -1,14 +1,12 @@
 use Rattle.std.proofs.Common.{◌≡◌, ◌≤◌, []}
 use Rattle.std.specs.Prelude.{max, vec_len}
+use Rattle.counter_directory.specs.Keeps.{KeepsClaims}
 use Rattle.counter_directory.specs.Gates.{HeldSince}
 use Rattle.counter_directory.proofs.claim_table.ClaimTable.reserve_cells.Given as goal
 
 abbrev pub invariant-loop-round : goal.invariant-loop-round
 invariant-loop-round g l = record {
-  claims : l.self.pool.claims ≡ l.initial.self.pool.claims;
-  rings : l.self.pool.rings ≡ l.initial.self.pool.rings;
-  last : l.self.pool.last ≡ l.initial.self.pool.last;
-  most : l.self.pool.most ≡ l.initial.self.pool.most;
+  keeps : KeepsClaims l.initial.self.pool l.self.pool;
   more : vec_len l.initial.self.pool.reserved ≤ vec_len l.self.pool.reserved;
   few : vec_len l.self.pool.reserved ≤ max (vec_len l.initial.self.pool.reserved) l.wanted;
   index : l.self.index ≡ l.initial.self.index;

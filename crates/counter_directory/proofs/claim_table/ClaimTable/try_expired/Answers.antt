@@ -25,10 +25,10 @@ invariant_of-self g c =
     let e = c.reserve_expired.ensures in
     let k = last_expired b.pool.expired.items _ e.reserved.0 c.index-cell.result.now c.index-cell.result.now c.len.result e.reserved.1 (omega (arith, b.pool.expired.ok.0, c.len.ensures)) c.index-cell.ensures in
     record {
-      size = e.same.5 ∙ b.size;
-      gates = gates_to _ _ _ _ _ _ _ _ _ _ _ e.same.5 e.same.4 e.next_claim (ap (λ z. z.items) e.same.0) (e.reserved.2 ∙ ap (λ z. b.pool.reserved.items ++ spot z b.pool.next_claim ∷ []) (sym k))
+      size = e.keeps.cells ∙ b.size;
+      gates = gates_to _ _ _ _ _ _ _ _ _ _ _ e.keeps.cells e.keeps.last e.next_claim (ap (λ z. z.items) e.keeps.claims) (e.reserved.2 ∙ ap (λ z. b.pool.reserved.items ++ spot z b.pool.next_claim ∷ []) (sym k))
           (gates_claimed b.claimer _ b.pool.cells b.pool.most b.pool.last b.pool.next_claim c.index-cell.result.now b.pool.claims.items b.pool.reserved.items m.0 m.1 m.2 b.pool.lawful c.in-Claimed.ensures.reclaim b.gates);
-      found = indexed_to _ _ _ (ap (λ z. z.items) e.same.0) b.found;
+      found = indexed_to _ _ _ (ap (λ z. z.items) e.keeps.claims) b.found;
     }
 
 pub invariant_of-self-in-Held : goal.invariant_of-self-in-Held
@@ -36,10 +36,10 @@ invariant_of-self-in-Held g c =
     let b = c.args.self.now in
     let e = c.hold_expired.ensures in
     record {
-      size = e.same.6 ∙ b.size;
-      gates = gates_to _ _ _ _ _ _ _ _ _ _ _ e.same.6 e.same.5 e.same.4 (ap (λ z. z.items) e.same.0) (ap (λ z. z.items) e.same.2)
+      size = e.keeps.cells ∙ b.size;
+      gates = gates_to _ _ _ _ _ _ _ _ _ _ _ e.keeps.cells e.keeps.last e.numbers.next_claim (ap (λ z. z.items) e.keeps.claims) (ap (λ z. z.items) e.same)
           (gates_held b.claimer _ b.pool.cells b.pool.last b.pool.next_claim c.index-cell.result.now c.in-Held.pins b.pool.claims.items b.pool.reserved.items c.in-Held.ensures.reclaim.0 b.gates);
-      found = indexed_to _ _ _ (ap (λ z. z.items) e.same.0) b.found;
+      found = indexed_to _ _ _ (ap (λ z. z.items) e.keeps.claims) b.found;
     }
 
 pub returns-in-Held-clause-held : goal.returns-in-Held-clause-held

@@ -9,10 +9,10 @@ invariant_of-self g c =
     let m = fresh_cell b.pool.cells b.pool.last b.pool.fresh _ b.pool.claims.items _ _ _ b.pool.reserved.items b.pool.cells_lawful in
     let e = c.reserve_fresh.ensures in
     record {
-      size = e.same.6 ∙ b.size;
-      gates = gates_to _ _ _ _ _ _ _ _ _ _ _ e.same.6 e.same.5 e.next_claim (ap (λ z. z.items) e.same.0) e.reserved
+      size = e.keeps.cells ∙ b.size;
+      gates = gates_to _ _ _ _ _ _ _ _ _ _ _ e.keeps.cells e.keeps.last e.next_claim (ap (λ z. z.items) e.keeps.claims) e.reserved
           (gates_claimed b.claimer _ b.pool.cells b.pool.most b.pool.last b.pool.next_claim b.pool.fresh b.pool.claims.items b.pool.reserved.items c.requires.some m.0 m.1 b.pool.lawful c.in-Claimed.ensures.reclaim b.gates);
-      found = indexed_to _ _ _ (ap (λ z. z.items) e.same.0) b.found;
+      found = indexed_to _ _ _ (ap (λ z. z.items) e.keeps.claims) b.found;
     }
 
 pub invariant_of-self-in-Held : goal.invariant_of-self-in-Held
