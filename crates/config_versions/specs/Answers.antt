@@ -11,7 +11,8 @@ module _ {I : Type 0} where
   -- `next` got this number, or the list found was full, or there was no memory
   abbrev pub AnswersInstall : I → Result ℕ InstallFault → PassState I → PassState I → Type 0
   AnswersInstall next (Ok number) s t = HasInstalled next number s t
-  AnswersInstall next (Err (fault.VersionsFull versions)) s t = (versions ≡ MOST_VERSIONS) × (length t.view.known ≡ MOST_VERSIONS) × IsNewest s t
+  AnswersInstall next (Err (fault.VersionsFull versions)) s t =
+      (versions ≡ MOST_VERSIONS) × (length t.view.known ≡ MOST_VERSIONS) × IsNewest s t
   AnswersInstall next (Err fault.OutOfMemory) s t = HasStayed s t
 
   -- the pass is at the newest version, or stayed below it

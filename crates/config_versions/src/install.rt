@@ -27,7 +27,8 @@ impl<I: Drop> Act<VersionList<I>> for Install<I> {
 
     ghost ready = { λ _ _. Unit {0} };
 
-    ghost did = { λ p b r q c. (arc_value q.next ≡ arc_value p.next) × Installs (arc_value p.next) (map arc_value b.versions.items) r (map arc_value c.versions.items) };
+    ghost did = { λ p b r q c. (arc_value q.next ≡ arc_value p.next)
+        × Installs (arc_value p.next) (map arc_value b.versions.items) r (map arc_value c.versions.items) };
 
     fn act(&mut self, kept: &mut VersionList<I>) -> Installed<I> {
         kept.install(&self.next)

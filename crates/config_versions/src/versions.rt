@@ -104,7 +104,8 @@ impl<I: Drop> Versions<I> {
     pub fn is_behind(&self, pass: &mut VersionPass<I>) -> Option<u32>
         requires pass { IsPassOf self.now pass.old }
         ensures pass { IsPassOf self.now pass.new }
-        ensures answer { MatchOption result ((pass_state pass.new).view.shown ≡ (pass_state pass.old).version + 1) (λ n. (n + 1 ≡ (pass_state pass.new).view.shown) × ((pass_state pass.old).version < n)) }
+        ensures answer { MatchOption result ((pass_state pass.new).view.shown ≡ (pass_state pass.old).version + 1)
+            (λ n. (n + 1 ≡ (pass_state pass.new).view.shown) × ((pass_state pass.old).version < n)) }
         ensures loaded { HasLoaded (pass_state pass.old) (pass_state pass.new) }
     {
         let length = match self.told.behind(&mut pass.seen) {
@@ -130,7 +131,8 @@ impl<I: Drop> Versions<I> {
         requires passes { All (λ p. IsPassOf self p) passes.items }
         requires every { vec_len passes ≡ pass_count self }
         ensures prefixes { IfOk result (λ v. All (λ p. IsPrefix (pass_state p).view.known (map arc_value v.items)) passes.items) }
-        ensures owned { IfOk result (λ v. (n : ℕ) → IsOwnedOnce 1 (vec_len v) n (total (λ p. times n (pass_state p).view.own) passes.items)) }
+        ensures owned { IfOk result (λ v. (n : ℕ) → IsOwnedOnce 1 (vec_len v) n
+            (total (λ p. times n (pass_state p).view.own) passes.items)) }
     {
         let Versions { told } = self;
         let seats = tokens_of(alloc, passes)?;

@@ -30,18 +30,25 @@ module _ (a : Setup) (t : Register) (gate count : ℕ → ℕ) (views : List Cel
   one_cell k j st u at at' opn ever same = r.truth.apart j k u st at' at ever (is_ever k st at opn) same
 
   -- the good pin under an unused look
-  pub cell_under : (k id : ℕ) (v : CellView) → get_elem? views id ≡ some v → 1 ≤ unused_on k v → (st : Cell) × (get_elem? t.cells k ≡ some st) × (st.is_open ≡ true) × (st.claim ≡ claim_on k v.good) × (1 ≤ pair_at k (claim_on k v.good) v)
+  pub cell_under : (k id : ℕ) (v : CellView) → get_elem? views id ≡ some v → 1 ≤ unused_on k v → (st : Cell) × (get_elem? t.cells k ≡ some st) × (st.is_open ≡ true)
+      × (st.claim ≡ claim_on k v.good) × (1 ≤ pair_at k (claim_on k v.good) v)
   cell_under k id v at one = (r.each id v at).good k (claim_on k v.good) (claimed k v.good ((r.each id v at).under k one))
 
   pub none_at : (k : ℕ) (st : Cell) → get_elem? t.cells k ≡ some st → st.is_open ≡ true → total (charges_at st.claim (count k)) views ≡ 0
   none_at k st at opn = total_none (charges_at st.claim (count k)) views
-      (λ j u e. none_there st.claim (count k) u.charges ((r.each j u e).caps k st at opn).charges (each_map (λ (x : Charge). (1 ≤ x.hits) × (x.before ≡ total (hits_below x.claim x.before) views)) (λ (x : Charge). 1 ≤ x.hits) u.charges (λ x p. p.0) (r.lawful j u e).charges))
+      (λ j u e. none_there st.claim (count k) u.charges ((r.each j u e).caps k st at opn).charges
+      (each_map (λ (x : Charge). (1 ≤ x.hits) × (x.before ≡ total (hits_below x.claim x.before) views)) (λ (x : Charge). 1 ≤ x.hits) u.charges (λ x p. p.0)
+      (r.lawful j u e).charges))
 
   pub whole_below : (k : ℕ) (st : Cell) → get_elem? t.cells k ≡ some st → st.is_open ≡ true → count k ≡ total (hits_below st.claim (count k)) views
   whole_below k st at opn = (r.cells k st at).sum opn ∙ sym (total_eq (hits_below st.claim (count k)) (hits_of st.claim) views
-      (λ j u e. all_below st.claim (count k) u.charges ((r.each j u e).caps k st at opn).charges (each_map (λ (x : Charge). (1 ≤ x.hits) × (x.before ≡ total (hits_below x.claim x.before) views)) (λ (x : Charge). 1 ≤ x.hits) u.charges (λ x p. p.0) (r.lawful j u e).charges)))
+      (λ j u e. all_below st.claim (count k) u.charges ((r.each j u e).caps k st at opn).charges
+      (each_map (λ (x : Charge). (1 ≤ x.hits) × (x.before ≡ total (hits_below x.claim x.before) views)) (λ (x : Charge). 1 ≤ x.hits) u.charges (λ x p. p.0)
+      (r.lawful j u e).charges)))
 
-module _ (a : Setup) (t : Register) (gate count count' : ℕ → ℕ) (views : List CellView) (r : Rule a t gate count views) (id k h : ℕ) (v : CellView) (at : get_elem? views id ≡ some v) (one : 1 ≤ small_on k v) (hits : (1 ≤ h) × (h ≤ most_hits)) (here : count' k ≡ count k + h) (else : (j : ℕ) → (j ≡ k → ⊥) → count' j ≡ count j) where
+module _ (a : Setup) (t : Register) (gate count count' : ℕ → ℕ) (views : List CellView) (r : Rule a t gate count views) (id k h : ℕ) (v : CellView)
+    (at : get_elem? views id ≡ some v) (one : 1 ≤ small_on k v) (hits : (1 ≤ h) × (h ≤ most_hits)) (here : count' k ≡ count k + h)
+    (else : (j : ℕ) → (j ≡ k → ⊥) → count' j ≡ count j) where
   abbrev W : CellView
   W = charged k (count k) h v
 
@@ -91,7 +98,8 @@ module _ (a : Setup) (t : Register) (gate count count' : ℕ → ℕ) (views : L
       record {
         word = f.word ∙ ap (λ n. gate_word u.claim (one_if u.is_open) n) (sym (total_same (pins_on j) views id v W at refl));
         never = f.never;
-        sum = λ opn. let s = f.sum opn in let g = grows (λ (x : Charge). cond (x.claim == u.claim) x.hits 0) in let y = cond_no C u.claim h 0 (apart (is_ever a t gate count views r j u e opn)) in omega arith;
+        sum = λ opn. let s = f.sum opn in let g = grows (λ (x : Charge). cond (x.claim == u.claim) x.hits 0) in
+            let y = cond_no C u.claim h 0 (apart (is_ever a t gate count views r j u e opn)) in omega arith;
         fresh = λ off ev.
             let s = f.fresh off ev in
             let g = grows (λ (x : Charge). one_if (x.claim == u.claim)) in
@@ -105,7 +113,8 @@ module _ (a : Setup) (t : Register) (gate count count' : ℕ → ℕ) (views : L
   old_caps j u x e opn p (yes d) =
       let now : count' j ≡ count j + h = ap count' d ∙ here ∙ sym (ap (λ i. count i + h) d) in
       record {
-        charges = each_map (λ (y : Charge). y.claim ≡ u.claim → y.before + y.hits ≤ count j) (λ (y : Charge). y.claim ≡ u.claim → y.before + y.hits ≤ count' j) x.charges (λ y l s. let m = l s in omega arith) p.charges;
+        charges = each_map (λ (y : Charge). y.claim ≡ u.claim → y.before + y.hits ≤ count j) (λ (y : Charge). y.claim ≡ u.claim → y.before + y.hits ≤ count' j) x.charges
+            (λ y l s. let m = l s in omega arith) p.charges;
         looks = each_map (λ (y : ℕ × ℕ). y.0 ≡ u.claim → y.1 ≤ count j) (λ (y : ℕ × ℕ). y.0 ≡ u.claim → y.1 ≤ count' j) x.looks (λ y l s. let m = l s in omega arith) p.looks;
       }
   old_caps j u x e opn p (no n) = subst (λ m. Capped u.claim m x) (sym (else j n)) p
@@ -148,17 +157,22 @@ module _ (a : Setup) (t : Register) (gate count count' : ℕ → ℕ) (views : L
         claimer = f.claimer;
         caps = λ j u e opn.
             let p = old_caps j u v e opn (f.caps j u e opn) (ℕ_discrete j k) in
-            record { charges = each_push (λ (y : Charge). y.claim ≡ u.claim → y.before + y.hits ≤ count' j) v.charges new p.charges (λ s. new_cap j u e opn (ℕ_discrete j k) s); looks = p.looks };
+            record {
+              charges = each_push (λ (y : Charge). y.claim ≡ u.claim → y.before + y.hits ≤ count' j) v.charges new p.charges (λ s. new_cap j u e opn (ℕ_discrete j k) s);
+              looks = p.looks;
+            };
       }
     where
-      claims_used_now : (d : ℕ) → total (λ (x : Charge). one_if (x.claim == d)) (v.charges ++ new ∷ []) ≡ charges_of d v + one_if (C == d) → 1 ≤ total (λ (x : Charge). one_if (x.claim == d)) (v.charges ++ new ∷ []) → Dec (C ≡ d) → (1 ≤ charges_of d v → 1 ≤ times d t.used_claims) → 1 ≤ times d t.used_claims
+      claims_used_now : (d : ℕ) → total (λ (x : Charge). one_if (x.claim == d)) (v.charges ++ new ∷ []) ≡ charges_of d v + one_if (C == d)
+          → 1 ≤ total (λ (x : Charge). one_if (x.claim == d)) (v.charges ++ new ∷ []) → Dec (C ≡ d) → (1 ≤ charges_of d v → 1 ≤ times d t.used_claims) → 1 ≤ times d t.used_claims
       claims_used_now d g o (yes e) f = subst (λ i. 1 ≤ times i t.used_claims) e claims_used_here
       claims_used_now d g o (no n) f = let z = cond_no C d 1 0 n in f (omega arith)
 
   once_new : (d b : ℕ) → total (charges_at d b) (set views id W) ≤ 1
   once_new d b = pick (ℕ_discrete C d) (ℕ_discrete (count k) b) (grows (λ (x : Charge). cond (x.claim == d) (one_if (x.before == b)) 0)) (r.once d b)
     where
-      pick : Dec (C ≡ d) → Dec (count k ≡ b) → total (charges_at d b) (set views id W) ≡ total (charges_at d b) views + cond (C == d) (one_if (count k == b)) 0 → total (charges_at d b) views ≤ 1 → total (charges_at d b) (set views id W) ≤ 1
+      pick : Dec (C ≡ d) → Dec (count k ≡ b) → total (charges_at d b) (set views id W) ≡ total (charges_at d b) views + cond (C == d) (one_if (count k == b)) 0
+          → total (charges_at d b) views ≤ 1 → total (charges_at d b) (set views id W) ≤ 1
       pick (yes e) (yes s) g o =
           let z = none_at a t gate count views r k mine.0 mine.1 mine.2 in
           let z' : total (charges_at d b) views ≡ 0 = subst (λ (i : ℕ × ℕ). total (charges_at i.0 i.1) views ≡ 0) (λ i. ((mine.3 ∙ e) i, s i)) z in
@@ -172,7 +186,8 @@ module _ (a : Setup) (t : Register) (gate count count' : ℕ → ℕ) (views : L
   below_same : (d b : ℕ) → (C ≡ d → b ≤ count k) → total (hits_below d b) (set views id W) ≡ total (hits_below d b) views
   below_same d b le = pick (ℕ_discrete C d) (grows (λ (x : Charge). cond (x.claim == d) (cond (ltb x.before b) x.hits 0) 0))
     where
-      pick : Dec (C ≡ d) → total (hits_below d b) (set views id W) ≡ total (hits_below d b) views + cond (C == d) (cond (ltb (count k) b) h 0) 0 → total (hits_below d b) (set views id W) ≡ total (hits_below d b) views
+      pick : Dec (C ≡ d) → total (hits_below d b) (set views id W) ≡ total (hits_below d b) views + cond (C == d) (cond (ltb (count k) b) h 0) 0
+          → total (hits_below d b) (set views id W) ≡ total (hits_below d b) views
       pick (yes e) g = let y = cond_yes C d (cond (ltb (count k) b) h 0) 0 e in let y' = below_no (count k) b h 0 (le e) in omega arith
       pick (no n) g = let y = cond_no C d (cond (ltb (count k) b) h 0) 0 n in omega arith
 
@@ -181,9 +196,12 @@ module _ (a : Setup) (t : Register) (gate count count' : ℕ → ℕ) (views : L
       let l = r.lawful j x e in
       let p = (r.each j x e).caps k mine.0 mine.1 mine.2 in
       record {
-        charges = each_map2 (λ (y : Charge). (1 ≤ y.hits) × (y.before ≡ total (hits_below y.claim y.before) views)) (λ (y : Charge). y.claim ≡ mine.0.claim → y.before + y.hits ≤ count k) (λ (y : Charge). (1 ≤ y.hits) × (y.before ≡ total (hits_below y.claim y.before) (set views id W))) x.charges
+        charges = each_map2 (λ (y : Charge). (1 ≤ y.hits) × (y.before ≡ total (hits_below y.claim y.before) views))
+            (λ (y : Charge). y.claim ≡ mine.0.claim → y.before + y.hits ≤ count k)
+            (λ (y : Charge). (1 ≤ y.hits) × (y.before ≡ total (hits_below y.claim y.before) (set views id W))) x.charges
             (λ y q m. (q.0, q.1 ∙ sym (below_same y.claim y.before (λ s. let o = m (sym s ∙ sym mine.3) in omega arith)))) l.charges p.charges;
-        looks = each_map2 (λ (y : ℕ × ℕ). y.1 ≡ total (hits_below y.0 y.1) views) (λ (y : ℕ × ℕ). y.0 ≡ mine.0.claim → y.1 ≤ count k) (λ (y : ℕ × ℕ). y.1 ≡ total (hits_below y.0 y.1) (set views id W)) x.looks
+        looks = each_map2 (λ (y : ℕ × ℕ). y.1 ≡ total (hits_below y.0 y.1) views) (λ (y : ℕ × ℕ). y.0 ≡ mine.0.claim → y.1 ≤ count k)
+            (λ (y : ℕ × ℕ). y.1 ≡ total (hits_below y.0 y.1) (set views id W)) x.looks
             (λ y q m. q ∙ sym (below_same y.0 y.1 (λ s. m (sym s ∙ sym mine.3)))) l.looks p.looks;
       }
 

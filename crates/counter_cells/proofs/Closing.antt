@@ -1,5 +1,6 @@
 -- What the views tell when all passes are joined.
-use Rattle.std.proofs.Common.{◌≡◌, ℕ, zero, suc, ◌+◌, ◌≤◌, ◌==◌, List, [], ◌∷◌, ◌++◌, length, Bool, true, false, cond, refl, sym, ap, ◌∙◌, subst, arith, ⊎_elim, inl, inr, append_assoc}
+use Rattle.std.proofs.Common.{◌≡◌, ℕ, zero, suc, ◌+◌, ◌≤◌, ◌==◌, List, [], ◌∷◌, ◌++◌, length, Bool, true, false, cond, refl, sym, ap, ◌∙◌, subst, arith, ⊎_elim, inl, inr}
+use Rattle.std.proofs.Common.{append_assoc}
 use Rattle.std.specs.Prelude.{ltb, IfSome}
 use Rattle.std.specs.List.{AllByRecursion}
 use Rattle.std.proofs.lemmas.List.{append-nil}
@@ -43,26 +44,32 @@ joined_ticks : (v : CellView) (ws : List CellView) → (all_joined v ws).ticks �
 joined_ticks v [] = sym (append-nil v.ticks)
 joined_ticks v (w ∷ ws) = joined_ticks (joined v w) ws ∙ append_assoc v.ticks w.ticks (ticks_of ws)
 
-each_charges : (P : Charge → Type 0) (v : CellView) (ws : List CellView) → AllByRecursion P (all_joined v ws).charges → AllByRecursion P v.charges × ((j : ℕ) (w : CellView) → get_elem? ws j ≡ some w → AllByRecursion P w.charges)
+each_charges : (P : Charge → Type 0) (v : CellView) (ws : List CellView) → AllByRecursion P (all_joined v ws).charges → AllByRecursion P v.charges
+    × ((j : ℕ) (w : CellView) → get_elem? ws j ≡ some w → AllByRecursion P w.charges)
 each_charges P v [] h = (h, λ j w e. absurd (some-ne-none w (sym e)))
 each_charges P v (w ∷ ws) h = let r = each_charges P (joined v w) ws h in (each_left P v.charges w.charges r.0, pick r.0 r.1)
   where
-    pick : AllByRecursion P (v.charges ++ w.charges) → ((j : ℕ) (u : CellView) → get_elem? ws j ≡ some u → AllByRecursion P u.charges) → (j : ℕ) (u : CellView) → get_elem? (w ∷ ws) j ≡ some u → AllByRecursion P u.charges
+    pick : AllByRecursion P (v.charges ++ w.charges) → ((j : ℕ) (u : CellView) → get_elem? ws j ≡ some u → AllByRecursion P u.charges) → (j : ℕ) (u : CellView)
+        → get_elem? (w ∷ ws) j ≡ some u → AllByRecursion P u.charges
     pick one others zero u e = subst (λ (x : CellView). AllByRecursion P x.charges) (some-injective _ _ e) (each_right P v.charges w.charges one)
     pick one others (suc j) u e = others j u e
 
-each_looks : (P : ℕ × ℕ → Type 0) (v : CellView) (ws : List CellView) → AllByRecursion P (all_joined v ws).looks → AllByRecursion P v.looks × ((j : ℕ) (w : CellView) → get_elem? ws j ≡ some w → AllByRecursion P w.looks)
+each_looks : (P : ℕ × ℕ → Type 0) (v : CellView) (ws : List CellView) → AllByRecursion P (all_joined v ws).looks → AllByRecursion P v.looks
+    × ((j : ℕ) (w : CellView) → get_elem? ws j ≡ some w → AllByRecursion P w.looks)
 each_looks P v [] h = (h, λ j w e. absurd (some-ne-none w (sym e)))
 each_looks P v (w ∷ ws) h = let r = each_looks P (joined v w) ws h in (each_left P v.looks w.looks r.0, pick r.0 r.1)
   where
-    pick : AllByRecursion P (v.looks ++ w.looks) → ((j : ℕ) (u : CellView) → get_elem? ws j ≡ some u → AllByRecursion P u.looks) → (j : ℕ) (u : CellView) → get_elem? (w ∷ ws) j ≡ some u → AllByRecursion P u.looks
+    pick : AllByRecursion P (v.looks ++ w.looks) → ((j : ℕ) (u : CellView) → get_elem? ws j ≡ some u → AllByRecursion P u.looks) → (j : ℕ) (u : CellView)
+        → get_elem? (w ∷ ws) j ≡ some u → AllByRecursion P u.looks
     pick one others zero u e = subst (λ (x : CellView). AllByRecursion P x.looks) (some-injective _ _ e) (each_right P v.looks w.looks one)
     pick one others (suc j) u e = others j u e
 
-total_only : {A : Type 0} (f : A → ℕ) (xs : List A) (k : ℕ) (x : A) → get_elem? xs k ≡ some x → ((j : ℕ) (u : A) → (j ≡ k → ⊥) → get_elem? xs j ≡ some u → f u ≡ 0) → total f xs ≡ f x
+total_only : {A : Type 0} (f : A → ℕ) (xs : List A) (k : ℕ) (x : A) → get_elem? xs k ≡ some x → ((j : ℕ) (u : A) → (j ≡ k → ⊥) → get_elem? xs j ≡ some u → f u ≡ 0)
+    → total f xs ≡ f x
 total_only f [] k x e h = absurd (some-ne-none x (sym e))
 total_only f (y ∷ ys) zero x e h = let a : f y ≡ f x = ap f (some-injective _ _ e) in let b = total_none f ys (λ j u d. h (suc j) u (λ q. absurd (omega arith)) d) in omega arith
-total_only f (y ∷ ys) (suc k) x e h = let a = h 0 y (λ q. absurd (omega arith)) refl in let b = total_only f ys k x e (λ j u n d. h (suc j) u (λ q. n (omega arith)) d) in omega arith
+total_only f (y ∷ ys) (suc k) x e h =
+    let a = h 0 y (λ q. absurd (omega arith)) refl in let b = total_only f ys k x e (λ j u n d. h (suc j) u (λ q. n (omega arith)) d) in omega arith
 
 is_false : (b : Bool) → one_if b ≡ 0 → b ≡ false
 is_false true e = absurd (omega arith)
@@ -74,7 +81,8 @@ no_ticks ns [] z h = refl
 no_ticks [] (t ∷ ts) z h = absurd (let o = h.0 in omega arith)
 no_ticks (n ∷ ns) (t ∷ ts) z h = absurd (omega arith)
 
-module _ (a : Setup) (s : State ℕ CellView) (hold : Holds a s) (id : ℕ) (v : CellView) (at : get_elem? s.views id ≡ some v) (role : v.claimer ≡ true) (all : length v.numbers ≡ a.passes) where
+module _ (a : Setup) (s : State ℕ CellView) (hold : Holds a s) (id : ℕ) (v : CellView) (at : get_elem? s.views id ≡ some v) (role : v.claimer ≡ true)
+    (all : length v.numbers ≡ a.passes) where
   -- who isn't the claimer has no number left
   idle : (j : ℕ) (u : CellView) → (j ≡ id → ⊥) → get_elem? s.views j ≡ some u → (u.charges ≡ []) × (u.looks ≡ []) × (u.ticks ≡ [])
   idle j u n e =
@@ -91,13 +99,15 @@ module _ (a : Setup) (s : State ℕ CellView) (hold : Holds a s) (id : ℕ) (v :
   pub alone_ticks : (f : Tick → ℕ) → total (λ (x : CellView). total f x.ticks) s.views ≡ total f v.ticks
   alone_ticks f = total_only (λ (x : CellView). total f x.ticks) s.views id v at (λ j u n e. ap (total f) (idle j u n e).2)
 
-module _ (a : Setup) (s : State ℕ CellView) (hold : Holds a s) (id : ℕ) (c : CellView) (passes : List CellView) (claimer : IsClaimer a c) (at : get_elem? s.views id ≡ some (all_joined c passes)) (all : length (all_joined c passes).numbers ≡ a.passes) where
+module _ (a : Setup) (s : State ℕ CellView) (hold : Holds a s) (id : ℕ) (c : CellView) (passes : List CellView) (claimer : IsClaimer a c)
+    (at : get_elem? s.views id ≡ some (all_joined c passes)) (all : length (all_joined c passes).numbers ≡ a.passes) where
   role : (all_joined c passes).claimer ≡ true
   role = (joined_keeps c passes).0 ∙ claimer.role
 
   -- a sum over the charges of all views is that over those of the passes
   sums : (f : Charge → ℕ) → total (λ (x : CellView). total f x.charges) s.views ≡ total (λ (x : CellView). total f x.charges) passes
-  sums f = let x = alone a s hold id (all_joined c passes) at role all f in let y = joined_charges f c passes in let z : total f c.charges ≡ 0 = ap (total f) claimer.charges.0 in omega arith
+  sums f = let x = alone a s hold id (all_joined c passes) at role all f in let y = joined_charges f c passes in let z : total f c.charges ≡ 0 = ap (total f) claimer.charges.0 in
+      omega arith
 
   below : (claim bound : ℕ) → total (hits_below claim bound) s.views ≡ total (hits_below claim bound) passes
   below claim bound = sums (λ (y : Charge). cond (y.claim == claim) (cond (ltb y.before bound) y.hits 0) 0)
@@ -106,8 +116,10 @@ module _ (a : Setup) (s : State ℕ CellView) (hold : Holds a s) (id : ℕ) (c :
   laws j w e =
       let l = hold.3.lawful id (all_joined c passes) at in
       record {
-        charges = each_map (λ (x : Charge). (1 ≤ x.hits) × (x.before ≡ total (hits_below x.claim x.before) s.views)) (λ (x : Charge). (1 ≤ x.hits) × (x.before ≡ total (hits_below x.claim x.before) passes)) w.charges
-            (λ x h. (h.0, h.1 ∙ below x.claim x.before)) ((each_charges (λ (x : Charge). (1 ≤ x.hits) × (x.before ≡ total (hits_below x.claim x.before) s.views)) c passes l.charges).1 j w e);
+        charges = each_map (λ (x : Charge). (1 ≤ x.hits) × (x.before ≡ total (hits_below x.claim x.before) s.views))
+            (λ (x : Charge). (1 ≤ x.hits) × (x.before ≡ total (hits_below x.claim x.before) passes)) w.charges
+            (λ x h. (h.0, h.1 ∙ below x.claim x.before)) ((each_charges
+            (λ (x : Charge). (1 ≤ x.hits) × (x.before ≡ total (hits_below x.claim x.before) s.views)) c passes l.charges).1 j w e);
         looks = each_map (λ (p : ℕ × ℕ). p.1 ≡ total (hits_below p.0 p.1) s.views) (λ (p : ℕ × ℕ). p.1 ≡ total (hits_below p.0 p.1) passes) w.looks
             (λ p h. h ∙ below p.0 p.1) ((each_looks (λ (p : ℕ × ℕ). p.1 ≡ total (hits_below p.0 p.1) s.views) c passes l.looks).1 j w e);
       }
@@ -137,7 +149,8 @@ module _ (a : Setup) (s : State ℕ CellView) (hold : Holds a s) (id : ℕ) (c :
         top = ⊎_elim inl (λ o. inr (let x = tick_sums (offered (clock_of s.words)) in omega arith)) hold.4.top;
         offers = subst (AllByRecursion (λ (x : Tick). IfSome x.offer (λ m. m ≤ clock_of s.words))) ticks_is t.offers;
         sourced = subst (Sourced a.start (λ i m. total (λ (x : Tick). cond (x.number == i) 0 (offered m x)) (ticks_of passes)) []) ticks_is
-            (sourced_more a.start (λ i m. total (other_offers i m) s.views) (λ i m. total (λ (x : Tick). cond (x.number == i) 0 (offered m x)) (ticks_of passes)) [] (all_joined c passes).ticks
+            (sourced_more a.start (λ i m. total (other_offers i m) s.views) (λ i m. total (λ (x : Tick). cond (x.number == i) 0 (offered m x)) (ticks_of passes)) []
+            (all_joined c passes).ticks
             (λ i m. let x = tick_sums (λ (y : Tick). cond (y.number == i) 0 (offered m y)) in omega arith) t.sourced);
       }
 
@@ -149,7 +162,8 @@ pub record Ends (a : Setup) (c : CellView) (passes : List CellView) (ws : List �
   pub ticks : TicksAreLawful a.start (clock_of ws) (ticks_of passes)
   pub low : clock_of ws ≤ 1000000000000
 
-ends : (a : Setup) (id : ℕ) (c : CellView) (passes : List CellView) (ws xs : List ℕ) → IsClaimer a c → length (all_joined c passes).numbers ≡ a.passes → Final (Seen (AreLawful a) id (all_joined c passes)) ws xs → Ends a c passes ws
+ends : (a : Setup) (id : ℕ) (c : CellView) (passes : List CellView) (ws xs : List ℕ) → IsClaimer a c → length (all_joined c passes).numbers ≡ a.passes
+    → Final (Seen (AreLawful a) id (all_joined c passes)) ws xs → Ends a c passes ws
 ends a id c passes ws xs cl all last =
     let f = final_as a id (all_joined c passes) ws xs last in
     let s = f.0 in
@@ -164,7 +178,8 @@ ends a id c passes ws xs cl all last =
     })
 
 -- the same, of the claimer as it was given
-pub closes : (key a : Setup) → key ≡ a → (id : ℕ) (c v claimer : CellView) (passes : List CellView) (ws xs : List ℕ) → v ≡ all_joined c passes → c ≡ claimer → IsClaimer a claimer → length v.numbers ≡ length passes → length passes ≡ a.passes → Final (Seen (AreLawful key) id v) ws xs → Ends a claimer passes ws
+pub closes : (key a : Setup) → key ≡ a → (id : ℕ) (c v claimer : CellView) (passes : List CellView) (ws xs : List ℕ) → v ≡ all_joined c passes → c ≡ claimer → IsClaimer a claimer
+    → length v.numbers ≡ length passes → length passes ≡ a.passes → Final (Seen (AreLawful key) id v) ws xs → Ends a claimer passes ws
 closes key a same id c v claimer passes ws xs joins from cl numbers all last =
     let is = joins ∙ ap (λ (y : CellView). all_joined y passes) from in
     ends a id claimer passes ws xs cl (ap (λ (y : CellView). length y.numbers) (sym is) ∙ numbers ∙ all)

@@ -16,7 +16,8 @@ use Rattle.counter_cells.proofs.Sums.{total_set, total_same, total_le, each_set}
 use Rattle.counter_cells.proofs.Looking.{total_length, one_le, lawful_same}
 
 pub pins_le : (k : ℕ) (v : CellView) → pins_on k v ≤ pins_of v
-pins_le k v = let x = total_length (λ (q : ℕ × ℕ). one_if (q.0 == k)) v.good (λ q. one_le (q.0 == k)) in let y = total_length (λ (q : ℕ). one_if (q == k)) v.stray (λ q. one_le (q == k)) in omega arith
+pins_le k v = let x = total_length (λ (q : ℕ × ℕ). one_if (q.0 == k)) v.good (λ q. one_le (q.0 == k)) in
+    let y = total_length (λ (q : ℕ). one_if (q == k)) v.stray (λ q. one_le (q == k)) in omega arith
 
 total_scaled : {A : Type 0} (f : A → ℕ) (xs : List A) → total (λ x. 32 * f x) xs ≡ 32 * total f xs
 total_scaled f [] = refl
@@ -30,11 +31,13 @@ module _ (a : Setup) (t : Register) (gate count : ℕ → ℕ) (views : List Cel
       omega (arith, r.parts, r.few)
 
   -- what the word shows
-  pub open_shown : (k : ℕ) (st : Cell) → get_elem? t.cells k ≡ some st → (gate k % 2 ≡ one_if st.is_open) × (gate k / 131072 ≡ st.claim) × (gate k / 2 % 65536 ≡ total (pins_on k) views)
+  pub open_shown : (k : ℕ) (st : Cell) → get_elem? t.cells k ≡ some st → (gate k % 2 ≡ one_if st.is_open) × (gate k / 131072 ≡ st.claim)
+      × (gate k / 2 % 65536 ≡ total (pins_on k) views)
   open_shown k st at = let w = (r.cells k st at).word in let f = few_pins k in let o = one_le st.is_open in (omega arith, omega arith, omega arith)
 
   -- a step on a gate that leaves charges, looks and parts
-  pub gate_keeps : (gate' : ℕ → ℕ) (id : ℕ) (v w : CellView) → get_elem? views id ≡ some v → w.charges ≡ v.charges → w.looks ≡ v.looks → (w.claimer ≡ v.claimer) × (w.numbers ≡ v.numbers) × (w.unmade ≡ v.unmade)
+  pub gate_keeps : (gate' : ℕ → ℕ) (id : ℕ) (v w : CellView) → get_elem? views id ≡ some v → w.charges ≡ v.charges → w.looks ≡ v.looks → (w.claimer ≡ v.claimer)
+      × (w.numbers ≡ v.numbers) × (w.unmade ≡ v.unmade)
       → ((j : ℕ) (u : Cell) → get_elem? t.cells j ≡ some u → gate' j ≡ gate_word u.claim (one_if u.is_open) (total (pins_on j) (set views id w)))
       → ((j : ℕ) → small_on j w ≤ small_on j v)
       → ((j : ℕ) (u : Cell) → get_elem? t.cells j ≡ some u → u.is_open ≡ false → u.ever ≡ true → pair_of u.claim w ≡ pair_of u.claim v)
@@ -51,7 +54,11 @@ module _ (a : Setup) (t : Register) (gate count : ℕ → ℕ) (views : List Cel
               word = word j u e;
               never = f.never;
               sum = λ opn. f.sum opn ∙ sym (hs (λ (x : Charge). cond (x.claim == u.claim) x.hits 0));
-              fresh = λ off ev. let s = f.fresh off ev in (hs (λ (x : Charge). one_if (x.claim == u.claim)) ∙ s.0, ls (λ (x : ℕ × ℕ). one_if (x.0 == u.claim)) ∙ s.1, total_same (pair_of u.claim) views id v w at (pairs j u e off ev) ∙ s.2);
+              fresh = λ off ev. let s = f.fresh off ev in (
+                hs (λ (x : Charge). one_if (x.claim == u.claim)) ∙ s.0,
+                ls (λ (x : ℕ × ℕ). one_if (x.0 == u.claim)) ∙ s.1,
+                total_same (pair_of u.claim) views id v w at (pairs j u e off ev) ∙ s.2,
+              );
               zeroed = f.zeroed;
               room = let m = f.room in let s = total_set (small_on j) views id v w at in let l = small j in omega arith;
             };

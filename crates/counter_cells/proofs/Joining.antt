@@ -1,5 +1,6 @@
 -- A pass joined keeps the rule.
-use Rattle.std.proofs.Common.{◌≡◌, ◌⊎◌, ℕ, ◌+◌, ◌≤◌, ◌<◌, ◌==◌, ◌&&◌, List, [], ◌∷◌, ◌++◌, length, set, false, true≢false, cond, refl, sym, ap, ◌∙◌, subst, arith, ⊎_elim, inl, inr, append_assoc, length-append}
+use Rattle.std.proofs.Common.{◌≡◌, ◌⊎◌, ℕ, ◌+◌, ◌≤◌, ◌<◌, ◌==◌, ◌&&◌, List, [], ◌∷◌, ◌++◌, length, set, false, true≢false, cond, refl, sym, ap, ◌∙◌, subst, arith, ⊎_elim, inl, inr}
+use Rattle.std.proofs.Common.{append_assoc, length-append}
 use Rattle.std.proofs.lemmas.List.{append-nil}
 use Rattle.std.specs.Prelude.{ltb, slice_index, IfSome}
 use native.Mathlib.Decide.{dec_lt}
@@ -29,13 +30,16 @@ own_append i m xs ys = total_append (λ (x : Tick). cond (x.number == i) (offere
 sourced_behind : (start : ℕ) (other : ℕ → ℕ → ℕ) (pre before xs : List Tick) → Sourced start other before xs → Sourced start other (pre ++ before) xs
 sourced_behind start other pre before [] s = tt
 sourced_behind start other pre before (x ∷ xs) s = (
-  ⊎_elim inl (λ q. inr (⊎_elim (λ o. inl (subst (λ (l : List Tick). 1 ≤ own_offers x.number x.moment l) (sym (append_assoc pre before (x ∷ []))) (let y = own_append x.number x.moment pre (before ++ x ∷ []) in omega arith))) inr q)) s.0,
+  ⊎_elim inl (λ q. inr (⊎_elim (λ o. inl (subst (λ (l : List Tick). 1 ≤ own_offers x.number x.moment l) (sym (append_assoc pre before (x ∷ [])))
+      (let y = own_append x.number x.moment pre (before ++ x ∷ []) in omega arith))) inr q)) s.0,
   subst (λ (l : List Tick). Sourced start other l xs) (sym (append_assoc pre before (x ∷ []))) (sourced_behind start other pre (before ++ x ∷ []) xs s.1),
 )
 
-sourced_append : (start : ℕ) (other : ℕ → ℕ → ℕ) (before xs ys : List Tick) → Sourced start other before xs → Sourced start other (before ++ xs) ys → Sourced start other before (xs ++ ys)
+sourced_append : (start : ℕ) (other : ℕ → ℕ → ℕ) (before xs ys : List Tick) → Sourced start other before xs → Sourced start other (before ++ xs) ys
+    → Sourced start other before (xs ++ ys)
 sourced_append start other before [] ys s u = subst (λ (l : List Tick). Sourced start other l ys) (append-nil before) u
-sourced_append start other before (x ∷ xs) ys s u = (s.0, sourced_append start other (before ++ x ∷ []) xs ys s.1 (subst (λ (l : List Tick). Sourced start other l ys) (sym (append_assoc before (x ∷ []) xs)) u))
+sourced_append start other before (x ∷ xs) ys s u =
+    (s.0, sourced_append start other (before ++ x ∷ []) xs ys s.1 (subst (λ (l : List Tick). Sourced start other l ys) (sym (append_assoc before (x ∷ []) xs)) u))
 
 last_append : (m : ℕ) (xs ys : List Tick) → last_moment m (xs ++ ys) ≡ last_moment (last_moment m xs) ys
 last_append m [] ys = refl
@@ -46,7 +50,8 @@ last_low m k [] c a b = a
 last_low m k (x ∷ xs) c a b = b
 
 module _ (a : Setup) (id other : ℕ) (v w : CellView) where
-  pub joins : (pins_of v ≡ 0) × (pins_of w ≡ 0) → w.claimer ≡ false → w.unmade ≡ 0 → (1 ≤ length v.numbers + one_if v.claimer) × (1 ≤ length w.numbers) → Joins (Holds a) id v other w (joined v w) empty_view
+  pub joins : (pins_of v ≡ 0) × (pins_of w ≡ 0) → w.claimer ≡ false → w.unmade ≡ 0 → (1 ≤ length v.numbers + one_if v.claimer) × (1 ≤ length w.numbers)
+      → Joins (Holds a) id v other w (joined v w) empty_view
   joins bare role none live s hold at apart there = (hold.0, hold.1, hold.2, rule, clock)
     where
       both : CellView
@@ -73,13 +78,16 @@ module _ (a : Setup) (id other : ℕ) (v w : CellView) where
       small : (j : ℕ) → total (small_on j) (set (set s.views id (joined v w)) other empty_view) ≤ total (small_on j) s.views
       small j = sum_le (small_on j) (omega arith) refl
 
-      charges : (f : Charge → ℕ) → total (λ (x : CellView). total f x.charges) (set (set s.views id (joined v w)) other empty_view) ≡ total (λ (x : CellView). total f x.charges) s.views
+      charges : (f : Charge → ℕ) → total (λ (x : CellView). total f x.charges) (set (set s.views id (joined v w)) other empty_view) ≡ total
+          (λ (x : CellView). total f x.charges) s.views
       charges f = sum (λ (x : CellView). total f x.charges) (total_append f v.charges w.charges) refl
 
-      looks : (f : (ℕ × ℕ) → ℕ) → total (λ (x : CellView). total f x.looks) (set (set s.views id (joined v w)) other empty_view) ≡ total (λ (x : CellView). total f x.looks) s.views
+      looks : (f : (ℕ × ℕ) → ℕ) → total (λ (x : CellView). total f x.looks) (set (set s.views id (joined v w)) other empty_view) ≡ total
+          (λ (x : CellView). total f x.looks) s.views
       looks f = sum (λ (x : CellView). total f x.looks) (total_append f v.looks w.looks) refl
 
-      pairs : (f : (ℕ × ℕ) → ℕ) → total (λ (x : CellView). total f x.pairs) (set (set s.views id (joined v w)) other empty_view) ≡ total (λ (x : CellView). total f x.pairs) s.views
+      pairs : (f : (ℕ × ℕ) → ℕ) → total (λ (x : CellView). total f x.pairs) (set (set s.views id (joined v w)) other empty_view) ≡ total
+          (λ (x : CellView). total f x.pairs) s.views
       pairs f = sum (λ (x : CellView). total f x.pairs) (total_append f v.pairs w.pairs) refl
 
       law : (x : CellView) → ViewLawful s.views x → ViewLawful (set (set s.views id (joined v w)) other empty_view) x
@@ -98,12 +106,21 @@ module _ (a : Setup) (id other : ℕ) (v w : CellView) where
           let g = hold.3.each other w was in
           record {
             pins = (let b = bare.0 in omega arith, let b = bare.0 in omega arith);
-            good = λ k c o. let x = f.good k c o in (x.0, x.1, x.2, x.3, (let p = x.4 in let q = total_append (λ (y : ℕ × ℕ). one_if ((y.0 == k) && (y.1 == c))) v.pairs w.pairs in omega arith));
+            good = λ k c o. let x = f.good k c o in (
+              x.0,
+              x.1,
+              x.2,
+              x.3,
+              (let p = x.4 in let q = total_append (λ (y : ℕ × ℕ). one_if ((y.0 == k) && (y.1 == c))) v.pairs w.pairs in omega arith),
+            );
             under = λ k o. absurd (omega arith);
             once = λ k. (omega arith, omega arith);
-            past = λ k c o. ⊎_elim (f.past k c) (g.past k c) (either_one (pair_at k c v) (pair_at k c w) (let q = total_append (λ (y : ℕ × ℕ). one_if ((y.0 == k) && (y.1 == c))) v.pairs w.pairs in omega arith));
-            charges = λ c o. ⊎_elim (f.charges c) (g.charges c) (either_one (charges_of c v) (charges_of c w) (let q = total_append (λ (y : Charge). one_if (y.claim == c)) v.charges w.charges in omega arith));
-            looks = λ c o. ⊎_elim (f.looks c) (g.looks c) (either_one (looks_of c v) (looks_of c w) (let q = total_append (λ (y : ℕ × ℕ). one_if (y.0 == c)) v.looks w.looks in omega arith));
+            past = λ k c o. ⊎_elim (f.past k c) (g.past k c) (either_one (pair_at k c v) (pair_at k c w)
+                (let q = total_append (λ (y : ℕ × ℕ). one_if ((y.0 == k) && (y.1 == c))) v.pairs w.pairs in omega arith));
+            charges = λ c o. ⊎_elim (f.charges c) (g.charges c) (either_one (charges_of c v) (charges_of c w)
+                (let q = total_append (λ (y : Charge). one_if (y.claim == c)) v.charges w.charges in omega arith));
+            looks = λ c o. ⊎_elim (f.looks c) (g.looks c) (either_one (looks_of c v) (looks_of c w)
+                (let q = total_append (λ (y : ℕ × ℕ). one_if (y.0 == c)) v.looks w.looks in omega arith));
             idle = λ _ z. absurd (let l = live.1 in let x = length-append v.numbers w.numbers in omega arith);
             claimer = f.claimer;
             caps = λ k u e o.
@@ -134,7 +151,8 @@ module _ (a : Setup) (id other : ℕ) (v w : CellView) where
           let p = law v (hold.3.lawful id v at) in
           let q = law w (hold.3.lawful other w was) in
           record {
-            charges = each_append (λ (y : Charge). (1 ≤ y.hits) × (y.before ≡ total (hits_below y.claim y.before) (set (set s.views id (joined v w)) other empty_view))) v.charges w.charges p.charges q.charges;
+            charges = each_append (λ (y : Charge). (1 ≤ y.hits) × (y.before ≡ total (hits_below y.claim y.before) (set (set s.views id (joined v w)) other empty_view))) v.charges
+                w.charges p.charges q.charges;
             looks = each_append (λ (y : ℕ × ℕ). y.1 ≡ total (hits_below y.0 y.1) (set (set s.views id (joined v w)) other empty_view)) v.looks w.looks p.looks q.looks;
           }
 
@@ -150,7 +168,8 @@ module _ (a : Setup) (id other : ℕ) (v w : CellView) where
       other_sum : (i m : ℕ) → total (other_offers i m) (set (set s.views id (joined v w)) other empty_view) ≡ total (other_offers i m) s.views
       other_sum i m = sum (other_offers i m) (total_append (λ (x : Tick). cond (x.number == i) 0 (offered m x)) v.ticks w.ticks) refl
 
-      old : (j : ℕ) (u : CellView) → get_elem? s.views j ≡ some u → TicksFit a.start (slice_index s.words 0) (λ i m. total (other_offers i m) (set (set s.views id (joined v w)) other empty_view)) u
+      old : (j : ℕ) (u : CellView) → get_elem? s.views j ≡ some u → TicksFit a.start (slice_index s.words 0)
+          (λ i m. total (other_offers i m) (set (set s.views id (joined v w)) other empty_view)) u
       old j u e =
           let f = hold.4.each j u e in
           record {
@@ -158,7 +177,8 @@ module _ (a : Setup) (id other : ℕ) (v w : CellView) where
             last = f.last;
             offers = f.offers;
             numbers = f.numbers;
-            sourced = sourced_more a.start (λ i m. total (other_offers i m) s.views) (λ i m. total (other_offers i m) (set (set s.views id (joined v w)) other empty_view)) [] u.ticks (λ i m. let x = other_sum i m in omega arith) f.sourced;
+            sourced = sourced_more a.start (λ i m. total (other_offers i m) s.views)
+                (λ i m. total (other_offers i m) (set (set s.views id (joined v w)) other empty_view)) [] u.ticks (λ i m. let x = other_sum i m in omega arith) f.sourced;
           }
 
       clock_both : TicksFit a.start (slice_index s.words 0) (λ i m. total (other_offers i m) (set (set s.views id (joined v w)) other empty_view)) (joined v w)
@@ -172,10 +192,13 @@ module _ (a : Setup) (id other : ℕ) (v w : CellView) where
             last = λ _. ap (λ m. last_moment m w.ticks) (f.last live.0) ∙ sym (last_append a.start v.ticks w.ticks);
             offers = each_append (λ (x : Tick). IfSome x.offer (λ m. m ≤ slice_index s.words 0)) v.ticks w.ticks f.offers g.offers;
             numbers = each_append (λ (x : Tick). 1 ≤ times x.number (v.numbers ++ w.numbers)) v.ticks w.ticks
-                (each_map (λ (x : Tick). 1 ≤ times x.number v.numbers) (λ (x : Tick). 1 ≤ times x.number (v.numbers ++ w.numbers)) v.ticks (λ x o. let y = total_append (λ (n : ℕ). one_if (n == x.number)) v.numbers w.numbers in omega arith) f.numbers)
-                (each_map (λ (x : Tick). 1 ≤ times x.number w.numbers) (λ (x : Tick). 1 ≤ times x.number (v.numbers ++ w.numbers)) w.ticks (λ x o. let y = total_append (λ (n : ℕ). one_if (n == x.number)) v.numbers w.numbers in omega arith) g.numbers);
+                (each_map (λ (x : Tick). 1 ≤ times x.number v.numbers) (λ (x : Tick). 1 ≤ times x.number (v.numbers ++ w.numbers)) v.ticks
+                (λ x o. let y = total_append (λ (n : ℕ). one_if (n == x.number)) v.numbers w.numbers in omega arith) f.numbers)
+                (each_map (λ (x : Tick). 1 ≤ times x.number w.numbers) (λ (x : Tick). 1 ≤ times x.number (v.numbers ++ w.numbers)) w.ticks
+                (λ x o. let y = total_append (λ (n : ℕ). one_if (n == x.number)) v.numbers w.numbers in omega arith) g.numbers);
             sourced = sourced_append a.start (λ i m. total (other_offers i m) (set (set s.views id (joined v w)) other empty_view)) [] v.ticks w.ticks f.sourced
-                (subst (λ (l : List Tick). Sourced a.start (λ i m. total (other_offers i m) (set (set s.views id (joined v w)) other empty_view)) l w.ticks) (append-nil v.ticks) (sourced_behind a.start (λ i m. total (other_offers i m) (set (set s.views id (joined v w)) other empty_view)) v.ticks [] w.ticks g.sourced));
+                (subst (λ (l : List Tick). Sourced a.start (λ i m. total (other_offers i m) (set (set s.views id (joined v w)) other empty_view)) l w.ticks) (append-nil v.ticks)
+                (sourced_behind a.start (λ i m. total (other_offers i m) (set (set s.views id (joined v w)) other empty_view)) v.ticks [] w.ticks g.sourced));
           }
 
       clock : ClockIsGreatestOffer a (slice_index s.words 0) (set (set s.views id (joined v w)) other empty_view)
@@ -184,14 +207,18 @@ module _ (a : Setup) (id other : ℕ) (v w : CellView) where
           record {
             least = c.least;
             most = c.most;
-            top = ⊎_elim inl (λ o. inr (let x = sum (offers (slice_index s.words 0)) (total_append (λ (x : Tick). offered (slice_index s.words 0) x) v.ticks w.ticks) refl in omega arith)) c.top;
-            each = each_set (TicksFit a.start (slice_index s.words 0) (λ i m. total (other_offers i m) (set (set s.views id (joined v w)) other empty_view))) (set s.views id (joined v w)) other empty_view
-                (λ j x _ e. each_set (TicksFit a.start (slice_index s.words 0) (λ i m. total (other_offers i m) (set (set s.views id (joined v w)) other empty_view))) s.views id (joined v w) (λ j' x' _ e'. old j' x' e') clock_both j x e)
+            top = ⊎_elim inl (λ o. inr (let x = sum (offers (slice_index s.words 0)) (total_append (λ (x : Tick). offered (slice_index s.words 0) x) v.ticks w.ticks) refl in
+                omega arith)) c.top;
+            each = each_set (TicksFit a.start (slice_index s.words 0) (λ i m. total (other_offers i m) (set (set s.views id (joined v w)) other empty_view)))
+                (set s.views id (joined v w)) other empty_view
+                (λ j x _ e. each_set (TicksFit a.start (slice_index s.words 0) (λ i m. total (other_offers i m) (set (set s.views id (joined v w)) other empty_view))) s.views id
+                (joined v w) (λ j' x' _ e'. old j' x' e') clock_both j x e)
                 (record { moment = omega arith; last = λ z. absurd (omega arith); offers = tt; numbers = tt; sourced = tt });
             numbers = λ i.
                 let o = c.numbers i in
                 let z : one_if (ltb i w.unmade) ≡ 0 = ap (λ n. one_if (ltb i n)) none ∙ below_no i 0 1 0 (omega arith) in
                 let z' = below_no i 0 1 0 (omega arith) in
-                let x = sum (λ (x : CellView). times i x.numbers + one_if (ltb i x.unmade)) (let y = total_append (λ (n : ℕ). one_if (n == i)) v.numbers w.numbers in omega arith) (omega arith) in
+                let x = sum (λ (x : CellView). times i x.numbers + one_if (ltb i x.unmade)) (let y = total_append (λ (n : ℕ). one_if (n == i)) v.numbers w.numbers in omega arith)
+                (omega arith) in
                 omega arith;
           }

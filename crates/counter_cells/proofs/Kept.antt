@@ -35,7 +35,9 @@ pub record CellFits (passes : ℕ) (st : Cell) (gate count pins small hits charg
   pub room : count + most_hits * small ≤ most_hits * (1 + passes)
 
 abbrev pub cell_fits : ℕ → Cell → ℕ → ℕ → List CellView → ℕ → Type 0
-cell_fits passes st gate count views k = CellFits passes st gate count (total (pins_on k) views) (total (small_on k) views) (total (hits_of st.claim) views) (total (charges_of st.claim) views) (total (looks_of st.claim) views) (total (pair_of st.claim) views)
+cell_fits passes st gate count views k =
+    CellFits passes st gate count (total (pins_on k) views) (total (small_on k) views) (total (hits_of st.claim) views) (total (charges_of st.claim) views)
+    (total (looks_of st.claim) views) (total (pair_of st.claim) views)
 
 -- one view, by the register
 pub record ViewFits (t : Register) (count : ℕ → ℕ) (v : CellView) : Type 0 where
@@ -72,4 +74,5 @@ pub record Rule (a : Setup) (t : Register) (gate count : ℕ → ℕ) (views : L
   pub few : a.passes ≤ 1024
 
 abbrev pub Holds : Setup → State ℕ CellView → Type 0
-Holds a s = (t : Register) × (length s.words ≡ 2 * length t.cells + 1) × (length t.cells ≡ a.cells) × Rule a t (gate_of s.words) (count_of s.words) s.views × ClockIsGreatestOffer a (clock_of s.words) s.views
+Holds a s = (t : Register) × (length s.words ≡ 2 * length t.cells + 1) × (length t.cells ≡ a.cells) × Rule a t (gate_of s.words) (count_of s.words) s.views
+    × ClockIsGreatestOffer a (clock_of s.words) s.views

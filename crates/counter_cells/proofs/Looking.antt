@@ -30,15 +30,20 @@ pub live : (k : ℕ) (v : CellView) → 1 ≤ good_on k v → pins_of v ≤ 32 *
 live k v g p = let l = total_length (λ (q : ℕ × ℕ). one_if (q.0 == k)) v.good (λ q. one_le (q.0 == k)) in omega arith
 
 -- what the charges of all views say is the same where no charge was added
-pub lawful_same : (views : List CellView) (id : ℕ) (v w x : CellView) → get_elem? views id ≡ some v → ((f : Charge → ℕ) → total f w.charges ≡ total f v.charges) → ViewLawful views x → ViewLawful (set views id w) x
+pub lawful_same : (views : List CellView) (id : ℕ) (v w x : CellView) → get_elem? views id ≡ some v → ((f : Charge → ℕ) → total f w.charges ≡ total f v.charges)
+    → ViewLawful views x → ViewLawful (set views id w) x
 lawful_same views id v w x at same l =
     let sums = λ (c b : ℕ). total_same (hits_below c b) views id v w at (same (λ (y : Charge). cond (y.claim == c) (cond (ltb y.before b) y.hits 0) 0)) in
     record {
-      charges = each_map (λ (y : Charge). (1 ≤ y.hits) × (y.before ≡ total (hits_below y.claim y.before) views)) (λ (y : Charge). (1 ≤ y.hits) × (y.before ≡ total (hits_below y.claim y.before) (set views id w))) x.charges (λ y q. (q.0, q.1 ∙ sym (sums y.claim y.before))) l.charges;
-      looks = each_map (λ (y : ℕ × ℕ). y.1 ≡ total (hits_below y.0 y.1) views) (λ (y : ℕ × ℕ). y.1 ≡ total (hits_below y.0 y.1) (set views id w)) x.looks (λ y q. q ∙ sym (sums y.0 y.1)) l.looks;
+      charges = each_map (λ (y : Charge). (1 ≤ y.hits) × (y.before ≡ total (hits_below y.claim y.before) views))
+          (λ (y : Charge). (1 ≤ y.hits) × (y.before ≡ total (hits_below y.claim y.before) (set views id w))) x.charges
+          (λ y q. (q.0, q.1 ∙ sym (sums y.claim y.before))) l.charges;
+      looks = each_map (λ (y : ℕ × ℕ). y.1 ≡ total (hits_below y.0 y.1) views) (λ (y : ℕ × ℕ). y.1 ≡ total (hits_below y.0 y.1) (set views id w)) x.looks
+          (λ y q. q ∙ sym (sums y.0 y.1)) l.looks;
     }
 
-module _ (a : Setup) (t : Register) (gate count : ℕ → ℕ) (views : List CellView) (r : Rule a t gate count views) (id k : ℕ) (v : CellView) (at : get_elem? views id ≡ some v) (pin : 1 ≤ good_on k v) where
+module _ (a : Setup) (t : Register) (gate count : ℕ → ℕ) (views : List CellView) (r : Rule a t gate count views) (id k : ℕ) (v : CellView) (at : get_elem? views id ≡ some v)
+    (pin : 1 ≤ good_on k v) where
   abbrev W : CellView
   W = looked k (count k) v
 
@@ -76,7 +81,9 @@ module _ (a : Setup) (t : Register) (gate count : ℕ → ℕ) (views : List Cel
   grows : (f : (ℕ × ℕ) → ℕ) → total (λ (u : CellView). total f u.looks) (set views id W) ≡ total (λ (u : CellView). total f u.looks) views + f (C, count k)
   grows f = omega (arith, total_set (λ (u : CellView). total f u.looks) views id v W at, total_push f v.looks (C, count k))
 
-  room_here : Dec (count k < 4294967296) → total (small_on k) (set views id W) ≤ a.passes → total (small_on k) (set views id W) + small_on k v ≡ total (small_on k) views + small_on k W → count k + most_hits * total (small_on k) views ≤ most_hits * (1 + a.passes) → count k + most_hits * total (small_on k) (set views id W) ≤ most_hits * (1 + a.passes)
+  room_here : Dec (count k < 4294967296) → total (small_on k) (set views id W) ≤ a.passes
+      → total (small_on k) (set views id W) + small_on k v ≡ total (small_on k) views + small_on k W → count k + most_hits * total (small_on k) views ≤ most_hits * (1 + a.passes)
+      → count k + most_hits * total (small_on k) (set views id W) ≤ most_hits * (1 + a.passes)
   room_here (yes d) few s m = omega arith
   room_here (no d) few s m = let z = small_here in let y = below_no (count k) 4294967296 1 0 (omega arith) in omega arith
 
@@ -100,8 +107,11 @@ module _ (a : Setup) (t : Register) (gate count : ℕ → ℕ) (views : List Cel
       shut off ev same (yes e') = true≢false (sym (ap (λ (s : Cell). s.is_open) (some-injective _ _ (sym e ∙ ap (λ i. get_elem? t.cells i) e' ∙ mine.1)) ∙ mine.2) ∙ off)
       shut off ev same (no n) = n (one_cell a t gate count views r k j mine.0 u mine.1 e mine.2 ev (sym same ∙ sym mine.3))
 
-      room : Dec (j ≡ k) → count j + most_hits * total (small_on j) views ≤ most_hits * (1 + a.passes) → count j + most_hits * total (small_on j) (set views id W) ≤ most_hits * (1 + a.passes)
-      room (yes e') m = subst (λ i. count i + most_hits * total (small_on i) (set views id W) ≤ most_hits * (1 + a.passes)) (sym e') (room_here (dec_lt (count k) 4294967296) few_looks (total_set (small_on k) views id v W at) (subst (λ i. count i + most_hits * total (small_on i) views ≤ most_hits * (1 + a.passes)) e' m))
+      room : Dec (j ≡ k) → count j + most_hits * total (small_on j) views ≤ most_hits * (1 + a.passes)
+          → count j + most_hits * total (small_on j) (set views id W) ≤ most_hits * (1 + a.passes)
+      room (yes e') m = subst (λ i. count i + most_hits * total (small_on i) (set views id W) ≤ most_hits * (1 + a.passes)) (sym e')
+          (room_here (dec_lt (count k) 4294967296) few_looks (total_set (small_on k) views id v W at)
+          (subst (λ i. count i + most_hits * total (small_on i) views ≤ most_hits * (1 + a.passes)) e' m))
       room (no n) m = let s = total_same (small_on j) views id v W at (small_else j n) in omega arith
 
   fits_mine : ViewFits t count W
@@ -127,11 +137,13 @@ module _ (a : Setup) (t : Register) (gate count : ℕ → ℕ) (views : List Cel
       under_now j (yes e) o f = subst (λ i. 1 ≤ good_on i v) (sym e) pin
       under_now j (no n) o f = f (let u = unused_else j n in omega arith)
 
-      once_now : (j : ℕ) → Dec (j ≡ k) → (unused_on j v ≤ 1) × (unused_on j v ≤ length v.numbers) → 1 ≤ length v.numbers → (unused_on j W ≤ 1) × (unused_on j W ≤ length v.numbers)
+      once_now : (j : ℕ) → Dec (j ≡ k) → (unused_on j v ≤ 1) × (unused_on j v ≤ length v.numbers) → 1 ≤ length v.numbers → (unused_on j W ≤ 1)
+          × (unused_on j W ≤ length v.numbers)
       once_now j (yes e) f l = let u : unused_on j W ≡ 1 = ap (λ i. unused_on i W) e ∙ unused_here in (omega arith, omega arith)
       once_now j (no n) f l = let u = unused_else j n in (omega arith, omega arith)
 
-      claims_used_now : (d : ℕ) → total (λ (x : ℕ × ℕ). one_if (x.0 == d)) (v.looks ++ (C, count k) ∷ []) ≡ looks_of d v + one_if (C == d) → 1 ≤ total (λ (x : ℕ × ℕ). one_if (x.0 == d)) (v.looks ++ (C, count k) ∷ []) → Dec (C ≡ d) → (1 ≤ looks_of d v → 1 ≤ times d t.used_claims) → 1 ≤ times d t.used_claims
+      claims_used_now : (d : ℕ) → total (λ (x : ℕ × ℕ). one_if (x.0 == d)) (v.looks ++ (C, count k) ∷ []) ≡ looks_of d v + one_if (C == d)
+          → 1 ≤ total (λ (x : ℕ × ℕ). one_if (x.0 == d)) (v.looks ++ (C, count k) ∷ []) → Dec (C ≡ d) → (1 ≤ looks_of d v → 1 ≤ times d t.used_claims) → 1 ≤ times d t.used_claims
       claims_used_now d g o (yes e) f = subst (λ i. 1 ≤ times i t.used_claims) e ((r.each id v at).past k C mine.4).0
       claims_used_now d g o (no n) f = let z = cond_no C d 1 0 n in f (omega arith)
 
@@ -152,7 +164,8 @@ module _ (a : Setup) (t : Register) (gate count : ℕ → ℕ) (views : List Cel
             (record {
               charges = m.charges;
               looks = each_push (λ (y : ℕ × ℕ). y.1 ≡ total (hits_below y.0 y.1) (set views id W)) v.looks (C, count k) m.looks
-                  (whole_below a t gate count views r k mine.0 mine.1 mine.2 ∙ ap (λ d. total (hits_below d (count k)) views) mine.3 ∙ sym (total_same (hits_below C (count k)) views id v W at refl));
+                  (whole_below a t gate count views r k mine.0 mine.1 mine.2 ∙ ap (λ d. total (hits_below d (count k)) views) mine.3
+                  ∙ sym (total_same (hits_below C (count k)) views id v W at refl));
             });
         claimer = total_same (λ (x : CellView). one_if x.claimer) views id v W at refl ∙ r.claimer;
         parts = total_same (λ (x : CellView). length x.numbers + x.unmade) views id v W at refl ∙ r.parts;

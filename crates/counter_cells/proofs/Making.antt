@@ -36,7 +36,14 @@ word_zero x n zero h = absurd (omega arith)
 word_zero x n (suc i) h = rep_zero n i
 
 pub begins : (a : Setup) (ws : List ℕ) → ws ≡ a.start ∷ replicate (2 * a.cells) 0 → a.passes ≤ 1024 → a.start ≤ 1000000000000 → AreLawful a (opening ws [] (first_claimer a))
-begins a ws is few low = lawful a (opening ws [] (first_claimer a)) (subst (λ (l : List ℕ). Holds a (opening l [] (first_claimer a))) (sym is) (record { cells = replicate a.cells no_cell; used_claims = [] }, omega (arith, length-replicate (2 * a.cells) zero, length-replicate a.cells no_cell), length-replicate a.cells no_cell, rule, clock))
+begins a ws is few low = lawful a (opening ws [] (first_claimer a))
+    (subst (λ (l : List ℕ). Holds a (opening l [] (first_claimer a))) (sym is) (
+      record { cells = replicate a.cells no_cell; used_claims = [] },
+      omega (arith, length-replicate (2 * a.cells) zero, length-replicate a.cells no_cell),
+      length-replicate a.cells no_cell,
+      rule,
+      clock,
+    ))
   where
     fits : ViewFits (record { cells = replicate a.cells no_cell; used_claims = [] }) (count_of (a.start ∷ replicate (2 * a.cells) 0)) (first_claimer a)
     fits = record {
@@ -59,13 +66,27 @@ begins a ws is few low = lawful a (opening ws [] (first_claimer a)) (subst (λ (
     cell k =
         let g = word_zero a.start (2 * a.cells) (2 * k + 1) (omega arith) in
         let c = word_zero a.start (2 * a.cells) (2 * k + 2) (omega arith) in
-        record { word = g; never = λ _. (refl, refl); sum = λ o. absurd (true≢false (sym o)); fresh = λ _ e. absurd (true≢false (sym e)); zeroed = λ _ e. absurd (true≢false (sym e)); room = omega arith }
+        record {
+          word = g;
+          never = λ _. (refl, refl);
+          sum = λ o. absurd (true≢false (sym o));
+          fresh = λ _ e. absurd (true≢false (sym e));
+          zeroed = λ _ e. absurd (true≢false (sym e));
+          room = omega arith;
+        }
 
-    rule : Rule a (record { cells = replicate a.cells no_cell; used_claims = [] }) (gate_of (a.start ∷ replicate (2 * a.cells) 0)) (count_of (a.start ∷ replicate (2 * a.cells) 0)) (first_claimer a ∷ [])
+    rule : Rule a (record { cells = replicate a.cells no_cell; used_claims = [] }) (gate_of (a.start ∷ replicate (2 * a.cells) 0))
+        (count_of (a.start ∷ replicate (2 * a.cells) 0)) (first_claimer a ∷ [])
     rule = record {
-      truth = record { apart = λ j k s u e d es eu same. absurd (off j s e es); used_claims = λ k s e es. absurd (off k s e es); small = λ k s e. let z = ap (λ (c : Cell). c.claim) (rep_at a.cells no_cell k s e) in omega arith };
-      cells = λ k st e. subst (λ (c : Cell). CellFits a.passes c (gate_of (a.start ∷ replicate (2 * a.cells) 0) k) (count_of (a.start ∷ replicate (2 * a.cells) 0) k) 0 0 0 0 0 0) (rep_at a.cells no_cell k st e) (cell k);
-      each = λ j v e. subst (ViewFits (record { cells = replicate a.cells no_cell; used_claims = [] }) (count_of (a.start ∷ replicate (2 * a.cells) 0))) (one_view (first_claimer a) j v e) fits;
+      truth = record {
+        apart = λ j k s u e d es eu same. absurd (off j s e es);
+        used_claims = λ k s e es. absurd (off k s e es);
+        small = λ k s e. let z = ap (λ (c : Cell). c.claim) (rep_at a.cells no_cell k s e) in omega arith;
+      };
+      cells = λ k st e. subst (λ (c : Cell). CellFits a.passes c (gate_of (a.start ∷ replicate (2 * a.cells) 0) k) (count_of (a.start ∷ replicate (2 * a.cells) 0) k) 0 0 0 0 0 0)
+          (rep_at a.cells no_cell k st e) (cell k);
+      each = λ j v e. subst (ViewFits (record { cells = replicate a.cells no_cell; used_claims = [] }) (count_of (a.start ∷ replicate (2 * a.cells) 0)))
+          (one_view (first_claimer a) j v e) fits;
       once = λ c b. omega arith;
       lawful = λ j v e. subst (ViewLawful (first_claimer a ∷ [])) (one_view (first_claimer a) j v e) (record { charges = tt; looks = tt });
       claimer = refl;
@@ -78,6 +99,7 @@ begins a ws is few low = lawful a (opening ws [] (first_claimer a)) (subst (λ (
       least = omega arith;
       top = inl refl;
       most = low;
-      each = λ j v e. subst (TicksFit a.start a.start (λ i m. total (other_offers i m) (first_claimer a ∷ []))) (one_view (first_claimer a) j v e) (record { moment = omega arith; last = λ _. refl; offers = tt; numbers = tt; sourced = tt });
+      each = λ j v e. subst (TicksFit a.start a.start (λ i m. total (other_offers i m) (first_claimer a ∷ []))) (one_view (first_claimer a) j v e)
+          (record { moment = omega arith; last = λ _. refl; offers = tt; numbers = tt; sourced = tt });
       numbers = λ i. let b = one_le (ltb i a.passes) in omega arith;
     }

@@ -18,7 +18,9 @@ no_hits : (c : ℕ) (xs : List Charge) → total (λ (x : Charge). one_if (x.cla
 no_hits c [] h = refl
 no_hits c (x ∷ xs) h = keep (x.claim == c) h (no_hits c xs)
   where
-    keep : (b : Bool) → one_if b + total (λ (y : Charge). one_if (y.claim == c)) xs ≡ 0 → (total (λ (y : Charge). one_if (y.claim == c)) xs ≡ 0 → total (λ (y : Charge). cond (y.claim == c) y.hits 0) xs ≡ 0) → cond b x.hits 0 + total (λ (y : Charge). cond (y.claim == c) y.hits 0) xs ≡ 0
+    keep : (b : Bool) → one_if b + total (λ (y : Charge). one_if (y.claim == c)) xs ≡ 0
+        → (total (λ (y : Charge). one_if (y.claim == c)) xs ≡ 0 → total (λ (y : Charge). cond (y.claim == c) y.hits 0) xs ≡ 0)
+        → cond b x.hits 0 + total (λ (y : Charge). cond (y.claim == c) y.hits 0) xs ≡ 0
     keep true h' r = absurd (omega arith)
     keep false h' r = let s = r (omega arith) in omega arith
 
@@ -26,9 +28,11 @@ no_caps : {A : Type 0} (f : A → ℕ) (P : A → Type 0) (c : ℕ) (xs : List A
 no_caps f P c [] h = tt
 no_caps f P c (x ∷ xs) h = ((λ e. absurd (let y = cond_yes (f x) c 1 0 e in omega arith)), no_caps f P c xs (omega arith))
 
-module _ (a : Setup) (t : Register) (gate gate' count count' : ℕ → ℕ) (views : List CellView) (r : Rule a t gate count views) (id k : ℕ) (v : CellView) (at : get_elem? views id ≡ some v) (role : v.claimer ≡ true) (st : Cell) (cell : get_elem? t.cells k ≡ some st) where
+module _ (a : Setup) (t : Register) (gate gate' count count' : ℕ → ℕ) (views : List CellView) (r : Rule a t gate count views) (id k : ℕ) (v : CellView)
+    (at : get_elem? views id ≡ some v) (role : v.claimer ≡ true) (st : Cell) (cell : get_elem? t.cells k ≡ some st) where
   pub open_keeps : st.ever ≡ true → st.is_open ≡ false → st.reset ≡ true → gate' k ≡ gate k + 1 → ((j : ℕ) → (j ≡ k → ⊥) → gate' j ≡ gate j)
-      → Rule a (record { cells = set t.cells k (record st { is_open = true }); used_claims = t.used_claims }) gate' count (set views id (record v { cells = set v.cells k (record st { is_open = true }); used_claims = t.used_claims; held = v.held }))
+      → Rule a (record { cells = set t.cells k (record st { is_open = true }); used_claims = t.used_claims }) gate' count
+      (set views id (record v { cells = set v.cells k (record st { is_open = true }); used_claims = t.used_claims; held = v.held }))
   open_keeps ev off done word gates =
       let W : CellView = record v { cells = set v.cells k (record st { is_open = true }); used_claims = t.used_claims; held = v.held } in
       let f = r.cells k st cell in

@@ -10,18 +10,21 @@ use Rattle.counter_cells.specs.Seats.{IsPass}
 use Rattle.counter_cells.proofs.Sums.{cond_yes}
 use Rattle.counter_cells.proofs.Views.{drop_length_one}
 
-pub still_pass : (k index : ℕ) (v w : CellView) → index ≡ gate_at k → w ≡ unpinned (gate_cell index) v → 1 ≤ good_on k v → IsPass v → IsPass w × (w.moment ≡ v.moment) × (length w.good + 1 ≡ length v.good)
+pub still_pass : (k index : ℕ) (v w : CellView) → index ≡ gate_at k → w ≡ unpinned (gate_cell index) v → 1 ≤ good_on k v → IsPass v → IsPass w × (w.moment ≡ v.moment)
+    × (length w.good + 1 ≡ length v.good)
 still_pass k index v w is step pin p =
     let e : gate_cell index ≡ k = omega arith in
     subst (λ (x : CellView). IsPass x × (x.moment ≡ v.moment) × (length x.good + 1 ≡ length v.good)) (ap (λ i. unpinned i v) (sym e) ∙ sym step)
     (record { role = p.role; number = p.number; made = p.made; straight = p.straight }, refl, drop_length_one k v.good pin)
 
 -- a gate's word without its pins, as the claimer that has read it knows it
-pub bare_is : (k index word bare : ℕ) (v w : CellView) → index ≡ gate_at k → w ≡ v → bit_shown word ≡ one_if (cell_or v.cells (gate_cell index)).is_open → claim_shown word ≡ (cell_or v.cells (gate_cell index)).claim → bare ≡ gate_word (claim_shown word) (bit_shown word) 0
+pub bare_is : (k index word bare : ℕ) (v w : CellView) → index ≡ gate_at k → w ≡ v → bit_shown word ≡ one_if (cell_or v.cells (gate_cell index)).is_open
+    → claim_shown word ≡ (cell_or v.cells (gate_cell index)).claim → bare ≡ gate_word (claim_shown word) (bit_shown word) 0
     → bare ≡ gate_word (cell_or w.cells k).claim (one_if (cell_or w.cells k).is_open) 0
 bare_is k index word bare v w is same bit claim shown =
     let e : gate_cell index ≡ k = omega arith in
-    shown ∙ subst (λ (x : ℕ × CellView). gate_word (claim_shown word) (bit_shown word) 0 ≡ gate_word (cell_or x.1.cells x.0).claim (one_if (cell_or x.1.cells x.0).is_open) 0) (λ i. (e i, sym same i)) (λ i. gate_word (claim i) (bit i) 0)
+    shown ∙ subst (λ (x : ℕ × CellView). gate_word (claim_shown word) (bit_shown word) 0 ≡ gate_word (cell_or x.1.cells x.0).claim (one_if (cell_or x.1.cells x.0).is_open) 0)
+    (λ i. (e i, sym same i)) (λ i. gate_word (claim i) (bit i) 0)
 
 -- a pin at a gate that doesn't show the claim is stray
 pub strays : (claim k word : ℕ) (v w : CellView) → w ≡ pinned claim k word v → shows claim word ≡ false → 1 ≤ stray_on k w

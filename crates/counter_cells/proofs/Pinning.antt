@@ -29,12 +29,17 @@ opened : (b : Bool) → one_if b ≡ 1 → b ≡ true
 opened true e = refl
 opened false e = absurd (omega arith)
 
-module _ (a : Setup) (t : Register) (gate gate' count : ℕ → ℕ) (views : List CellView) (r : Rule a t gate count views) (id k : ℕ) (v : CellView) (at : get_elem? views id ≡ some v) (st : Cell) (cell : get_elem? t.cells k ≡ some st) (here : gate' k ≡ gate k + 2) (else : (j : ℕ) → (j ≡ k → ⊥) → gate' j ≡ gate j) (able : (pins_of v < 32) × (1 ≤ length v.numbers)) where
+module _ (a : Setup) (t : Register) (gate gate' count : ℕ → ℕ) (views : List CellView) (r : Rule a t gate count views) (id k : ℕ) (v : CellView)
+    (at : get_elem? views id ≡ some v) (st : Cell) (cell : get_elem? t.cells k ≡ some st) (here : gate' k ≡ gate k + 2) (else : (j : ℕ) → (j ≡ k → ⊥) → gate' j ≡ gate j)
+    (able : (pins_of v < 32) × (1 ≤ length v.numbers)) where
   -- a gate's word after one pin more
-  word_more : (w : CellView) → ((j : ℕ) → pins_on j w ≡ pins_on j v + one_if (k == j)) → (j : ℕ) (u : Cell) → get_elem? t.cells j ≡ some u → gate' j ≡ gate_word u.claim (one_if u.is_open) (total (pins_on j) (set views id w))
+  word_more : (w : CellView) → ((j : ℕ) → pins_on j w ≡ pins_on j v + one_if (k == j)) → (j : ℕ) (u : Cell) → get_elem? t.cells j ≡ some u
+      → gate' j ≡ gate_word u.claim (one_if u.is_open) (total (pins_on j) (set views id w))
   word_more w more j u e = pick (ℕ_discrete j k) (r.cells j u e).word (total_set (pins_on j) views id v w at) (more j)
     where
-      pick : Dec (j ≡ k) → gate j ≡ gate_word u.claim (one_if u.is_open) (total (pins_on j) views) → total (pins_on j) (set views id w) + pins_on j v ≡ total (pins_on j) views + pins_on j w → pins_on j w ≡ pins_on j v + one_if (k == j) → gate' j ≡ gate_word u.claim (one_if u.is_open) (total (pins_on j) (set views id w))
+      pick : Dec (j ≡ k) → gate j ≡ gate_word u.claim (one_if u.is_open) (total (pins_on j) views)
+          → total (pins_on j) (set views id w) + pins_on j v ≡ total (pins_on j) views + pins_on j w → pins_on j w ≡ pins_on j v + one_if (k == j)
+          → gate' j ≡ gate_word u.claim (one_if u.is_open) (total (pins_on j) (set views id w))
       pick (yes d) f s m = let g : gate' j ≡ gate j + 2 = ap gate' d ∙ here ∙ sym (ap (λ i. gate i + 2) d) in let y = cond_yes k j 1 0 (sym d) in omega arith
       pick (no n) f s m = let g = else j n in let y = cond_no k j 1 0 (λ q. n (sym q)) in omega arith
 
@@ -45,7 +50,18 @@ module _ (a : Setup) (t : Register) (gate gate' count : ℕ → ℕ) (views : Li
       (word_more (stray_pin k (gate k) v) (λ j. omega arith))
       (λ j. omega arith)
       (λ j u e off ev. refl)
-      (record { pins = (omega arith, omega arith); good = f.good; under = f.under; once = f.once; past = f.past; charges = f.charges; looks = f.looks; idle = f.idle; claimer = f.claimer; caps = λ i u e o. let p = f.caps i u e o in record { charges = p.charges; looks = p.looks } })
+      (record {
+        pins = (omega arith, omega arith);
+        good = f.good;
+        under = f.under;
+        once = f.once;
+        past = f.past;
+        charges = f.charges;
+        looks = f.looks;
+        idle = f.idle;
+        claimer = f.claimer;
+        caps = λ i u e o. let p = f.caps i u e o in record { charges = p.charges; looks = p.looks };
+      })
 
   pub pin_keeps : (c : ℕ) → st.is_open ≡ true → st.claim ≡ c → Rule a t gate' count (set views id (good_pin k c v))
   pin_keeps c opn claim =
@@ -73,12 +89,20 @@ module _ (a : Setup) (t : Register) (gate gate' count : ℕ → ℕ) (views : Li
           let d = one_cell a t gate count views r k j st u cell e opn ev (sym same) in
           ap (λ (s : Cell). s.is_open) (some-injective _ _ (sym cell ∙ ap (λ i. get_elem? t.cells i) (sym d) ∙ e)) ∙ off
 
-      new_good : (j d : ℕ) (b : Bool) → is_pair j d (k, c) ≡ b → 1 ≤ one_if (is_pair j d (k, c)) + good_at j d v → (1 ≤ good_at j d v → (s : Cell) × (get_elem? t.cells j ≡ some s) × (s.is_open ≡ true) × (s.claim ≡ d) × (1 ≤ pair_at j d v)) → (s : Cell) × (get_elem? t.cells j ≡ some s) × (s.is_open ≡ true) × (s.claim ≡ d) × (1 ≤ one_if (is_pair j d (k, c)) + pair_at j d v)
+      new_good : (j d : ℕ) (b : Bool) → is_pair j d (k, c) ≡ b → 1 ≤ one_if (is_pair j d (k, c)) + good_at j d v
+          → (1 ≤ good_at j d v → (s : Cell) × (get_elem? t.cells j ≡ some s) × (s.is_open ≡ true) × (s.claim ≡ d) × (1 ≤ pair_at j d v)) → (s : Cell)
+          × (get_elem? t.cells j ≡ some s) × (s.is_open ≡ true) × (s.claim ≡ d) × (1 ≤ one_if (is_pair j d (k, c)) + pair_at j d v)
       new_good j d true is o f = let p = pair_is j d (k, c) is in let y = ap one_if is in (st, ap (λ i. get_elem? t.cells i) (sym p.0) ∙ cell, opn, claim ∙ p.1, omega arith)
       new_good j d false is o f = let y = ap one_if is in let g = f (omega arith) in (g.0, g.1, g.2, g.3, (let z = g.4 in omega arith))
 
-      new_past : (j d : ℕ) → st.ever ≡ true → (b : Bool) → is_pair j d (k, c) ≡ b → 1 ≤ one_if (is_pair j d (k, c)) + pair_at j d v → (1 ≤ pair_at j d v → (1 ≤ times d t.used_claims) × ((s : Cell) × (get_elem? t.cells j ≡ some s) × (s.ever ≡ true))) → (1 ≤ times d t.used_claims) × ((s : Cell) × (get_elem? t.cells j ≡ some s) × (s.ever ≡ true))
-      new_past j d ever true is o f = let p = pair_is j d (k, c) is in (subst (λ i. 1 ≤ times i t.used_claims) (claim ∙ p.1) (r.truth.used_claims k st cell ever), (st, ap (λ i. get_elem? t.cells i) (sym p.0) ∙ cell, ever))
+      new_past : (j d : ℕ) → st.ever ≡ true → (b : Bool) → is_pair j d (k, c) ≡ b → 1 ≤ one_if (is_pair j d (k, c)) + pair_at j d v
+          → (1 ≤ pair_at j d v → (1 ≤ times d t.used_claims) × ((s : Cell) × (get_elem? t.cells j ≡ some s) × (s.ever ≡ true))) → (1 ≤ times d t.used_claims)
+          × ((s : Cell) × (get_elem? t.cells j ≡ some s) × (s.ever ≡ true))
+      new_past j d ever true is o f =
+          let p = pair_is j d (k, c) is in (
+            subst (λ i. 1 ≤ times i t.used_claims) (claim ∙ p.1) (r.truth.used_claims k st cell ever),
+            (st, ap (λ i. get_elem? t.cells i) (sym p.0) ∙ cell, ever),
+          )
       new_past j d ever false is o f = let y = ap one_if is in f (omega arith)
 
   pub pinned_keeps : (c : ℕ) → Rule a t gate' count (set views id (pinned c k (gate k) v))

@@ -88,14 +88,17 @@ lawful a s hold = (hold.0, cells)
         }
 
 -- what a table asks for, of the one rule and of the other
-pub allows_as : (a : Setup) (slots id : ℕ) (me : Me ℕ CellView) (i : ℕ) (f : ℕ → ℕ) (then : ℕ → Me ℕ CellView → Type 0) → Allows (Holds a) slots id me i f then → Allows (AreLawful a) slots id me i f then
-allows_as a slots id me i f then go s hold homes at small = let x = go s (kept a s hold) homes at small in (x.0, x.1, x.2, lawful a (stepped s i (f (slice_index s.words i)) id me.1 x.0 x.1) x.3, x.4)
+pub allows_as : (a : Setup) (slots id : ℕ) (me : Me ℕ CellView) (i : ℕ) (f : ℕ → ℕ) (then : ℕ → Me ℕ CellView → Type 0) → Allows (Holds a) slots id me i f then
+    → Allows (AreLawful a) slots id me i f then
+allows_as a slots id me i f then go s hold homes at small =
+    let x = go s (kept a s hold) homes at small in (x.0, x.1, x.2, lawful a (stepped s i (f (slice_index s.words i)) id me.1 x.0 x.1) x.3, x.4)
 
 pub splits_as : (a : Setup) (id : ℕ) (v left right : CellView) → Splits (Holds a) id v left right → Splits (AreLawful a) id v left right
 splits_as a id v left right go s hold at = lawful a (record { words = s.words; homes = s.homes; views = set s.views id left ++ right ∷ [] }) (go s (kept a s hold) at)
 
 pub joins_as : (a : Setup) (id : ℕ) (v : CellView) (other : ℕ) (w both spent : CellView) → Joins (Holds a) id v other w both spent → Joins (AreLawful a) id v other w both spent
-joins_as a id v other w both spent go s hold at apart there = lawful a (record { words = s.words; homes = s.homes; views = set (set s.views id both) other spent }) (go s (kept a s hold) at apart there)
+joins_as a id v other w both spent go s hold at apart there =
+    lawful a (record { words = s.words; homes = s.homes; views = set (set s.views id both) other spent }) (go s (kept a s hold) at apart there)
 
 pub final_as : (a : Setup) (id : ℕ) (v : CellView) (ws xs : List ℕ) → Final (Seen (AreLawful a) id v) ws xs → Final (Seen (Holds a) id v) ws xs
 final_as a id v ws xs f = (f.0, (kept a f.0 f.1.0, f.1.1), f.2, f.3, f.4)

@@ -21,13 +21,16 @@ module _ (a : Setup) (t : Register) (gate count : ℕ → ℕ) (views views' : L
     (pairs : (f : (ℕ × ℕ) → ℕ) → total (λ (x : CellView). total f x.pairs) views' ≡ total (λ (x : CellView). total f x.pairs) views) where
   pub lawful_as : (x : CellView) → ViewLawful views x → ViewLawful views' x
   lawful_as x l = record {
-    charges = each_map (λ (y : Charge). (1 ≤ y.hits) × (y.before ≡ total (hits_below y.claim y.before) views)) (λ (y : Charge). (1 ≤ y.hits) × (y.before ≡ total (hits_below y.claim y.before) views')) x.charges
+    charges = each_map (λ (y : Charge). (1 ≤ y.hits) × (y.before ≡ total (hits_below y.claim y.before) views))
+        (λ (y : Charge). (1 ≤ y.hits) × (y.before ≡ total (hits_below y.claim y.before) views')) x.charges
         (λ y q. (q.0, q.1 ∙ sym (charges (λ (z : Charge). cond (z.claim == y.claim) (cond (ltb z.before y.before) z.hits 0) 0)))) l.charges;
     looks = each_map (λ (y : ℕ × ℕ). y.1 ≡ total (hits_below y.0 y.1) views) (λ (y : ℕ × ℕ). y.1 ≡ total (hits_below y.0 y.1) views') x.looks
         (λ y q. q ∙ sym (charges (λ (z : Charge). cond (z.claim == y.0) (cond (ltb z.before y.1) z.hits 0) 0))) l.looks;
   }
 
-  pub rule_as : ((j : ℕ) (v : CellView) → get_elem? views' j ≡ some v → ViewFits t count v × ViewLawful views' v) → total (λ v. one_if v.claimer) views' ≡ total (λ v. one_if v.claimer) views → total (λ v. length v.numbers + v.unmade) views' ≡ total (λ v. length v.numbers + v.unmade) views → Rule a t gate count views'
+  pub rule_as : ((j : ℕ) (v : CellView) → get_elem? views' j ≡ some v → ViewFits t count v × ViewLawful views' v)
+      → total (λ v. one_if v.claimer) views' ≡ total (λ v. one_if v.claimer) views
+      → total (λ v. length v.numbers + v.unmade) views' ≡ total (λ v. length v.numbers + v.unmade) views → Rule a t gate count views'
   rule_as fits cl pa = record {
     truth = r.truth;
     cells = λ j u e.
@@ -36,7 +39,11 @@ module _ (a : Setup) (t : Register) (gate count : ℕ → ℕ) (views views' : L
           word = f.word ∙ ap (λ m. gate_word u.claim (one_if u.is_open) m) (sym (pins j));
           never = f.never;
           sum = λ o. f.sum o ∙ sym (charges (λ (x : Charge). cond (x.claim == u.claim) x.hits 0));
-          fresh = λ off ev. let s = f.fresh off ev in (charges (λ (x : Charge). one_if (x.claim == u.claim)) ∙ s.0, looks (λ (p : ℕ × ℕ). one_if (p.0 == u.claim)) ∙ s.1, pairs (λ (p : ℕ × ℕ). one_if (p.1 == u.claim)) ∙ s.2);
+          fresh = λ off ev. let s = f.fresh off ev in (
+            charges (λ (x : Charge). one_if (x.claim == u.claim)) ∙ s.0,
+            looks (λ (p : ℕ × ℕ). one_if (p.0 == u.claim)) ∙ s.1,
+            pairs (λ (p : ℕ × ℕ). one_if (p.1 == u.claim)) ∙ s.2,
+          );
           zeroed = f.zeroed;
           room = let m = f.room in let s = small j in omega arith;
         };

@@ -18,7 +18,8 @@ use Rattle.counter_cells.proofs.Sums.{total_set, total_push, each_set, cond_yes,
 use Rattle.counter_cells.proofs.Ticking.{sourced_more}
 use Rattle.counter_cells.proofs.SameSums.{lawful_as, rule_as}
 
-each_snoc : {A : Type 0} (P : A → Type 0) (views : List A) (w : A) → ((j : ℕ) (u : A) → get_elem? views j ≡ some u → P u) → P w → (j : ℕ) (u : A) → get_elem? (views ++ w ∷ []) j ≡ some u → P u
+each_snoc : {A : Type 0} (P : A → Type 0) (views : List A) (w : A) → ((j : ℕ) (u : A) → get_elem? views j ≡ some u → P u) → P w → (j : ℕ) (u : A)
+    → get_elem? (views ++ w ∷ []) j ≡ some u → P u
 each_snoc P views w others mine j u e = ⊎_elim (λ x. others j u x) (λ (x : w ≡ u). subst P x mine) (at_snoc views w u j e)
 
 module _ (a : Setup) (id : ℕ) (v : CellView) where
@@ -32,7 +33,18 @@ module _ (a : Setup) (id : ℕ) (v : CellView) where
       mine : ViewFits hold.0 (count_of s.words) (one_less v)
       mine =
           let f = hold.3.each id v at in
-          record { pins = f.pins; good = f.good; under = f.under; once = f.once; past = f.past; charges = f.charges; looks = f.looks; idle = f.idle; claimer = f.claimer; caps = λ i u d o. let p = f.caps i u d o in record { charges = p.charges; looks = p.looks } }
+          record {
+            pins = f.pins;
+            good = f.good;
+            under = f.under;
+            once = f.once;
+            past = f.past;
+            charges = f.charges;
+            looks = f.looks;
+            idle = f.idle;
+            claimer = f.claimer;
+            caps = λ i u d o. let p = f.caps i u d o in record { charges = p.charges; looks = p.looks };
+          }
 
       new : ViewFits hold.0 (count_of s.words) (new_pass v)
       new = record {
@@ -49,10 +61,14 @@ module _ (a : Setup) (id : ℕ) (v : CellView) where
       }
 
       law : (x : CellView) → ViewLawful s.views x → ViewLawful (set s.views id (one_less v) ++ new_pass v ∷ []) x
-      law = lawful_as a hold.0 (gate_of s.words) (count_of s.words) s.views (set s.views id (one_less v) ++ new_pass v ∷ []) hold.3 (λ j. sum (pins_on j) (omega arith)) (λ j. let x = sum (small_on j) (omega arith) in omega arith) (λ f. sum (λ (x : CellView). total f x.charges) (omega arith)) (λ f. sum (λ (x : CellView). total f x.looks) (omega arith)) (λ f. sum (λ (x : CellView). total f x.pairs) (omega arith))
+      law = lawful_as a hold.0 (gate_of s.words) (count_of s.words) s.views (set s.views id (one_less v) ++ new_pass v ∷ []) hold.3 (λ j. sum (pins_on j) (omega arith))
+          (λ j. let x = sum (small_on j) (omega arith) in omega arith) (λ f. sum (λ (x : CellView). total f x.charges) (omega arith))
+          (λ f. sum (λ (x : CellView). total f x.looks) (omega arith)) (λ f. sum (λ (x : CellView). total f x.pairs) (omega arith))
 
       rule : Rule a hold.0 (gate_of s.words) (count_of s.words) (set s.views id (one_less v) ++ new_pass v ∷ [])
-      rule = rule_as a hold.0 (gate_of s.words) (count_of s.words) s.views (set s.views id (one_less v) ++ new_pass v ∷ []) hold.3 (λ j. sum (pins_on j) (omega arith)) (λ j. let x = sum (small_on j) (omega arith) in omega arith) (λ f. sum (λ (x : CellView). total f x.charges) (omega arith)) (λ f. sum (λ (x : CellView). total f x.looks) (omega arith)) (λ f. sum (λ (x : CellView). total f x.pairs) (omega arith))
+      rule = rule_as a hold.0 (gate_of s.words) (count_of s.words) s.views (set s.views id (one_less v) ++ new_pass v ∷ []) hold.3 (λ j. sum (pins_on j) (omega arith))
+          (λ j. let x = sum (small_on j) (omega arith) in omega arith) (λ f. sum (λ (x : CellView). total f x.charges) (omega arith))
+          (λ f. sum (λ (x : CellView). total f x.looks) (omega arith)) (λ f. sum (λ (x : CellView). total f x.pairs) (omega arith))
           (each_snoc (λ x. ViewFits hold.0 (count_of s.words) x × ViewLawful (set s.views id (one_less v) ++ new_pass v ∷ []) x) (set s.views id (one_less v)) (new_pass v)
           (each_set (λ x. ViewFits hold.0 (count_of s.words) x × ViewLawful (set s.views id (one_less v) ++ new_pass v ∷ []) x) s.views id (one_less v)
           (λ j x _ e. (hold.3.each j x e, law x (hold.3.lawful j x e)))
@@ -65,7 +81,8 @@ module _ (a : Setup) (id : ℕ) (v : CellView) where
       below i u one = pick (dec_lt i (u - 1)) (ℕ_discrete (u - 1) i)
         where
           pick : Dec (i < u - 1) → Dec (u - 1 ≡ i) → one_if (ltb i (u - 1)) + one_if ((u - 1) == i) ≡ one_if (ltb i u)
-          pick (yes d) e = let x = below_yes i (u - 1) 1 0 d in let y = cond_no (u - 1) i 1 0 (λ q. absurd (omega arith)) in let z = below_yes i u 1 0 (omega arith) in omega arith
+          pick (yes d) e = let x = below_yes i (u - 1) 1 0 d in let y = cond_no (u - 1) i 1 0 (λ q. absurd (omega arith)) in let z = below_yes i u 1 0 (omega arith) in
+              omega arith
           pick (no n) (yes e) = let x = below_no i (u - 1) 1 0 (omega arith) in let y = cond_yes (u - 1) i 1 0 e in let z = below_yes i u 1 0 (omega arith) in omega arith
           pick (no n) (no m) = let x = below_no i (u - 1) 1 0 (omega arith) in let y = cond_no (u - 1) i 1 0 m in let z = below_no i u 1 0 (omega arith) in omega arith
 
@@ -76,14 +93,18 @@ module _ (a : Setup) (id : ℕ) (v : CellView) where
             least = c.least;
             most = c.most;
             top = ⊎_elim inl (λ o. inr (let x = sum (offers (slice_index s.words 0)) (omega arith) in omega arith)) c.top;
-            each = each_snoc (TicksFit a.start (slice_index s.words 0) (λ i m. total (other_offers i m) (set s.views id (one_less v) ++ new_pass v ∷ []))) (set s.views id (one_less v)) (new_pass v)
-                (each_set (TicksFit a.start (slice_index s.words 0) (λ i m. total (other_offers i m) (set s.views id (one_less v) ++ new_pass v ∷ []))) s.views id (one_less v) (λ j x _ e. old j x e)
+            each = each_snoc (TicksFit a.start (slice_index s.words 0) (λ i m. total (other_offers i m) (set s.views id (one_less v) ++ new_pass v ∷ [])))
+                (set s.views id (one_less v)) (new_pass v)
+                (each_set (TicksFit a.start (slice_index s.words 0) (λ i m. total (other_offers i m) (set s.views id (one_less v) ++ new_pass v ∷ []))) s.views id (one_less v)
+                (λ j x _ e. old j x e)
                 (let f = old id v at in record { moment = f.moment; last = f.last; offers = f.offers; numbers = f.numbers; sourced = f.sourced }))
                 (record { moment = (let l = c.least in omega arith); last = λ _. moment; offers = tt; numbers = tt; sourced = tt });
-            numbers = λ i. let o = c.numbers i in let b = below i v.unmade some_left in let q = below_no i 0 1 0 (omega arith) in let x = sum (λ (x : CellView). times i x.numbers + one_if (ltb i x.unmade)) (omega arith) in omega arith;
+            numbers = λ i. let o = c.numbers i in let b = below i v.unmade some_left in let q = below_no i 0 1 0 (omega arith) in
+                let x = sum (λ (x : CellView). times i x.numbers + one_if (ltb i x.unmade)) (omega arith) in omega arith;
           }
         where
-          old : (j : ℕ) (u : CellView) → get_elem? s.views j ≡ some u → TicksFit a.start (slice_index s.words 0) (λ i m. total (other_offers i m) (set s.views id (one_less v) ++ new_pass v ∷ [])) u
+          old : (j : ℕ) (u : CellView) → get_elem? s.views j ≡ some u
+              → TicksFit a.start (slice_index s.words 0) (λ i m. total (other_offers i m) (set s.views id (one_less v) ++ new_pass v ∷ [])) u
           old j u e =
               let f = hold.4.each j u e in
               record {
@@ -91,5 +112,7 @@ module _ (a : Setup) (id : ℕ) (v : CellView) where
                 last = f.last;
                 offers = f.offers;
                 numbers = f.numbers;
-                sourced = sourced_more a.start (λ i m. total (other_offers i m) s.views) (λ i m. total (other_offers i m) (set s.views id (one_less v) ++ new_pass v ∷ [])) [] u.ticks (λ i m. let x = sum (other_offers i m) (omega arith) in omega arith) f.sourced;
+                sourced = sourced_more a.start (λ i m. total (other_offers i m) s.views)
+                    (λ i m. total (other_offers i m) (set s.views id (one_less v) ++ new_pass v ∷ [])) [] u.ticks
+                    (λ i m. let x = sum (other_offers i m) (omega arith) in omega arith) f.sourced;
               }

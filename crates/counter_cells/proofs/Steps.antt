@@ -1,5 +1,6 @@
 -- The steps as a table asks for them.
-use Rattle.std.proofs.Common.{◌≡◌, ℕ, zero, suc, ◌+◌, ◌-◌, ◌*◌, ◌/◌, ◌%◌, ◌^◌, ◌≤◌, ◌<◌, ◌==◌, max, Bool, true, false, List, [], ◌∷◌, length, set, cond, refl, sym, ap, ◌∙◌, subst, arith, length-set, get_or, lit<}
+use Rattle.std.proofs.Common.{◌≡◌, ℕ, zero, suc, ◌+◌, ◌-◌, ◌*◌, ◌/◌, ◌%◌, ◌^◌, ◌≤◌, ◌<◌, ◌==◌, max, Bool, true, false, List, [], ◌∷◌, length, set, cond, refl, sym, ap, ◌∙◌, subst}
+use Rattle.std.proofs.Common.{arith, length-set, get_or, lit<}
 use Rattle.std.specs.Prelude.{slice_index}
 use Rattle.std.proofs.lemmas.List.{get_or-set_other, get_or-set_same, set-get_or}
 use mathlib.Core.Option.{some, some-injective, some-ne-none}
@@ -59,7 +60,8 @@ module _ (ws : List ℕ) (k x : ℕ) where
   gate_here h = get_or-set_same ws (gate_at k) x 0 h
 
 -- under a good pin the count is at least what the view knows of the claim
-capped_at : (a : Setup) (t : Register) (gate count : ℕ → ℕ) (views : List CellView) → Rule a t gate count views → (id k : ℕ) (v : CellView) → get_elem? views id ≡ some v → 1 ≤ good_on k v → Capped (claim_on k v.good) (count k) v
+capped_at : (a : Setup) (t : Register) (gate count : ℕ → ℕ) (views : List CellView) → Rule a t gate count views → (id k : ℕ) (v : CellView) → get_elem? views id ≡ some v
+    → 1 ≤ good_on k v → Capped (claim_on k v.good) (count k) v
 capped_at a t gate count views r id k v at pin =
     let f = r.each id v at in
     let m = f.good k (claim_on k v.good) (claimed k v.good pin) in
@@ -67,7 +69,9 @@ capped_at a t gate count views r id k v at pin =
 
 -- the state after a step on a count, and on a gate
 module _ (a : Setup) (t : Register) (ws : List ℕ) (k x : ℕ) (views : List CellView) (long : length ws ≡ 2 * length t.cells + 1) (count : length t.cells ≡ a.cells) where
-  pub on_count : (homes : List ℕ) → Rule a t (gate_of ws) (count_of (set ws (count_at k) x)) views → ClockIsGreatestOffer a (slice_index ws 0) views → (length (set ws (count_at k) x) ≡ 2 * length t.cells + 1) × (length t.cells ≡ a.cells) × Rule a t (gate_of (set ws (count_at k) x)) (count_of (set ws (count_at k) x)) views × ClockIsGreatestOffer a (slice_index (set ws (count_at k) x) 0) views
+  pub on_count : (homes : List ℕ) → Rule a t (gate_of ws) (count_of (set ws (count_at k) x)) views → ClockIsGreatestOffer a (slice_index ws 0) views
+      → (length (set ws (count_at k) x) ≡ 2 * length t.cells + 1) × (length t.cells ≡ a.cells)
+      × Rule a t (gate_of (set ws (count_at k) x)) (count_of (set ws (count_at k) x)) views × ClockIsGreatestOffer a (slice_index (set ws (count_at k) x) 0) views
   on_count homes r c = (
     length-set ws (count_at k) x ∙ long,
     count,
@@ -75,7 +79,9 @@ module _ (a : Setup) (t : Register) (ws : List ℕ) (k x : ℕ) (views : List Ce
     subst (λ n. ClockIsGreatestOffer a n views) (sym (get_or-set_other ws (count_at k) 0 x 0 (λ e. absurd (omega arith)))) c,
   )
 
-  pub on_gate : (homes : List ℕ) → Rule a t (gate_of (set ws (gate_at k) x)) (count_of ws) views → ClockIsGreatestOffer a (slice_index ws 0) views → (length (set ws (gate_at k) x) ≡ 2 * length t.cells + 1) × (length t.cells ≡ a.cells) × Rule a t (gate_of (set ws (gate_at k) x)) (count_of (set ws (gate_at k) x)) views × ClockIsGreatestOffer a (slice_index (set ws (gate_at k) x) 0) views
+  pub on_gate : (homes : List ℕ) → Rule a t (gate_of (set ws (gate_at k) x)) (count_of ws) views → ClockIsGreatestOffer a (slice_index ws 0) views
+      → (length (set ws (gate_at k) x) ≡ 2 * length t.cells + 1) × (length t.cells ≡ a.cells) × Rule a t (gate_of (set ws (gate_at k) x)) (count_of (set ws (gate_at k) x)) views
+      × ClockIsGreatestOffer a (slice_index (set ws (gate_at k) x) 0) views
   on_gate homes r c = (
     length-set ws (gate_at k) x ∙ long,
     count,
@@ -84,7 +90,9 @@ module _ (a : Setup) (t : Register) (ws : List ℕ) (k x : ℕ) (views : List Ce
   )
 
 module _ (a : Setup) (slots id k : ℕ) (me : Me ℕ CellView) (within : k < a.cells) where
-  pub charges : (h : ℕ) → 1 ≤ small_on k me.0 → (1 ≤ h) × (h ≤ most_hits) → Allows (Holds a) slots id me (count_at k) (λ n. (n + h) % 2 ^ 64) (λ n w. (w.0 ≡ charged (count_cell (count_at k)) n h me.0) × (w.1 ≡ me.1) × Capped (claim_on (count_cell (count_at k)) me.0.good) n me.0)
+  pub charges : (h : ℕ) → 1 ≤ small_on k me.0 → (1 ≤ h) × (h ≤ most_hits)
+      → Allows (Holds a) slots id me (count_at k) (λ n. (n + h) % 2 ^ 64)
+      (λ n w. (w.0 ≡ charged (count_cell (count_at k)) n h me.0) × (w.1 ≡ me.1) × Capped (claim_on (count_cell (count_at k)) me.0.good) n me.0)
   charges h one hits s hold homes at small =
       let t = hold.0 in
       let ws = s.words in
@@ -93,7 +101,8 @@ module _ (a : Setup) (slots id k : ℕ) (me : Me ℕ CellView) (within : k < a.c
       let c = there t.cells k (omega (arith, hold.2)) in
       let room = (hold.3.cells k c.0 c.1).room in
       let sum : new ≡ n + h = omega (arith, hold.3.few) in
-      let rule = charge_keeps a t (gate_of ws) (count_of ws) (count_of (set ws (count_at k) new)) s.views hold.3 id k h me.0 at one hits (count_here ws k new (omega (arith, hold.1, hold.2)) ∙ sum) (λ j ne. count_else ws k new j ne) in
+      let rule = charge_keeps a t (gate_of ws) (count_of ws) (count_of (set ws (count_at k) new)) s.views hold.3 id k h me.0 at one hits
+      (count_here ws k new (omega (arith, hold.1, hold.2)) ∙ sum) (λ j ne. count_else ws k new j ne) in
       let clock = clock_same a (slice_index ws 0) s.views hold.4 id me.0 (charged k n h me.0) at (refl, refl, refl, refl, refl) in
       let after = on_count a t ws k new (set s.views id (charged k n h me.0)) hold.1 hold.2 [] rule clock in (
         charged k n h me.0,
@@ -103,11 +112,13 @@ module _ (a : Setup) (slots id k : ℕ) (me : Me ℕ CellView) (within : k < a.c
         (
           ap (λ (i : ℕ). charged i n h me.0) (let e : k ≡ count_cell (count_at k) = omega arith in e),
           refl,
-          (let e : k ≡ count_cell (count_at k) = omega arith in subst (λ i. Capped (claim_on i me.0.good) n me.0) e (capped_at a t (gate_of ws) (count_of ws) s.views hold.3 id k me.0 at (let u = small_le k me.0.unused in (hold.3.each id me.0 at).under k (omega arith)))),
+          (let e : k ≡ count_cell (count_at k) = omega arith in subst (λ i. Capped (claim_on i me.0.good) n me.0) e
+              (capped_at a t (gate_of ws) (count_of ws) s.views hold.3 id k me.0 at (let u = small_le k me.0.unused in (hold.3.each id me.0 at).under k (omega arith)))),
         ),
       )
 
-  pub looks : 1 ≤ good_on k me.0 → Allows (Holds a) slots id me (count_at k) (λ n. n) (λ n w. (w.0 ≡ looked (count_cell (count_at k)) n me.0) × (w.1 ≡ me.1) × Capped (claim_on (count_cell (count_at k)) me.0.good) n me.0)
+  pub looks : 1 ≤ good_on k me.0 → Allows (Holds a) slots id me (count_at k) (λ n. n)
+      (λ n w. (w.0 ≡ looked (count_cell (count_at k)) n me.0) × (w.1 ≡ me.1) × Capped (claim_on (count_cell (count_at k)) me.0.good) n me.0)
   looks pin s hold homes at small =
       let t = hold.0 in
       let ws = s.words in
@@ -115,7 +126,8 @@ module _ (a : Setup) (slots id k : ℕ) (me : Me ℕ CellView) (within : k < a.c
       let rule = look_keeps a t (gate_of ws) (count_of ws) s.views hold.3 id k me.0 at pin in
       let same : (j : ℕ) → count_of ws j ≡ count_of (set ws (count_at k) n) j = λ j. ap (λ (l : List ℕ). count_of l j) (sym (set-get_or ws (count_at k) 0)) in
       let clock = clock_same a (slice_index ws 0) s.views hold.4 id me.0 (looked k n me.0) at (refl, refl, refl, refl, refl) in
-      let after = on_count a t ws k n (set s.views id (looked k n me.0)) hold.1 hold.2 [] (subst (λ (g : ℕ → ℕ). Rule a t (gate_of ws) g (set s.views id (looked k n me.0))) (λ i j. same j i) rule) clock in (
+      let after = on_count a t ws k n (set s.views id (looked k n me.0)) hold.1 hold.2 []
+      (subst (λ (g : ℕ → ℕ). Rule a t (gate_of ws) g (set s.views id (looked k n me.0))) (λ i j. same j i) rule) clock in (
         looked k n me.0,
         keeps,
         tt,
@@ -123,14 +135,16 @@ module _ (a : Setup) (slots id k : ℕ) (me : Me ℕ CellView) (within : k < a.c
         (
           ap (λ (i : ℕ). looked i n me.0) (let e : k ≡ count_cell (count_at k) = omega arith in e),
           refl,
-          (let e : k ≡ count_cell (count_at k) = omega arith in subst (λ i. Capped (claim_on i me.0.good) n me.0) e (capped_at a t (gate_of ws) (count_of ws) s.views hold.3 id k me.0 at pin)),
+          (let e : k ≡ count_cell (count_at k) = omega arith in subst (λ i. Capped (claim_on i me.0.good) n me.0) e
+              (capped_at a t (gate_of ws) (count_of ws) s.views hold.3 id k me.0 at pin)),
         ),
       )
 
   gate_cell_is : k ≡ gate_cell (gate_at k)
   gate_cell_is = omega arith
 
-  pub pins : (c : ℕ) → (pins_of me.0 < 32) × (1 ≤ length me.0.numbers) → Allows (Holds a) slots id me (gate_at k) (λ n. (n + 2) % 2 ^ 64) (λ n w. (w.0 ≡ pinned c (gate_cell (gate_at k)) n me.0) × (w.1 ≡ me.1))
+  pub pins : (c : ℕ) → (pins_of me.0 < 32) × (1 ≤ length me.0.numbers)
+      → Allows (Holds a) slots id me (gate_at k) (λ n. (n + 2) % 2 ^ 64) (λ n w. (w.0 ≡ pinned c (gate_cell (gate_at k)) n me.0) × (w.1 ≡ me.1))
   pins c able s hold homes at small =
       let t = hold.0 in
       let ws = s.words in
@@ -142,16 +156,19 @@ module _ (a : Setup) (slots id k : ℕ) (me : Me ℕ CellView) (within : k < a.c
       let low = hold.3.truth.small k st.0 st.1 in
       let bit = one_le st.0.is_open in
       let sum : new ≡ n + 2 = omega arith in
-      let rule = pinned_keeps a t (gate_of ws) (gate_of (set ws (gate_at k) new)) (count_of ws) s.views hold.3 id k me.0 at st.0 st.1 (gate_here ws k new (omega (arith, hold.1, hold.2)) ∙ sum) (λ j ne. gate_else ws k new j ne) able c in
+      let rule = pinned_keeps a t (gate_of ws) (gate_of (set ws (gate_at k) new)) (count_of ws) s.views hold.3 id k me.0 at st.0 st.1
+      (gate_here ws k new (omega (arith, hold.1, hold.2)) ∙ sum) (λ j ne. gate_else ws k new j ne) able c in
       let clock = clock_same a (slice_index ws 0) s.views hold.4 id me.0 (pinned c k n me.0) at (quiet (shows c n)) in
       let after = on_gate a t ws k new (set s.views id (pinned c k n me.0)) hold.1 hold.2 [] rule clock in
       (pinned c k n me.0, keeps, tt, (t, after.0, after.1, after.2, after.3), (ap (λ (i : ℕ). pinned c i n me.0) gate_cell_is, refl))
     where
-      quiet : (b : Bool) → let w = cond b (good_pin k c me.0) (stray_pin k (gate_of s.words k) me.0) in (w.ticks ≡ me.0.ticks) × (w.numbers ≡ me.0.numbers) × (w.moment ≡ me.0.moment) × (w.unmade ≡ me.0.unmade) × (w.claimer ≡ me.0.claimer)
+      quiet : (b : Bool) → let w = cond b (good_pin k c me.0) (stray_pin k (gate_of s.words k) me.0) in
+          (w.ticks ≡ me.0.ticks) × (w.numbers ≡ me.0.numbers) × (w.moment ≡ me.0.moment) × (w.unmade ≡ me.0.unmade) × (w.claimer ≡ me.0.claimer)
       quiet true = (refl, refl, refl, refl, refl)
       quiet false = (refl, refl, refl, refl, refl)
 
-  pub unpins : 1 ≤ good_on k me.0 → Allows (Holds a) slots id me (gate_at k) (λ n. (n + (2 ^ 64 - 2)) % 2 ^ 64) (λ n w. (w.0 ≡ unpinned (gate_cell (gate_at k)) me.0) × (w.1 ≡ me.1))
+  pub unpins : 1 ≤ good_on k me.0 → Allows (Holds a) slots id me (gate_at k) (λ n. (n + (2 ^ 64 - 2)) % 2 ^ 64)
+      (λ n w. (w.0 ≡ unpinned (gate_cell (gate_at k)) me.0) × (w.1 ≡ me.1))
   unpins pin s hold homes at small =
       let t = hold.0 in
       let ws = s.words in
@@ -161,12 +178,14 @@ module _ (a : Setup) (slots id k : ℕ) (me : Me ℕ CellView) (within : k < a.c
       let word = (hold.3.cells k st.0 st.1).word in
       let one = total_one (pins_on k) s.views id me.0 at in
       let sum : new + 2 ≡ n = omega arith in
-      let rule = unpin_keeps a t (gate_of ws) (gate_of (set ws (gate_at k) new)) (count_of ws) s.views hold.3 id k me.0 at (ap (λ i. i + 2) (gate_here ws k new (omega (arith, hold.1, hold.2))) ∙ sum) (λ j ne. gate_else ws k new j ne) pin in
+      let rule = unpin_keeps a t (gate_of ws) (gate_of (set ws (gate_at k) new)) (count_of ws) s.views hold.3 id k me.0 at
+      (ap (λ i. i + 2) (gate_here ws k new (omega (arith, hold.1, hold.2))) ∙ sum) (λ j ne. gate_else ws k new j ne) pin in
       let clock = clock_same a (slice_index ws 0) s.views hold.4 id me.0 (unpinned k me.0) at (refl, refl, refl, refl, refl) in
       let after = on_gate a t ws k new (set s.views id (unpinned k me.0)) hold.1 hold.2 [] rule clock in
       (unpinned k me.0, keeps, tt, (t, after.0, after.1, after.2, after.3), (ap (λ (i : ℕ). unpinned i me.0) gate_cell_is, refl))
 
-  pub unpins_stray : 1 ≤ total (λ j. one_if (j == k)) me.0.stray → Allows (Holds a) slots id me (gate_at k) (λ n. (n + (2 ^ 64 - 2)) % 2 ^ 64) (λ n w. (w.0 ≡ stray_unpinned (gate_cell (gate_at k)) me.0) × (w.1 ≡ me.1))
+  pub unpins_stray : 1 ≤ total (λ j. one_if (j == k)) me.0.stray
+      → Allows (Holds a) slots id me (gate_at k) (λ n. (n + (2 ^ 64 - 2)) % 2 ^ 64) (λ n w. (w.0 ≡ stray_unpinned (gate_cell (gate_at k)) me.0) × (w.1 ≡ me.1))
   unpins_stray pin s hold homes at small =
       let t = hold.0 in
       let ws = s.words in
@@ -176,7 +195,8 @@ module _ (a : Setup) (slots id k : ℕ) (me : Me ℕ CellView) (within : k < a.c
       let word = (hold.3.cells k st.0 st.1).word in
       let one = total_one (pins_on k) s.views id me.0 at in
       let sum : new + 2 ≡ n = omega arith in
-      let rule = unpin_stray_keeps a t (gate_of ws) (gate_of (set ws (gate_at k) new)) (count_of ws) s.views hold.3 id k me.0 at (ap (λ i. i + 2) (gate_here ws k new (omega (arith, hold.1, hold.2))) ∙ sum) (λ j ne. gate_else ws k new j ne) pin in
+      let rule = unpin_stray_keeps a t (gate_of ws) (gate_of (set ws (gate_at k) new)) (count_of ws) s.views hold.3 id k me.0 at
+      (ap (λ i. i + 2) (gate_here ws k new (omega (arith, hold.1, hold.2))) ∙ sum) (λ j ne. gate_else ws k new j ne) pin in
       let clock = clock_same a (slice_index ws 0) s.views hold.4 id me.0 (stray_unpinned k me.0) at (refl, refl, refl, refl, refl) in
       let after = on_gate a t ws k new (set s.views id (stray_unpinned k me.0)) hold.1 hold.2 [] rule clock in
       (stray_unpinned k me.0, keeps, tt, (t, after.0, after.1, after.2, after.3), (ap (λ (i : ℕ). stray_unpinned i me.0) gate_cell_is, refl))
@@ -206,7 +226,11 @@ module _ (a : Setup) (slots id k : ℕ) (me : Me ℕ CellView) (within : k < a.c
         me.0,
         keeps,
         tt,
-        subst (λ (s' : State ℕ CellView). Holds a s') (λ i. record { words = sym (set-get_or s.words (gate_at k) 0) i; homes = s.homes; views = sym (set_again s.views id me.0 at) i }) hold,
+        subst (λ (s' : State ℕ CellView). Holds a s') (λ i. record {
+          words = sym (set-get_or s.words (gate_at k) 0) i;
+          homes = s.homes;
+          views = sym (set_again s.views id me.0 at) i;
+        }) hold,
         (subst (λ i. Peeked i me.0 (gate_of s.words k) me.0) e (refl, shown.0, shown.1), refl),
       )
 
@@ -218,7 +242,8 @@ module _ (a : Setup) (slots id k : ℕ) (me : Me ℕ CellView) (within : k < a.c
       let after = on_gate a t' s.words k x (set s.views id w) (hold.1 ∙ ap (λ n. 2 * n + 1) (sym len)) (len ∙ hold.2) [] rule clock in
       (t', after.0, after.1, after.2, after.3)
 
-  pub opens : let c = cell_or me.0.cells k in c.ever ≡ true → c.is_open ≡ false → c.reset ≡ true → Allows (Holds a) slots id me (gate_at k) (λ n. bit_or n 1) (λ n w. (w.0 ≡ opened_by (gate_cell (gate_at k)) me.0) × (w.1 ≡ me.1))
+  pub opens : let c = cell_or me.0.cells k in c.ever ≡ true → c.is_open ≡ false → c.reset ≡ true
+      → Allows (Holds a) slots id me (gate_at k) (λ n. bit_or n 1) (λ n w. (w.0 ≡ opened_by (gate_cell (gate_at k)) me.0) × (w.1 ≡ me.1))
   opens ev off done s hold homes at small =
       let t = hold.0 in
       let ws = s.words in
@@ -228,15 +253,21 @@ module _ (a : Setup) (slots id k : ℕ) (me : Me ℕ CellView) (within : k < a.c
       let mine = (hold.3.each id me.0 at).claimer role in
       let word = (hold.3.cells k st cell).word in
       let bit : one_if st.is_open ≡ 0 = ap one_if off in
-      let sum : bit_or n 1 ≡ n + 1 = ap (λ i. bit_or i 1) (let e : n ≡ (st.claim * 65536 + total (pins_on k) s.views) * 2 ^ 1 = omega arith in e) ∙ or_shifted (st.claim * 65536 + total (pins_on k) s.views) 1 1 (lit< tt) ∙ (let e : (st.claim * 65536 + total (pins_on k) s.views) * 2 ^ 1 + 1 ≡ n + 1 = omega arith in e) in
-      let rule = open_keeps a t (gate_of ws) (gate_of (set ws (gate_at k) (bit_or n 1))) (count_of ws) (count_of ws) s.views hold.3 id k me.0 at role st cell ev off done (gate_here ws k (bit_or n 1) (omega (arith, hold.1, hold.2)) ∙ sum) (λ j ne. gate_else ws k (bit_or n 1) j ne) in
+      let sum : bit_or n 1 ≡ n + 1 = ap (λ i. bit_or i 1) (let e : n ≡ (st.claim * 65536 + total (pins_on k) s.views) * 2 ^ 1 = omega arith in e)
+      ∙ or_shifted (st.claim * 65536 + total (pins_on k) s.views) 1 1 (lit< tt)
+      ∙ (let e : (st.claim * 65536 + total (pins_on k) s.views) * 2 ^ 1 + 1 ≡ n + 1 = omega arith in e) in
+      let rule = open_keeps a t (gate_of ws) (gate_of (set ws (gate_at k) (bit_or n 1))) (count_of ws) (count_of ws) s.views hold.3 id k me.0 at role st cell ev off done
+      (gate_here ws k (bit_or n 1) (omega (arith, hold.1, hold.2)) ∙ sum) (λ j ne. gate_else ws k (bit_or n 1) j ne) in
       let w : CellView = opened_by k me.0 in
-      let is : w ≡ record me.0 { cells = set me.0.cells k (record st { is_open = true }); used_claims = t.used_claims; held = me.0.held } = λ i. record me.0 { cells = set me.0.cells k (record st { is_open = true }); used_claims = mine.1 i; held = me.0.held } in (
+      let is : w ≡ record me.0 { cells = set me.0.cells k (record st { is_open = true }); used_claims = t.used_claims; held = me.0.held } =
+      λ i. record me.0 { cells = set me.0.cells k (record st { is_open = true }); used_claims = mine.1 i; held = me.0.held } in (
         w,
         keeps,
         tt,
-        on_cells (record { cells = set t.cells k (record st { is_open = true }); used_claims = t.used_claims }) (bit_or n 1) s w hold at (length-set t.cells k (record st { is_open = true })) (refl, refl, refl, refl, refl)
-            (subst (λ (x : CellView). Rule a (record { cells = set t.cells k (record st { is_open = true }); used_claims = t.used_claims }) (gate_of (set ws (gate_at k) (bit_or n 1))) (count_of ws) (set s.views id x)) (sym is) rule),
+        on_cells (record { cells = set t.cells k (record st { is_open = true }); used_claims = t.used_claims }) (bit_or n 1) s w hold at
+            (length-set t.cells k (record st { is_open = true })) (refl, refl, refl, refl, refl)
+            (subst (λ (x : CellView). Rule a (record { cells = set t.cells k (record st { is_open = true }); used_claims = t.used_claims })
+            (gate_of (set ws (gate_at k) (bit_or n 1))) (count_of ws) (set s.views id x)) (sym is) rule),
         (ap (λ (i : ℕ). opened_by i me.0) (let e : k ≡ gate_cell (gate_at k) = omega arith in e), refl),
       )
 
@@ -247,7 +278,9 @@ module _ (a : Setup) (slots id k : ℕ) (me : Me ℕ CellView) (within : k < a.c
       e : k ≡ gate_cell (gate_at k)
       e = omega arith
 
-      pick : Dec (gate_of s.words k ≡ old) → (w : CellView) × (x : Act ℕ) × Valid s.homes me.1 x × Holds a (stepped s (gate_at k) (either (gate_of s.words k == old) (gate_word c 0 0) (gate_of s.words k)) id me.1 w x) × (Reclaimed (gate_cell (gate_at k)) old c me.0 (gate_of s.words k) w × (carried_after me.1 x ≡ me.1))
+      pick : Dec (gate_of s.words k ≡ old) → (w : CellView) × (x : Act ℕ) × Valid s.homes me.1 x
+          × Holds a (stepped s (gate_at k) (either (gate_of s.words k == old) (gate_word c 0 0) (gate_of s.words k)) id me.1 w x)
+          × (Reclaimed (gate_cell (gate_at k)) old c me.0 (gate_of s.words k) w × (carried_after me.1 x ≡ me.1))
       pick (yes d) =
           let t = hold.0 in
           let ws = s.words in
@@ -256,16 +289,21 @@ module _ (a : Setup) (slots id k : ℕ) (me : Me ℕ CellView) (within : k < a.c
           let mine = (hold.3.each id me.0 at).claimer role in
           let word = (hold.3.cells k st cell).word in
           let none : total (pins_on k) s.views ≡ 0 = omega arith in
-          let x : either (gate_of ws k == old) (gate_word c 0 0) (gate_of ws k) ≡ gate_word c 0 0 = ap (λ b. either b (gate_word c 0 0) (gate_of ws k)) (eq-eqb (gate_of ws k) old d) in
-          let rule = reclaim_keeps a t (gate_of ws) (gate_of (set ws (gate_at k) (gate_word c 0 0))) (count_of ws) (count_of ws) s.views hold.3 id k me.0 at role st cell c low (ap (λ l. times c l) (sym mine.1) ∙ new) none (gate_here ws k (gate_word c 0 0) (omega (arith, hold.1, hold.2))) (λ j ne. gate_else ws k (gate_word c 0 0) j ne) in
+          let x : either (gate_of ws k == old) (gate_word c 0 0) (gate_of ws k) ≡ gate_word c 0 0 =
+          ap (λ b. either b (gate_word c 0 0) (gate_of ws k)) (eq-eqb (gate_of ws k) old d) in
+          let rule = reclaim_keeps a t (gate_of ws) (gate_of (set ws (gate_at k) (gate_word c 0 0))) (count_of ws) (count_of ws) s.views hold.3 id k me.0 at role st cell c low
+          (ap (λ l. times c l) (sym mine.1) ∙ new) none (gate_here ws k (gate_word c 0 0) (omega (arith, hold.1, hold.2))) (λ j ne. gate_else ws k (gate_word c 0 0) j ne) in
           let w : CellView = claimed_by k c me.0 in
-          let is : w ≡ record me.0 { cells = set me.0.cells k (taken_cell c); used_claims = c ∷ t.used_claims; held = me.0.held } = λ i. record me.0 { cells = set me.0.cells k (taken_cell c); used_claims = c ∷ mine.1 i; held = me.0.held } in (
+          let is : w ≡ record me.0 { cells = set me.0.cells k (taken_cell c); used_claims = c ∷ t.used_claims; held = me.0.held } =
+          λ i. record me.0 { cells = set me.0.cells k (taken_cell c); used_claims = c ∷ mine.1 i; held = me.0.held } in (
             w,
             keeps,
             tt,
             subst (λ n. Holds a (stepped s (gate_at k) n id me.1 w keeps)) (sym x)
-                (on_cells (record { cells = set t.cells k (taken_cell c); used_claims = c ∷ t.used_claims }) (gate_word c 0 0) s w hold at (length-set t.cells k (taken_cell c)) (refl, refl, refl, refl, refl)
-                (subst (λ (y : CellView). Rule a (record { cells = set t.cells k (taken_cell c); used_claims = c ∷ t.used_claims }) (gate_of (set ws (gate_at k) (gate_word c 0 0))) (count_of ws) (set s.views id y)) (sym is) rule)),
+                (on_cells (record { cells = set t.cells k (taken_cell c); used_claims = c ∷ t.used_claims }) (gate_word c 0 0) s w hold at (length-set t.cells k (taken_cell c))
+                (refl, refl, refl, refl, refl)
+                (subst (λ (y : CellView). Rule a (record { cells = set t.cells k (taken_cell c); used_claims = c ∷ t.used_claims })
+                (gate_of (set ws (gate_at k) (gate_word c 0 0))) (count_of ws) (set s.views id y)) (sym is) rule)),
             (subst (λ i. Reclaimed i old c me.0 (gate_of s.words k) w) e ((λ _. refl), (λ no. absurd (no d))), refl),
           )
       pick (no n) =
@@ -277,37 +315,64 @@ module _ (a : Setup) (slots id k : ℕ) (me : Me ℕ CellView) (within : k < a.c
           let shown = open_shown a t (gate_of ws) (count_of ws) s.views hold.3 k (cell_or me.0.cells k) cell in
           let word = (hold.3.cells k (cell_or me.0.cells k) cell).word in
           let same : gate_of ws ≡ gate_of (set ws (gate_at k) (gate_of ws k)) = ap gate_of (sym (set-get_or ws (gate_at k) 0)) in
-          let x : either (gate_of ws k == old) (gate_word c 0 0) (gate_of ws k) ≡ gate_of ws k = ap (λ b. either b (gate_word c 0 0) (gate_of ws k)) (ne_eqb (gate_of ws k) old n) in
+          let x : either (gate_of ws k == old) (gate_word c 0 0) (gate_of ws k) ≡ gate_of ws k =
+          ap (λ b. either b (gate_word c 0 0) (gate_of ws k)) (ne_eqb (gate_of ws k) old n) in
           let rule = gate_keeps a t (gate_of ws) (count_of ws) s.views hold.3 (gate_of ws) id me.0 w at refl refl (refl, refl, refl)
           (λ j u d. (hold.3.cells j u d).word ∙ ap (λ m. gate_word u.claim (one_if u.is_open) m) (sym (total_same (pins_on j) s.views id me.0 w at refl)))
           (λ j. omega arith) (λ j u d off ev. refl)
-          (record { pins = f.pins; good = f.good; under = f.under; once = f.once; past = f.past; charges = f.charges; looks = f.looks; idle = f.idle; claimer = f.claimer; caps = λ i u d o. let p = f.caps i u d o in record { charges = p.charges; looks = p.looks } }) in (
+          (record {
+            pins = f.pins;
+            good = f.good;
+            under = f.under;
+            once = f.once;
+            past = f.past;
+            charges = f.charges;
+            looks = f.looks;
+            idle = f.idle;
+            claimer = f.claimer;
+            caps = λ i u d o. let p = f.caps i u d o in record { charges = p.charges; looks = p.looks };
+          }) in (
             w,
             keeps,
             tt,
             subst (λ m. Holds a (stepped s (gate_at k) m id me.1 w keeps)) (sym x)
                 (on_cells t (gate_of ws k) s w hold at refl (refl, refl, refl, refl, refl) (subst (λ (g : ℕ → ℕ). Rule a t g (count_of ws) (set s.views id w)) same rule)),
-            (subst (λ i. Reclaimed i old c me.0 (gate_of s.words k) (held_by k (pins_shown (gate_of ws k)) me.0)) e ((λ y. absurd (n y)), (λ _. (refl, pins_there (gate_of ws k) old (cell_or me.0.cells k).claim (one_if (cell_or me.0.cells k).is_open) (total (pins_on k) s.views) word shown.2 known n))), refl),
+            (
+              subst (λ i. Reclaimed i old c me.0 (gate_of s.words k) (held_by k (pins_shown (gate_of ws k)) me.0)) e (
+                (λ y. absurd (n y)),
+                (λ _. (
+                  refl,
+                  pins_there (gate_of ws k) old (cell_or me.0.cells k).claim (one_if (cell_or me.0.cells k).is_open)
+                      (total (pins_on k) s.views) word shown.2 known n,
+                )),
+              ),
+              refl,
+            ),
           )
 
-  pub resets : let c = cell_or me.0.cells k in c.ever ≡ true → c.is_open ≡ false → Allows (Holds a) slots id me (count_at k) (λ _. 0) (λ _ w. (w.0 ≡ reset_by (count_cell (count_at k)) me.0) × (w.1 ≡ me.1))
+  pub resets : let c = cell_or me.0.cells k in c.ever ≡ true → c.is_open ≡ false
+      → Allows (Holds a) slots id me (count_at k) (λ _. 0) (λ _ w. (w.0 ≡ reset_by (count_cell (count_at k)) me.0) × (w.1 ≡ me.1))
   resets ev off s hold homes at small =
       let t = hold.0 in
       let ws = s.words in
       let st = cell_or me.0.cells k in
       let cell = own_cell s hold at in
       let mine = (hold.3.each id me.0 at).claimer role in
-      let rule = reset_keeps a t (gate_of ws) (gate_of ws) (count_of ws) (count_of (set ws (count_at k) 0)) s.views hold.3 id k me.0 at role st cell ev off (count_here ws k 0 (omega (arith, hold.1, hold.2))) (λ j ne. count_else ws k 0 j ne) in
+      let rule = reset_keeps a t (gate_of ws) (gate_of ws) (count_of ws) (count_of (set ws (count_at k) 0)) s.views hold.3 id k me.0 at role st cell ev off
+      (count_here ws k 0 (omega (arith, hold.1, hold.2))) (λ j ne. count_else ws k 0 j ne) in
       let t' : Register = record { cells = set t.cells k (record st { reset = true }); used_claims = t.used_claims } in
       let w : CellView = reset_by k me.0 in
       let len : length t'.cells ≡ length t.cells = length-set t.cells k (record st { reset = true }) in
-      let is : w ≡ record me.0 { cells = set me.0.cells k (record st { reset = true }); used_claims = t.used_claims; held = me.0.held } = λ i. record me.0 { cells = set me.0.cells k (record st { reset = true }); used_claims = mine.1 i; held = me.0.held } in
+      let is : w ≡ record me.0 { cells = set me.0.cells k (record st { reset = true }); used_claims = t.used_claims; held = me.0.held } =
+      λ i. record me.0 { cells = set me.0.cells k (record st { reset = true }); used_claims = mine.1 i; held = me.0.held } in
       let clock = clock_same a (slice_index ws 0) s.views hold.4 id me.0 w at (refl, refl, refl, refl, refl) in
-      let after = on_count a t' ws k 0 (set s.views id w) (hold.1 ∙ ap (λ n. 2 * n + 1) (sym len)) (len ∙ hold.2) [] (subst (λ (x : CellView). Rule a t' (gate_of ws) (count_of (set ws (count_at k) 0)) (set s.views id x)) (sym is) rule) clock in
+      let after = on_count a t' ws k 0 (set s.views id w) (hold.1 ∙ ap (λ n. 2 * n + 1) (sym len)) (len ∙ hold.2) []
+      (subst (λ (x : CellView). Rule a t' (gate_of ws) (count_of (set ws (count_at k) 0)) (set s.views id x)) (sym is) rule) clock in
       (w, keeps, tt, (t', after.0, after.1, after.2, after.3), (ap (λ (i : ℕ). reset_by i me.0) (let e : k ≡ count_cell (count_at k) = omega arith in e), refl))
 
 module _ (a : Setup) (slots id now : ℕ) (me : Me ℕ CellView) where
-  pub ticks : 1 ≤ length me.0.numbers → now ≤ 1000000000000 → Allows (Holds a) slots id me 0 (λ n. max n now) (λ n w. (w.0 ≡ ticked (max n now) now me.0) × (w.1 ≡ me.1) × (me.0.moment ≤ n) × (n ≤ 1000000000000))
+  pub ticks : 1 ≤ length me.0.numbers → now ≤ 1000000000000 → Allows (Holds a) slots id me 0 (λ n. max n now)
+      (λ n w. (w.0 ≡ ticked (max n now) now me.0) × (w.1 ≡ me.1) × (me.0.moment ≤ n) × (n ≤ 1000000000000))
   ticks live low s hold homes at small =
       let t = hold.0 in
       let ws = s.words in
@@ -318,15 +383,34 @@ module _ (a : Setup) (slots id now : ℕ) (me : Me ℕ CellView) where
       let rule = gate_keeps a t (gate_of ws) (count_of ws) s.views hold.3 (gate_of ws) id me.0 w at refl refl (refl, refl, refl)
       (λ j u d. (hold.3.cells j u d).word ∙ ap (λ m. gate_word u.claim (one_if u.is_open) m) (sym (total_same (pins_on j) s.views id me.0 w at refl)))
       (λ j. omega arith) (λ j u d off ev. refl)
-      (record { pins = f.pins; good = f.good; under = f.under; once = f.once; past = f.past; charges = f.charges; looks = f.looks; idle = f.idle; claimer = f.claimer; caps = λ i u d o. let p = f.caps i u d o in record { charges = p.charges; looks = p.looks } }) in
+      (record {
+        pins = f.pins;
+        good = f.good;
+        under = f.under;
+        once = f.once;
+        past = f.past;
+        charges = f.charges;
+        looks = f.looks;
+        idle = f.idle;
+        claimer = f.claimer;
+        caps = λ i u d o. let p = f.caps i u d o in record { charges = p.charges; looks = p.looks };
+      }) in
       let gates : gate_of ws ≡ gate_of (set ws 0 new) = λ i j. sym (get_or-set_other ws 0 (gate_at j) new 0 (λ e. absurd (omega arith))) i in
       let counts : count_of ws ≡ count_of (set ws 0 new) = λ i j. sym (get_or-set_other ws 0 (count_at j) new 0 (λ e. absurd (omega arith))) i in
-      let clock = tick_clock a n (slice_index (set ws 0 new) 0) now s.views hold.4 id me.0 at live (get_or-set_same ws 0 new 0 (omega (arith, hold.1))) low in
-      (w, keeps, tt, (t, length-set ws 0 new ∙ hold.1, hold.2, subst (λ (g : (ℕ → ℕ) × (ℕ → ℕ)). Rule a t g.0 g.1 (set s.views id w)) (λ i. (gates i, counts i)) rule, clock), (refl, refl, (hold.4.each id me.0 at).moment, hold.4.most))
+      let clock = tick_clock a n (slice_index (set ws 0 new) 0) now s.views hold.4 id me.0 at live (get_or-set_same ws 0 new 0 (omega (arith, hold.1))) low in (
+        w,
+        keeps,
+        tt,
+        (t, length-set ws 0 new ∙ hold.1, hold.2, subst (λ (g : (ℕ → ℕ) × (ℕ → ℕ)). Rule a t g.0 g.1 (set s.views id w)) (λ i. (gates i, counts i)) rule, clock),
+        (refl, refl, (hold.4.each id me.0 at).moment, hold.4.most),
+      )
 
-pub reclaims_as : (a : Setup) (slots id k : ℕ) (me : Me ℕ CellView) → k < a.cells → me.0.claimer ≡ true → (old c : ℕ) → old ≡ gate_word (cell_or me.0.cells k).claim (one_if (cell_or me.0.cells k).is_open) 0 → c < 2 ^ 40 → times c me.0.used_claims ≡ 0
-    → Allows (Holds a) slots id me (gate_at k) (λ n. either (n == old) (c * 131072) n) (λ n w. Reclaimed (gate_cell (gate_at k)) old (c * 131072 / 131072) me.0 n w.0 × (w.1 ≡ me.1))
+pub reclaims_as : (a : Setup) (slots id k : ℕ) (me : Me ℕ CellView) → k < a.cells → me.0.claimer ≡ true → (old c : ℕ)
+    → old ≡ gate_word (cell_or me.0.cells k).claim (one_if (cell_or me.0.cells k).is_open) 0 → c < 2 ^ 40 → times c me.0.used_claims ≡ 0
+    → Allows (Holds a) slots id me (gate_at k) (λ n. either (n == old) (c * 131072) n)
+    (λ n w. Reclaimed (gate_cell (gate_at k)) old (c * 131072 / 131072) me.0 n w.0 × (w.1 ≡ me.1))
 reclaims_as a slots id k me within role old c known low new =
     let e : gate_word c 0 0 ≡ c * 131072 = omega arith in
     let d : c ≡ c * 131072 / 131072 = omega arith in
-    subst (λ (x : ℕ × ℕ). Allows (Holds a) slots id me (gate_at k) (λ n. either (n == old) x.0 n) (λ n w. Reclaimed (gate_cell (gate_at k)) old x.1 me.0 n w.0 × (w.1 ≡ me.1))) (λ i. (e i, d i)) (reclaims a slots id k me within role old c known low new)
+    subst (λ (x : ℕ × ℕ). Allows (Holds a) slots id me (gate_at k) (λ n. either (n == old) x.0 n) (λ n w. Reclaimed (gate_cell (gate_at k)) old x.1 me.0 n w.0 × (w.1 ≡ me.1)))
+    (λ i. (e i, d i)) (reclaims a slots id k me within role old c known low new)

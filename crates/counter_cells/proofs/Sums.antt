@@ -1,5 +1,6 @@
 -- Sums over lists.
-use Rattle.std.proofs.Common.{◌≡◌, ◌≢◌, ℕ, zero, suc, ◌+◌, ◌≤◌, ◌<◌, ◌==◌, List, [], ◌∷◌, ◌++◌, length, set, get_or, All, cond, refl, sym, ap, ◌∙◌, subst, ⊎_elim, arith, length-append, Bool, true, false}
+use Rattle.std.proofs.Common.{◌≡◌, ◌≢◌, ℕ, zero, suc, ◌+◌, ◌≤◌, ◌<◌, ◌==◌, List, [], ◌∷◌, ◌++◌, length, set, get_or, All, cond, refl, sym, ap, ◌∙◌, subst, ⊎_elim, arith}
+use Rattle.std.proofs.Common.{length-append, Bool, true, false}
 use Rattle.std.proofs.lemmas.Bool.{ne_eqb, eq-eqb, lt-ltb, le-ltb}
 use Rattle.std.specs.Prelude.{ltb}
 use mathlib.Core.Option.{some, some-ne-none, some-injective}
@@ -41,7 +42,8 @@ module _ {A : Type 0} where
   pub total_same : (f : A → ℕ) (views : List A) (k : ℕ) (v w : A) → get_elem? views k ≡ some v → f w ≡ f v → total f (set views k w) ≡ total f views
   total_same f views k v w e same = let t = total_set f views k v w e in omega arith
 
-  pub each_set : (P : A → Type 0) (views : List A) (k : ℕ) (w : A) → ((j : ℕ) (u : A) → ¬ (j ≡ k) → get_elem? views j ≡ some u → P u) → P w → (j : ℕ) (u : A) → get_elem? (set views k w) j ≡ some u → P u
+  pub each_set : (P : A → Type 0) (views : List A) (k : ℕ) (w : A) → ((j : ℕ) (u : A) → ¬ (j ≡ k) → get_elem? views j ≡ some u → P u) → P w → (j : ℕ) (u : A)
+      → get_elem? (set views k w) j ≡ some u → P u
   each_set P views k w others mine j u e =
       ⊎_elim
       (λ (x : (j ≡ k) × (w ≡ u)). subst P x.1 mine)

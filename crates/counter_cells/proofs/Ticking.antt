@@ -1,5 +1,6 @@
 -- A tick keeps the rule.
-use Rattle.std.proofs.Common.{◌≡◌, ◌⊎◌, ℕ, zero, suc, ◌+◌, ◌≤◌, ◌<◌, ◌==◌, max, get_or, List, [], ◌∷◌, ◌++◌, length, set, Bool, true, false, cond, refl, sym, ap, ◌∙◌, subst, arith, ⊎_elim, inl, inr, append_assoc}
+use Rattle.std.proofs.Common.{◌≡◌, ◌⊎◌, ℕ, zero, suc, ◌+◌, ◌≤◌, ◌<◌, ◌==◌, max, get_or, List, [], ◌∷◌, ◌++◌, length, set, Bool, true, false, cond, refl, sym, ap, ◌∙◌, subst, arith}
+use Rattle.std.proofs.Common.{⊎_elim, inl, inr, append_assoc}
 use Rattle.std.proofs.lemmas.List.{append-nil}
 use Rattle.std.specs.Prelude.{ltb, Option, Some, None, IfSome}
 use Rattle.std.proofs.lemmas.Bool.{lt-ltb}
@@ -21,25 +22,34 @@ last_push : (m : ℕ) (xs : List Tick) (y : Tick) → last_moment m (xs ++ y ∷
 last_push m [] y = refl
 last_push m (x ∷ xs) y = last_push x.moment xs y
 
-sourced_push : (start : ℕ) (other : ℕ → ℕ → ℕ) (before xs : List Tick) (y : Tick) → Sourced start other before xs → (y.moment ≡ start) ⊎ ((1 ≤ own_offers y.number y.moment ((before ++ xs) ++ y ∷ [])) ⊎ (1 ≤ other y.number y.moment)) → Sourced start other before (xs ++ y ∷ [])
-sourced_push start other before [] y s h = (subst (λ (l : List Tick). (y.moment ≡ start) ⊎ ((1 ≤ own_offers y.number y.moment (l ++ y ∷ [])) ⊎ (1 ≤ other y.number y.moment))) (append-nil before) h, tt)
-sourced_push start other before (x ∷ xs) y s h = (s.0, sourced_push start other (before ++ x ∷ []) xs y s.1 (subst (λ (l : List Tick). (y.moment ≡ start) ⊎ ((1 ≤ own_offers y.number y.moment (l ++ y ∷ [])) ⊎ (1 ≤ other y.number y.moment))) (sym (append_assoc before (x ∷ []) xs)) h))
+sourced_push : (start : ℕ) (other : ℕ → ℕ → ℕ) (before xs : List Tick) (y : Tick) → Sourced start other before xs → (y.moment ≡ start)
+    ⊎ ((1 ≤ own_offers y.number y.moment ((before ++ xs) ++ y ∷ [])) ⊎ (1 ≤ other y.number y.moment)) → Sourced start other before (xs ++ y ∷ [])
+sourced_push start other before [] y s h =
+    (subst (λ (l : List Tick). (y.moment ≡ start) ⊎ ((1 ≤ own_offers y.number y.moment (l ++ y ∷ [])) ⊎ (1 ≤ other y.number y.moment))) (append-nil before) h, tt)
+sourced_push start other before (x ∷ xs) y s h = (
+  s.0,
+  sourced_push start other (before ++ x ∷ []) xs y s.1 (subst
+      (λ (l : List Tick). (y.moment ≡ start) ⊎ ((1 ≤ own_offers y.number y.moment (l ++ y ∷ [])) ⊎ (1 ≤ other y.number y.moment))) (sym (append_assoc before (x ∷ []) xs)) h),
+)
 
 -- an offer stays below a later clock
 offer_up : (c c' : ℕ) (o : Option ℕ) → c ≤ c' → IfSome o (λ m. m ≤ c) → IfSome o (λ m. m ≤ c')
 offer_up c c' None l h = tt
 offer_up c c' (Some m) l h = omega arith
 
-pub sourced_more : (start : ℕ) (other other' : ℕ → ℕ → ℕ) (before xs : List Tick) → ((i m : ℕ) → other i m ≤ other' i m) → Sourced start other before xs → Sourced start other' before xs
+pub sourced_more : (start : ℕ) (other other' : ℕ → ℕ → ℕ) (before xs : List Tick) → ((i m : ℕ) → other i m ≤ other' i m) → Sourced start other before xs
+    → Sourced start other' before xs
 sourced_more start other other' before [] le s = tt
-sourced_more start other other' before (x ∷ xs) le s = (⊎_elim inl (λ q. inr (⊎_elim inl (λ o. inr (let l = le x.number x.moment in omega arith)) q)) s.0, sourced_more start other other' (before ++ x ∷ []) xs le s.1)
+sourced_more start other other' before (x ∷ xs) le s =
+    (⊎_elim inl (λ q. inr (⊎_elim inl (λ o. inr (let l = le x.number x.moment in omega arith)) q)) s.0, sourced_more start other other' (before ++ x ∷ []) xs le s.1)
 
 -- each offer is of the pass or of another
 parts : (i m : ℕ) (ts : List Tick) → total (λ (x : Tick). offered m x) ts ≡ own_offers i m ts + total (λ (x : Tick). cond (x.number == i) 0 (offered m x)) ts
 parts i m [] = refl
 parts i m (x ∷ xs) = keep (x.number == i) (offered m x) (parts i m xs)
   where
-    keep : (b : Bool) (n : ℕ) → total (λ (y : Tick). offered m y) xs ≡ own_offers i m xs + total (λ (y : Tick). cond (y.number == i) 0 (offered m y)) xs → n + total (λ (y : Tick). offered m y) xs ≡ (cond b n 0 + own_offers i m xs) + (cond b 0 n + total (λ (y : Tick). cond (y.number == i) 0 (offered m y)) xs)
+    keep : (b : Bool) (n : ℕ) → total (λ (y : Tick). offered m y) xs ≡ own_offers i m xs + total (λ (y : Tick). cond (y.number == i) 0 (offered m y)) xs
+        → n + total (λ (y : Tick). offered m y) xs ≡ (cond b n 0 + own_offers i m xs) + (cond b 0 n + total (λ (y : Tick). cond (y.number == i) 0 (offered m y)) xs)
     keep true n r = omega arith
     keep false n r = omega arith
 
@@ -59,7 +69,8 @@ total_sum : {A : Type 0} (f g : A → ℕ) (xs : List A) → total (λ x. f x + 
 total_sum f g [] = refl
 total_sum f g (x ∷ xs) = let r = total_sum f g xs in omega arith
 
-module _ (a : Setup) (clock clock' now : ℕ) (views : List CellView) (c : ClockIsGreatestOffer a clock views) (id : ℕ) (v : CellView) (at : get_elem? views id ≡ some v) (live : 1 ≤ length v.numbers) (is : clock' ≡ max clock now) (low : now ≤ 1000000000000) where
+module _ (a : Setup) (clock clock' now : ℕ) (views : List CellView) (c : ClockIsGreatestOffer a clock views) (id : ℕ) (v : CellView) (at : get_elem? views id ≡ some v)
+    (live : 1 ≤ length v.numbers) (is : clock' ≡ max clock now) (low : now ≤ 1000000000000) where
   abbrev W : CellView
   W = ticked (max clock now) now v
 
@@ -84,18 +95,23 @@ module _ (a : Setup) (clock clock' now : ℕ) (views : List CellView) (c : Clock
           let o = number in
           none_of (number_of v) clock u.numbers u.ticks (omega arith) (c.each j u e).numbers
 
-      pick : 1 ≤ total (offers clock) views → Dec (0 < total (other_offers (number_of v) clock) views) → (1 ≤ own_offers (number_of v) clock v.ticks) ⊎ (1 ≤ total (other_offers (number_of v) clock) views)
+      pick : 1 ≤ total (offers clock) views → Dec (0 < total (other_offers (number_of v) clock) views) → (1 ≤ own_offers (number_of v) clock v.ticks)
+          ⊎ (1 ≤ total (other_offers (number_of v) clock) views)
       pick o (yes d) = inr (omega arith)
       pick o (no n) =
-          let e = total_eq (offers clock) (λ (x : CellView). own_offers (number_of v) clock x.ticks + other_offers (number_of v) clock x) views (λ j x _. parts (number_of v) clock x.ticks) in
+          let e = total_eq (offers clock) (λ (x : CellView). own_offers (number_of v) clock x.ticks + other_offers (number_of v) clock x) views
+          (λ j x _. parts (number_of v) clock x.ticks) in
           let s = total_sum (λ (x : CellView). own_offers (number_of v) clock x.ticks) (other_offers (number_of v) clock) views in
           let f = total_only (λ (x : CellView). own_offers (number_of v) clock x.ticks) views id v at alone in
           inl (omega arith)
         where
-          total_only : (f : CellView → ℕ) (xs : List CellView) (k : ℕ) (x : CellView) → get_elem? xs k ≡ some x → ((j : ℕ) (u : CellView) → (j ≡ k → ⊥) → get_elem? xs j ≡ some u → f u ≡ 0) → total f xs ≡ f x
+          total_only : (f : CellView → ℕ) (xs : List CellView) (k : ℕ) (x : CellView) → get_elem? xs k ≡ some x
+              → ((j : ℕ) (u : CellView) → (j ≡ k → ⊥) → get_elem? xs j ≡ some u → f u ≡ 0) → total f xs ≡ f x
           total_only f [] k x e h = absurd (some-ne-none x (sym e))
-          total_only f (y ∷ ys) zero x e h = let a : f y ≡ f x = ap f (some-injective _ _ e) in let b = total_none f ys (λ j u d. h (suc j) u (λ q. absurd (omega arith)) d) in omega arith
-          total_only f (y ∷ ys) (suc k) x e h = let a = h 0 y (λ q. absurd (omega arith)) refl in let b = total_only f ys k x e (λ j u n d. h (suc j) u (λ q. n (omega arith)) d) in omega arith
+          total_only f (y ∷ ys) zero x e h =
+              let a : f y ≡ f x = ap f (some-injective _ _ e) in let b = total_none f ys (λ j u d. h (suc j) u (λ q. absurd (omega arith)) d) in omega arith
+          total_only f (y ∷ ys) (suc k) x e h =
+              let a = h 0 y (λ q. absurd (omega arith)) refl in let b = total_only f ys k x e (λ j u n d. h (suc j) u (λ q. n (omega arith)) d) in omega arith
 
   -- offers only grow
   others_more : (i m : ℕ) → total (other_offers i m) views ≤ total (other_offers i m) (set views id W)
@@ -115,13 +131,17 @@ module _ (a : Setup) (clock clock' now : ℕ) (views : List CellView) (c : Clock
   top_now = pick (dec_lt clock now) (dec_lt v.moment now)
     where
       pick : Dec (clock < now) → Dec (v.moment < now) → (clock' ≡ a.start) ⊎ (1 ≤ total (offers clock') (set views id W))
-      pick (yes d) e = let m = mine.moment in let y = offers_more clock' in let x = new_offer clock' (omega arith) in let z = cond_yes now clock' 1 0 (omega arith) in inr (omega arith)
-      pick (no n) e = let same : clock' ≡ clock = omega arith in ⊎_elim (λ s. inl (same ∙ s)) (λ o. inr (let o' : 1 ≤ total (offers clock') views = subst (λ i. 1 ≤ total (offers i) views) (sym same) o in let y = offers_more clock' in omega arith)) c.top
+      pick (yes d) e = let m = mine.moment in let y = offers_more clock' in let x = new_offer clock' (omega arith) in let z = cond_yes now clock' 1 0 (omega arith) in
+          inr (omega arith)
+      pick (no n) e = let same : clock' ≡ clock = omega arith in ⊎_elim (λ s. inl (same ∙ s))
+          (λ o. inr (let o' : 1 ≤ total (offers clock') views = subst (λ i. 1 ≤ total (offers i) views) (sym same) o in let y = offers_more clock' in omega arith)) c.top
 
-  new_source : (max clock now ≡ a.start) ⊎ ((1 ≤ own_offers (number_of v) (max clock now) (v.ticks ++ N ∷ [])) ⊎ (1 ≤ total (other_offers (number_of v) (max clock now)) (set views id W)))
+  new_source : (max clock now ≡ a.start) ⊎ ((1 ≤ own_offers (number_of v) (max clock now) (v.ticks ++ N ∷ []))
+      ⊎ (1 ≤ total (other_offers (number_of v) (max clock now)) (set views id W)))
   new_source = pick (dec_lt clock now)
     where
-      pick : Dec (clock < now) → (max clock now ≡ a.start) ⊎ ((1 ≤ own_offers (number_of v) (max clock now) (v.ticks ++ N ∷ [])) ⊎ (1 ≤ total (other_offers (number_of v) (max clock now)) (set views id W)))
+      pick : Dec (clock < now) → (max clock now ≡ a.start) ⊎ ((1 ≤ own_offers (number_of v) (max clock now) (v.ticks ++ N ∷ []))
+          ⊎ (1 ≤ total (other_offers (number_of v) (max clock now)) (set views id W)))
       pick (yes d) =
           let m = mine.moment in
           let y = own_more (number_of v) (max clock now) in
@@ -132,7 +152,8 @@ module _ (a : Setup) (clock clock' now : ℕ) (views : List CellView) (c : Clock
       pick (no n) =
           let same : clock ≡ max clock now = omega arith in
           subst (λ m. (m ≡ a.start) ⊎ ((1 ≤ own_offers (number_of v) m (v.ticks ++ N ∷ [])) ⊎ (1 ≤ total (other_offers (number_of v) m) (set views id W)))) same
-          (⊎_elim inl (λ q. inr (⊎_elim (λ o. inl (let y = own_more (number_of v) clock in omega arith)) (λ o. inr (let y = others_more (number_of v) clock in omega arith)) q)) clock_source)
+          (⊎_elim inl (λ q. inr (⊎_elim (λ o. inl (let y = own_more (number_of v) clock in omega arith)) (λ o. inr (let y = others_more (number_of v) clock in omega arith)) q))
+          clock_source)
 
   view_old : (j : ℕ) (u : CellView) → get_elem? views j ≡ some u → TicksFit a.start clock' (λ i m. total (other_offers i m) (set views id W)) u
   view_old j u e =
@@ -140,7 +161,8 @@ module _ (a : Setup) (clock clock' now : ℕ) (views : List CellView) (c : Clock
       record {
         moment = let m = f.moment in omega arith;
         last = f.last;
-        offers = each_map (λ (x : Tick). IfSome x.offer (λ m. m ≤ clock)) (λ (x : Tick). IfSome x.offer (λ m. m ≤ clock')) u.ticks (λ x l. offer_up clock clock' x.offer (omega arith) l) f.offers;
+        offers = each_map (λ (x : Tick). IfSome x.offer (λ m. m ≤ clock)) (λ (x : Tick). IfSome x.offer (λ m. m ≤ clock')) u.ticks
+            (λ x l. offer_up clock clock' x.offer (omega arith) l) f.offers;
         numbers = f.numbers;
         sourced = sourced_more a.start (λ i m. total (other_offers i m) views) (λ i m. total (other_offers i m) (set views id W)) [] u.ticks others_more f.sourced;
       }
@@ -183,12 +205,14 @@ clock_same a clock views c id v w at same =
       each = each_set (TicksFit a.start clock (λ i m. total (other_offers i m) (set views id w))) views id w (λ j x _ e. old j x e)
           (let f = old id v at in record {
             moment = (let m = f.moment in let e = same.2 in omega arith);
-            last = λ l. same.2 ∙ f.last (let e = ap (length {A = ℕ}) same.1 in let d : one_if w.claimer ≡ one_if v.claimer = ap one_if same.4 in omega arith) ∙ sym (ap (last_moment a.start) same.0);
+            last = λ l. same.2 ∙ f.last (let e = ap (length {A = ℕ}) same.1 in let d : one_if w.claimer ≡ one_if v.claimer = ap one_if same.4 in omega arith)
+                ∙ sym (ap (last_moment a.start) same.0);
             offers = subst (AllByRecursion (λ (x : Tick). IfSome x.offer (λ m. m ≤ clock))) (sym same.0) f.offers;
             numbers = subst (λ (y : List Tick × List ℕ). AllByRecursion (λ (x : Tick). 1 ≤ times x.number y.1) y.0) (λ i. (sym same.0 i, sym same.1 i)) f.numbers;
             sourced = subst (Sourced a.start (λ i m. total (other_offers i m) (set views id w)) []) (sym same.0) f.sourced;
           });
-      numbers = λ i. let o = c.numbers i in let s = total_same (λ (x : CellView). times i x.numbers + one_if (ltb i x.unmade)) views id v w at (let x = ap (times i) same.1 in let y = ap (λ n. one_if (ltb i n)) same.3 in omega arith) in omega arith;
+      numbers = λ i. let o = c.numbers i in let s = total_same (λ (x : CellView). times i x.numbers + one_if (ltb i x.unmade)) views id v w at
+          (let x = ap (times i) same.1 in let y = ap (λ n. one_if (ltb i n)) same.3 in omega arith) in omega arith;
     }
   where
     old : (j : ℕ) (u : CellView) → get_elem? views j ≡ some u → TicksFit a.start clock (λ i m. total (other_offers i m) (set views id w)) u
@@ -199,5 +223,7 @@ clock_same a clock views c id v w at same =
           last = f.last;
           offers = f.offers;
           numbers = f.numbers;
-          sourced = sourced_more a.start (λ i m. total (other_offers i m) views) (λ i m. total (other_offers i m) (set views id w)) [] u.ticks (λ i m. let s = total_same (λ (x : CellView). total (λ (y : Tick). cond (y.number == i) 0 (offered m y)) x.ticks) views id v w at (ap (total (λ (y : Tick). cond (y.number == i) 0 (offered m y))) same.0) in omega arith) f.sourced;
+          sourced = sourced_more a.start (λ i m. total (other_offers i m) views) (λ i m. total (other_offers i m) (set views id w)) [] u.ticks
+              (λ i m. let s = total_same (λ (x : CellView). total (λ (y : Tick). cond (y.number == i) 0 (offered m y)) x.ticks) views id v w at
+              (ap (total (λ (y : Tick). cond (y.number == i) 0 (offered m y))) same.0) in omega arith) f.sourced;
         }

@@ -34,19 +34,25 @@ drop_length k (p ∷ ps) = keep (p.0 == k) (drop_length k ps)
     keep true r = omega arith
     keep false r = omega arith
 
-drop_on : (k j : ℕ) (ps : List (ℕ × ℕ)) → 1 ≤ total (λ p. one_if (p.0 == k)) ps → total (λ p. one_if (p.0 == j)) (drop_pin k ps) + one_if (k == j) ≡ total (λ p. one_if (p.0 == j)) ps
+drop_on : (k j : ℕ) (ps : List (ℕ × ℕ)) → 1 ≤ total (λ p. one_if (p.0 == k)) ps
+    → total (λ p. one_if (p.0 == j)) (drop_pin k ps) + one_if (k == j) ≡ total (λ p. one_if (p.0 == j)) ps
 drop_on k j [] h = absurd (omega arith)
 drop_on k j (p ∷ ps) h = keep (p.0 == k) refl h (drop_on k j ps)
   where
-    keep : (b : Bool) → (p.0 == k) ≡ b → 1 ≤ one_if (p.0 == k) + total (λ q. one_if (q.0 == k)) ps → (1 ≤ total (λ q. one_if (q.0 == k)) ps → total (λ q. one_if (q.0 == j)) (drop_pin k ps) + one_if (k == j) ≡ total (λ q. one_if (q.0 == j)) ps) → total (λ q. one_if (q.0 == j)) (cond b ps (p ∷ drop_pin k ps)) + one_if (k == j) ≡ one_if (p.0 == j) + total (λ q. one_if (q.0 == j)) ps
+    keep : (b : Bool) → (p.0 == k) ≡ b → 1 ≤ one_if (p.0 == k) + total (λ q. one_if (q.0 == k)) ps
+        → (1 ≤ total (λ q. one_if (q.0 == k)) ps → total (λ q. one_if (q.0 == j)) (drop_pin k ps) + one_if (k == j) ≡ total (λ q. one_if (q.0 == j)) ps)
+        → total (λ q. one_if (q.0 == j)) (cond b ps (p ∷ drop_pin k ps)) + one_if (k == j) ≡ one_if (p.0 == j) + total (λ q. one_if (q.0 == j)) ps
     keep true is h' r = let e : p.0 ≡ k = grind (arith, nat_tests) in let y : one_if (k == j) ≡ one_if (p.0 == j) = ap (λ i. one_if (i == j)) (sym e) in omega arith
     keep false is h' r = let y = ap one_if is in let s = r (omega arith) in omega arith
 
-drop_stray_on : (k j : ℕ) (ps : List ℕ) → 1 ≤ total (λ p. one_if (p == k)) ps → (total (λ p. one_if (p == j)) (drop_stray k ps) + one_if (k == j) ≡ total (λ p. one_if (p == j)) ps)
+drop_stray_on : (k j : ℕ) (ps : List ℕ) → 1 ≤ total (λ p. one_if (p == k)) ps
+    → (total (λ p. one_if (p == j)) (drop_stray k ps) + one_if (k == j) ≡ total (λ p. one_if (p == j)) ps)
 drop_stray_on k j [] h = absurd (omega arith)
 drop_stray_on k j (p ∷ ps) h = keep (p == k) refl h (drop_stray_on k j ps)
   where
-    keep : (b : Bool) → (p == k) ≡ b → 1 ≤ one_if (p == k) + total (λ q. one_if (q == k)) ps → (1 ≤ total (λ q. one_if (q == k)) ps → total (λ q. one_if (q == j)) (drop_stray k ps) + one_if (k == j) ≡ total (λ q. one_if (q == j)) ps) → total (λ q. one_if (q == j)) (cond b ps (p ∷ drop_stray k ps)) + one_if (k == j) ≡ one_if (p == j) + total (λ q. one_if (q == j)) ps
+    keep : (b : Bool) → (p == k) ≡ b → 1 ≤ one_if (p == k) + total (λ q. one_if (q == k)) ps
+        → (1 ≤ total (λ q. one_if (q == k)) ps → total (λ q. one_if (q == j)) (drop_stray k ps) + one_if (k == j) ≡ total (λ q. one_if (q == j)) ps)
+        → total (λ q. one_if (q == j)) (cond b ps (p ∷ drop_stray k ps)) + one_if (k == j) ≡ one_if (p == j) + total (λ q. one_if (q == j)) ps
     keep true is h' r = let e : p ≡ k = grind (arith, nat_tests) in let y : one_if (k == j) ≡ one_if (p == j) = ap (λ i. one_if (i == j)) (sym e) in omega arith
     keep false is h' r = let y = ap one_if is in let s = r (omega arith) in omega arith
 
@@ -66,11 +72,15 @@ any_some k (p ∷ ps) e = keep (p.0 == k) e (any_some k ps)
     keep true e r = omega arith
     keep false e r = let s = r e in omega arith
 
-module _ (a : Setup) (t : Register) (gate gate' count : ℕ → ℕ) (views : List CellView) (r : Rule a t gate count views) (id k : ℕ) (v : CellView) (at : get_elem? views id ≡ some v) (here : gate' k + 2 ≡ gate k) (else : (j : ℕ) → (j ≡ k → ⊥) → gate' j ≡ gate j) where
-  word_less : (w : CellView) → ((j : ℕ) → pins_on j w + one_if (k == j) ≡ pins_on j v) → (j : ℕ) (u : Cell) → get_elem? t.cells j ≡ some u → gate' j ≡ gate_word u.claim (one_if u.is_open) (total (pins_on j) (set views id w))
+module _ (a : Setup) (t : Register) (gate gate' count : ℕ → ℕ) (views : List CellView) (r : Rule a t gate count views) (id k : ℕ) (v : CellView)
+    (at : get_elem? views id ≡ some v) (here : gate' k + 2 ≡ gate k) (else : (j : ℕ) → (j ≡ k → ⊥) → gate' j ≡ gate j) where
+  word_less : (w : CellView) → ((j : ℕ) → pins_on j w + one_if (k == j) ≡ pins_on j v) → (j : ℕ) (u : Cell) → get_elem? t.cells j ≡ some u
+      → gate' j ≡ gate_word u.claim (one_if u.is_open) (total (pins_on j) (set views id w))
   word_less w more j u e = pick (ℕ_discrete j k) (r.cells j u e).word (total_set (pins_on j) views id v w at) (more j)
     where
-      pick : Dec (j ≡ k) → gate j ≡ gate_word u.claim (one_if u.is_open) (total (pins_on j) views) → total (pins_on j) (set views id w) + pins_on j v ≡ total (pins_on j) views + pins_on j w → pins_on j w + one_if (k == j) ≡ pins_on j v → gate' j ≡ gate_word u.claim (one_if u.is_open) (total (pins_on j) (set views id w))
+      pick : Dec (j ≡ k) → gate j ≡ gate_word u.claim (one_if u.is_open) (total (pins_on j) views)
+          → total (pins_on j) (set views id w) + pins_on j v ≡ total (pins_on j) views + pins_on j w → pins_on j w + one_if (k == j) ≡ pins_on j v
+          → gate' j ≡ gate_word u.claim (one_if u.is_open) (total (pins_on j) (set views id w))
       pick (yes d) f s m = let g : gate' j + 2 ≡ gate j = ap (λ i. gate' i + 2) d ∙ here ∙ sym (ap gate d) in let y = cond_yes k j 1 0 (sym d) in omega arith
       pick (no n) f s m = let g = else j n in let y = cond_no k j 1 0 (λ q. n (sym q)) in omega arith
 
@@ -82,16 +92,31 @@ module _ (a : Setup) (t : Register) (gate gate' count : ℕ → ℕ) (views : Li
       (word_less (stray_unpinned k v) (λ j. let d = drop_stray_on k j v.stray one in omega arith))
       (λ j. omega arith)
       (λ j u e off ev. refl)
-      (record { pins = (omega arith, omega arith); good = f.good; under = f.under; once = f.once; past = f.past; charges = f.charges; looks = f.looks; idle = f.idle; claimer = f.claimer; caps = λ i u e o. let p = f.caps i u e o in record { charges = p.charges; looks = p.looks } })
+      (record {
+        pins = (omega arith, omega arith);
+        good = f.good;
+        under = f.under;
+        once = f.once;
+        past = f.past;
+        charges = f.charges;
+        looks = f.looks;
+        idle = f.idle;
+        claimer = f.claimer;
+        caps = λ i u e o. let p = f.caps i u e o in record { charges = p.charges; looks = p.looks };
+      })
 
   less : (b : Bool) (f : (ℕ × ℕ) → ℕ) → total f (cond b v.unused (without k v.unused)) ≤ total f v.unused
   less true f = omega arith
   less false f = without_le f k v.unused
 
-  under_now : (j : ℕ) (b : Bool) → any_on k (drop_pin k v.good) ≡ b → Dec (j ≡ k) → 1 ≤ good_on k v → 1 ≤ total (λ p. one_if (p.0 == j)) (cond b v.unused (without k v.unused)) → (1 ≤ unused_on j v → 1 ≤ good_on j v) → 1 ≤ total (λ p. one_if (p.0 == j)) (drop_pin k v.good)
+  under_now : (j : ℕ) (b : Bool) → any_on k (drop_pin k v.good) ≡ b → Dec (j ≡ k) → 1 ≤ good_on k v → 1 ≤ total (λ p. one_if (p.0 == j)) (cond b v.unused (without k v.unused))
+      → (1 ≤ unused_on j v → 1 ≤ good_on j v) → 1 ≤ total (λ p. one_if (p.0 == j)) (drop_pin k v.good)
   under_now j true is (yes d) one o f = subst (λ i. 1 ≤ total (λ p. one_if (p.0 == i)) (drop_pin k v.good)) (sym d) (any_some k (drop_pin k v.good) is)
-  under_now j false is (yes d) one o f = let z : total (λ p. one_if (p.0 == j)) (without k v.unused) ≡ 0 = subst (λ i. total (λ p. one_if (p.0 == i)) (without k v.unused) ≡ 0) (sym d) (without_here k v.unused) in absurd (omega arith)
-  under_now j b is (no n) one o f = let l = less b (λ p. one_if (p.0 == j)) in let g = f (omega arith) in let d = drop_on k j v.good one in let y = cond_no k j 1 0 (λ q. n (sym q)) in omega arith
+  under_now j false is (yes d) one o f =
+      let z : total (λ p. one_if (p.0 == j)) (without k v.unused) ≡ 0 =
+      subst (λ i. total (λ p. one_if (p.0 == i)) (without k v.unused) ≡ 0) (sym d) (without_here k v.unused) in absurd (omega arith)
+  under_now j b is (no n) one o f =
+      let l = less b (λ p. one_if (p.0 == j)) in let g = f (omega arith) in let d = drop_on k j v.good one in let y = cond_no k j 1 0 (λ q. n (sym q)) in omega arith
 
   pub unpin_keeps : 1 ≤ good_on k v → Rule a t gate' count (set views id (unpinned k v))
   unpin_keeps one =

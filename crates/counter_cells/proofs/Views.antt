@@ -41,7 +41,9 @@ pub claimed : (k : ℕ) (ps : List (ℕ × ℕ)) → 1 ≤ total (λ p. one_if (
 claimed k [] h = absurd (omega arith)
 claimed k (p ∷ ps) h = keep (p.0 == k) refl h (claimed k ps)
   where
-    keep : (b : Bool) → (p.0 == k) ≡ b → 1 ≤ one_if (p.0 == k) + total (λ q. one_if (q.0 == k)) ps → (1 ≤ total (λ q. one_if (q.0 == k)) ps → 1 ≤ total (λ q. one_if (is_pair k (claim_on k ps) q)) ps) → 1 ≤ one_if ((p.0 == k) && (p.1 == cond b p.1 (claim_on k ps))) + total (λ q. one_if (is_pair k (cond b p.1 (claim_on k ps)) q)) ps
+    keep : (b : Bool) → (p.0 == k) ≡ b → 1 ≤ one_if (p.0 == k) + total (λ q. one_if (q.0 == k)) ps
+        → (1 ≤ total (λ q. one_if (q.0 == k)) ps → 1 ≤ total (λ q. one_if (is_pair k (claim_on k ps) q)) ps)
+        → 1 ≤ one_if ((p.0 == k) && (p.1 == cond b p.1 (claim_on k ps))) + total (λ q. one_if (is_pair k (cond b p.1 (claim_on k ps)) q)) ps
     keep true is h' r = let e : (p.1 == p.1) ≡ true = eq-eqb p.1 p.1 refl in rw (is, e) (omega arith)
     keep false is h' r = let some = rw is at h' in let s = r (omega arith) in omega arith
 
@@ -49,14 +51,16 @@ pub small_le : (k : ℕ) (ps : List (ℕ × ℕ)) → total (λ p. cond (p.0 == 
 small_le k [] = omega arith
 small_le k (p ∷ ps) = let r = small_le k ps in keep (p.0 == k) (ltb p.1 4294967296) r
   where
-    keep : (b c : Bool) → total (λ q. cond (q.0 == k) (one_if (ltb q.1 4294967296)) 0) ps ≤ total (λ q. one_if (q.0 == k)) ps → cond b (one_if c) 0 + total (λ q. cond (q.0 == k) (one_if (ltb q.1 4294967296)) 0) ps ≤ one_if b + total (λ q. one_if (q.0 == k)) ps
+    keep : (b c : Bool) → total (λ q. cond (q.0 == k) (one_if (ltb q.1 4294967296)) 0) ps ≤ total (λ q. one_if (q.0 == k)) ps
+        → cond b (one_if c) 0 + total (λ q. cond (q.0 == k) (one_if (ltb q.1 4294967296)) 0) ps ≤ one_if b + total (λ q. one_if (q.0 == k)) ps
     keep true true r = omega arith
     keep true false r = omega arith
     keep false true r = omega arith
     keep false false r = omega arith
 
 -- every charge of the claim lies below the count: none begins there, and all count
-pub none_there : (c b : ℕ) (xs : List Charge) → AllByRecursion (λ (x : Charge). x.claim ≡ c → x.before + x.hits ≤ b) xs → AllByRecursion (λ (x : Charge). 1 ≤ x.hits) xs → total (λ (x : Charge). cond (x.claim == c) (one_if (x.before == b)) 0) xs ≡ 0
+pub none_there : (c b : ℕ) (xs : List Charge) → AllByRecursion (λ (x : Charge). x.claim ≡ c → x.before + x.hits ≤ b) xs → AllByRecursion (λ (x : Charge). 1 ≤ x.hits) xs
+    → total (λ (x : Charge). cond (x.claim == c) (one_if (x.before == b)) 0) xs ≡ 0
 none_there c b [] cap pos = refl
 none_there c b (x ∷ xs) cap pos =
     let r = none_there c b xs cap.1 pos.1 in
@@ -67,7 +71,8 @@ none_there c b (x ∷ xs) cap pos =
     pick (yes e) = let l = cap.0 e in let p = pos.0 in cond_yes x.claim c (one_if (x.before == b)) 0 e ∙ cond_no x.before b 1 0 (λ s. omega arith)
     pick (no n) = cond_no x.claim c (one_if (x.before == b)) 0 n
 
-pub all_below : (c b : ℕ) (xs : List Charge) → AllByRecursion (λ (x : Charge). x.claim ≡ c → x.before + x.hits ≤ b) xs → AllByRecursion (λ (x : Charge). 1 ≤ x.hits) xs → total (λ (x : Charge). cond (x.claim == c) (cond (ltb x.before b) x.hits 0) 0) xs ≡ total (λ (x : Charge). cond (x.claim == c) x.hits 0) xs
+pub all_below : (c b : ℕ) (xs : List Charge) → AllByRecursion (λ (x : Charge). x.claim ≡ c → x.before + x.hits ≤ b) xs → AllByRecursion (λ (x : Charge). 1 ≤ x.hits) xs
+    → total (λ (x : Charge). cond (x.claim == c) (cond (ltb x.before b) x.hits 0) 0) xs ≡ total (λ (x : Charge). cond (x.claim == c) x.hits 0) xs
 all_below c b [] cap pos = refl
 all_below c b (x ∷ xs) cap pos =
     let r = all_below c b xs cap.1 pos.1 in
@@ -83,6 +88,7 @@ pub drop_length_one : (k : ℕ) (ps : List (ℕ × ℕ)) → 1 ≤ total (λ p. 
 drop_length_one k [] h = absurd (omega arith)
 drop_length_one k (p ∷ ps) h = keep (p.0 == k) refl h (drop_length_one k ps)
   where
-    keep : (b : Bool) → (p.0 == k) ≡ b → 1 ≤ one_if (p.0 == k) + total (λ q. one_if (q.0 == k)) ps → (1 ≤ total (λ q. one_if (q.0 == k)) ps → length (drop_pin k ps) + 1 ≡ length ps) → length (cond b ps (p ∷ drop_pin k ps)) + 1 ≡ suc (length ps)
+    keep : (b : Bool) → (p.0 == k) ≡ b → 1 ≤ one_if (p.0 == k) + total (λ q. one_if (q.0 == k)) ps
+        → (1 ≤ total (λ q. one_if (q.0 == k)) ps → length (drop_pin k ps) + 1 ≡ length ps) → length (cond b ps (p ∷ drop_pin k ps)) + 1 ≡ suc (length ps)
     keep true is h' r = omega arith
     keep false is h' r = let y = ap one_if is in let s = r (omega arith) in omega arith

@@ -25,7 +25,9 @@ ticks_of (v ∷ vs) = v.ticks ++ ticks_of vs
 
 -- the count of each cell that the claimer knows to be open is the sum of the hits that the passes charged under its claim
 abbrev pub CountsAreTotals : List ℕ → CellView → List CellView → Type 0
-CountsAreTotals counts claimer passes = (k : ℕ) (c : Cell) → get_elem? claimer.cells k ≡ some c → c.is_open ≡ true → slice_index counts k ≡ charged_total ◌==◌ c.claim (ledger_of passes)
+CountsAreTotals counts claimer passes =
+    (k : ℕ) (c : Cell) → get_elem? claimer.cells k ≡ some c → c.is_open ≡ true
+    → slice_index counts k ≡ charged_total ◌==◌ c.claim (ledger_of passes)
 
 -- The closing moment is the greatest of the start and of all offers, and the moment of each tick is the start,
 -- an offer of its pass at this tick or an earlier one, or an offer of another pass

@@ -1,5 +1,6 @@
 -- Lawful cells: what holds of the words and of all views between any two steps, in seven parts.
-use Rattle.std.specs.Prelude.{◌≡◌, ℕ, ◌+◌, ◌*◌, ◌^◌, ◌≤◌, ◌<◌, ◌⊎◌, ◌==◌, nat_lt, true, false, IfSome, List, [], ◌∷◌, ◌++◌, length, if◌then◌else◌}
+use Rattle.std.specs.Prelude.{◌≡◌, ℕ, ◌+◌, ◌*◌, ◌^◌, ◌≤◌, ◌<◌, ◌⊎◌, ◌==◌, nat_lt, true, false, IfSome, List, [], ◌∷◌, ◌++◌, length}
+use Rattle.std.specs.Prelude.{if◌then◌else◌}
 use Rattle.std.specs.List.{AllByRecursion}
 use mathlib.Core.Option.{some}
 use lib.ListN.{get_elem?}
@@ -13,7 +14,8 @@ use Rattle.counter_cells.specs.declared.setup.Setup.{Setup}
 use Rattle.counter_cells.specs.Sums.{total, one_if, times}
 use Rattle.counter_cells.specs.Gates.{gate_word}
 use Rattle.counter_cells.specs.WordIndex.{words_of, clock_of, gate_of, count_of}
-use Rattle.counter_cells.specs.Views.{most_hits, good_on, good_at, pins_on, pins_of, unused_on, small_on, pair_at, pair_of, charges_of, looks_of, Capped, offered}
+use Rattle.counter_cells.specs.Views.{most_hits, good_on, good_at, pins_on, pins_of, unused_on, small_on, pair_at, pair_of, charges_of}
+use Rattle.counter_cells.specs.Views.{looks_of, Capped, offered}
 use Rattle.counter_cells.specs.Steps.{last_moment}
 use Rattle.counter_cells.specs.Ledgers.{ledger_of, sights_of}
 
@@ -82,7 +84,8 @@ pub record GoodPinsHold (r : Register) (views : List CellView) : Type 0 where
 -- 4. Cells that were ever taken have different claims, all of them used, as are those of all charges, looks and good pins.
 -- Good pins, present or past, were on cells that were taken. The claimer's view has the claims and open bits
 pub record ClaimsAreUsedOnce (r : Register) (views : List CellView) : Type 0 where
-  pub apart : (j k : ℕ) (c d : Cell) → get_elem? r.cells j ≡ some c → get_elem? r.cells k ≡ some d → c.ever ≡ true → d.ever ≡ true → c.claim ≡ d.claim → j ≡ k
+  pub apart : (j k : ℕ) (c d : Cell) → get_elem? r.cells j ≡ some c → get_elem? r.cells k ≡ some d → c.ever ≡ true → d.ever ≡ true
+      → c.claim ≡ d.claim → j ≡ k
   pub used_claims : EachCell r (λ k c. c.ever ≡ true → 1 ≤ times c.claim r.used_claims)
   pub small : EachCell r (λ k c. c.claim < MOST_CLAIM_NUMBERS)
   pub never : EachCell r (λ k c. c.ever ≡ false → (c.is_open ≡ false) × (c.claim ≡ 0))
@@ -96,7 +99,8 @@ pub record ClaimsAreUsedOnce (r : Register) (views : List CellView) : Type 0 whe
 -- has under its claim no charge, no look and no good pin, present or past; once it is reset its count is 0
 pub record CountsAreSums (r : Register) (count : ℕ → ℕ) (views : List CellView) : Type 0 where
   pub sums : EachCell r (λ k c. c.is_open ≡ true → count k ≡ charged_total ◌==◌ c.claim (ledger_of views))
-  pub fresh : EachCell r (λ k c. c.is_open ≡ false → c.ever ≡ true → (total (charges_of c.claim) views ≡ 0) × (total (looks_of c.claim) views ≡ 0) × (total (pair_of c.claim) views ≡ 0))
+  pub fresh : EachCell r (λ k c. c.is_open ≡ false → c.ever ≡ true → (total (charges_of c.claim) views ≡ 0)
+      × (total (looks_of c.claim) views ≡ 0) × (total (pair_of c.claim) views ≡ 0))
   pub zeroed : EachCell r (λ k c. c.is_open ≡ false → c.ever ≡ true → c.reset ≡ true → count k ≡ 0)
 
 -- 6. The charges of all views are a lawful ledger, in which a claim names a counter, and the looks are lawful sights.

@@ -1,5 +1,6 @@
 -- The view after each kind of step, as a function of the view before and of what the step found.
-use Rattle.std.specs.Prelude.{ℕ, zero, suc, ◌-◌, ◌==◌, nat_lt, Bool, true, false, Some, None, List, [], ◌∷◌, ◌++◌, if◌then◌else◌, slice_index_or, slice_set, replicate}
+use Rattle.std.specs.Prelude.{ℕ, zero, suc, ◌-◌, ◌==◌, nat_lt, Bool, true, false, Some, None, List, [], ◌∷◌, ◌++◌, if◌then◌else◌}
+use Rattle.std.specs.Prelude.{slice_index_or, slice_set, replicate}
 use Rattle.counter_cells.specs.declared.view.Tick.{Tick}
 use Rattle.counter_cells.specs.declared.view.Cell.{Cell}
 use Rattle.counter_cells.specs.declared.view.CellView.{CellView}
@@ -9,7 +10,23 @@ use Rattle.counter_cells.specs.Views.{claim_on, no_cell, cell_or}
 
 -- a view that knows nothing
 abbrev pub empty_view : CellView
-empty_view = record { numbers = []; ticks = []; moment = 0; good = []; stray = []; others = []; unused = []; charges = []; looks = []; pairs = []; claimer = false; unmade = 0; cells = []; used_claims = []; held = [] }
+empty_view = record {
+  numbers = [];
+  ticks = [];
+  moment = 0;
+  good = [];
+  stray = [];
+  others = [];
+  unused = [];
+  charges = [];
+  looks = [];
+  pairs = [];
+  claimer = false;
+  unmade = 0;
+  cells = [];
+  used_claims = [];
+  held = [];
+}
 
 -- the first seat: the claimer, with no cell taken, from which all passes are split off
 abbrev pub first_claimer : Setup → CellView
@@ -82,7 +99,10 @@ any_on cell (p ∷ ps) = if p.0 == cell then true else any_on cell ps
 
 -- a good pin given back; with the last one on the cell its unused look ends
 abbrev pub unpinned : ℕ → CellView → CellView
-unpinned cell v = record v { good = drop_pin cell v.good; unused = if any_on cell (drop_pin cell v.good) then v.unused else without cell v.unused }
+unpinned cell v = record v {
+  good = drop_pin cell v.good;
+  unused = if any_on cell (drop_pin cell v.good) then v.unused else without cell v.unused;
+}
 
 -- a stray pin given back
 abbrev pub stray_unpinned : ℕ → CellView → CellView
@@ -94,7 +114,12 @@ looked cell count v = record v { unused = (cell, count) ∷ without cell v.unuse
 
 -- a charge that found the count: it spends the unused look, and is one more charge under the claim of the pin
 abbrev pub charged : ℕ → ℕ → ℕ → CellView → CellView
-charged cell before hits v = record v { unused = without cell v.unused; charges = v.charges ++ (record { claim = claim_on cell v.good; before = before; hits = hits }) ∷ [] }
+charged cell before hits v =
+    record v {
+      unused = without cell v.unused;
+      charges = v.charges ++
+          (record { claim = claim_on cell v.good; before = before; hits = hits }) ∷ [];
+    }
 
 -- a cell that was just taken under the claim
 abbrev pub taken_cell : ℕ → Cell
@@ -120,4 +145,13 @@ last_moment moment (x ∷ xs) = last_moment x.moment xs
 
 -- a pass joined at closing
 abbrev pub joined : CellView → CellView → CellView
-joined v w = record v { numbers = v.numbers ++ w.numbers; ticks = v.ticks ++ w.ticks; moment = last_moment v.moment w.ticks; others = v.others ++ w.others; unused = []; charges = v.charges ++ w.charges; looks = v.looks ++ w.looks; pairs = v.pairs ++ w.pairs }
+joined v w = record v {
+  numbers = v.numbers ++ w.numbers;
+  ticks = v.ticks ++ w.ticks;
+  moment = last_moment v.moment w.ticks;
+  others = v.others ++ w.others;
+  unused = [];
+  charges = v.charges ++ w.charges;
+  looks = v.looks ++ w.looks;
+  pairs = v.pairs ++ w.pairs;
+}

@@ -1,5 +1,6 @@
 -- What is counted in a view.
-use Rattle.std.specs.Prelude.{◌≡◌, ℕ, ◌+◌, ◌≤◌, ◌==◌, ◌&&◌, nat_lt, Bool, Option, Some, None, List, [], ◌∷◌, length, if◌then◌else◌, slice_index_or, false}
+use Rattle.std.specs.Prelude.{◌≡◌, ℕ, ◌+◌, ◌≤◌, ◌==◌, ◌&&◌, nat_lt, Bool, Option, Some, None, List, [], ◌∷◌, length, if◌then◌else◌}
+use Rattle.std.specs.Prelude.{slice_index_or, false}
 use Rattle.std.specs.List.{AllByRecursion}
 use Rattle.rate_types.specs.declared.limits.TheConstants.{MOST_HITS}
 use Rattle.counter_cells.specs.declared.view.Tick.{Tick}

@@ -3,7 +3,8 @@ ghost use Rattle.rate_types.specs.declared.limits.TheConstants.{MOST_CELLS, MOST
 ghost use Rattle.counter_cells.specs.Sums.{times};
 ghost use Rattle.counter_cells.specs.WordIndex.{words_of};
 ghost use Rattle.counter_cells.specs.Views.{most_hits, good_on, small_on, claim_on, cell_or, Capped};
-ghost use Rattle.counter_cells.specs.Steps.{ticked, pinned, good_pin, missed, unpinned, looked, charged, taken_cell, claimed_by, held_by, reset_by, opened_by};
+ghost use Rattle.counter_cells.specs.Steps.{ticked, pinned, good_pin, missed, unpinned, looked, charged, taken_cell, claimed_by, held_by};
+ghost use Rattle.counter_cells.specs.Steps.{reset_by, opened_by};
 ghost use Rattle.counter_cells.specs.declared.answers.Pin.TheVariants.{Pinned};
 ghost use Rattle.counter_cells.specs.declared.answers.Reclaim.TheVariants.{Claimed};
 ghost use Rattle.counter_cells.specs.Answers.{MatchPin, MatchReclaim, IsOther};
@@ -77,7 +78,8 @@ impl<N: CellNaming> Cells<N> {
     pub fn pin(&self, pass: &mut CellPass<N>, spot: Spot) -> Pin
         requires cell { spot.cell < N.setup.cells }
         requires room { length pass.old.good < MOST_PINS }
-        ensures pin { MatchPin result (pass.new ≡ good_pin spot.cell spot.claim pass.old) (λ claim is_open. (pass.new ≡ missed spot.cell claim is_open pass.old) × IsOther spot.claim claim is_open) }
+        ensures pin { MatchPin result (pass.new ≡ good_pin spot.cell spot.claim pass.old)
+            (λ claim is_open. (pass.new ≡ missed spot.cell claim is_open pass.old) × IsOther spot.claim claim is_open) }
         ensures held { result ≡ Pinned → 1 ≤ good_on spot.cell pass.new }
     {
         let word = self.take_pin::<Brand>(&mut pass.seat, spot);
@@ -137,7 +139,8 @@ impl<N: CellNaming> Cells<N> {
         requires cell { cell < N.setup.cells }
         requires next { (next < MOST_CLAIM_NUMBERS) × (times next claimer.old.used_claims ≡ 0) }
         ensures taken { result ≡ Claimed → cell_or claimer.new.cells cell ≡ taken_cell next }
-        ensures reclaim { MatchReclaim result (claimer.new ≡ claimed_by cell next claimer.old) (λ pins. (claimer.new ≡ held_by cell pins claimer.old) × (1 ≤ pins)) }
+        ensures reclaim { MatchReclaim result (claimer.new ≡ claimed_by cell next claimer.old)
+            (λ pins. (claimer.new ≡ held_by cell pins claimer.old) × (1 ≤ pins)) }
     {
         let index = word_index::gate(cell);
         let words = &self.table.shared;

@@ -25,7 +25,8 @@ impl<N: CellNaming> Model for CellClaimer<N> {
 
     ghost view = { λ c. c.seat.me.0 };
 
-    ghost invariant = { λ c. IsBareSeatOf N.table c.seat × IsClaimer N.setup c.seat.me.0 × (c.cells ≡ N.setup.cells) × (c.cells ≤ MOST_CELLS) };
+    ghost invariant = { λ c. IsBareSeatOf N.table c.seat × IsClaimer N.setup c.seat.me.0 × (c.cells ≡ N.setup.cells)
+        × (c.cells ≤ MOST_CELLS) };
 }
 
 impl<N: CellNaming> CellClaimer<N> {

@@ -53,9 +53,11 @@ impl<N: CellNaming> Cells<N> {
         requires bare { All (λ p. p.good ≡ []) passes.items }
         ensures length { IfOk result (λ c. length c.counts ≡ N.setup.cells) }
         ensures ledger { length passes.items ≡ N.setup.passes → IfOk result (λ _. IsLawfulLedger ◌==◌ (ledger_of passes.items)) }
-        ensures sights { length passes.items ≡ N.setup.passes → IfOk result (λ _. AllByRecursion (IsLawfulSight ◌==◌ (ledger_of passes.items)) (sights_of passes.items)) }
+        ensures sights { length passes.items ≡ N.setup.passes
+            → IfOk result (λ _. AllByRecursion (IsLawfulSight ◌==◌ (ledger_of passes.items)) (sights_of passes.items)) }
         ensures counts { length passes.items ≡ N.setup.passes → IfOk result (λ c. CountsAreTotals c.counts claimer passes.items) }
-        ensures ticks { length passes.items ≡ N.setup.passes → IfOk result (λ c. TicksAreLawful N.setup.start c.moment (ticks_of passes.items)) }
+        ensures ticks { length passes.items ≡ N.setup.passes
+            → IfOk result (λ c. TicksAreLawful N.setup.start c.moment (ticks_of passes.items)) }
     {
         let mut counts = Vec::with_capacity(alloc, self.count as usize)?;
         let Cells {

@@ -25,7 +25,8 @@ impl<N: CellNaming> Model for CellPass<N> {
 
     ghost view = { λ p. p.seat.me.0 };
 
-    ghost invariant = { λ p. IsBareSeatOf N.table p.seat × IsPass p.seat.me.0 × (p.moment ≡ p.seat.me.0.moment) × (p.pins ≡ length p.seat.me.0.good) };
+    ghost invariant = { λ p. IsBareSeatOf N.table p.seat × IsPass p.seat.me.0 × (p.moment ≡ p.seat.me.0.moment)
+        × (p.pins ≡ length p.seat.me.0.good) };
 }
 
 impl<N: CellNaming> CellPass<N> {

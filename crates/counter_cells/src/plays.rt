@@ -67,7 +67,8 @@ impl Play<u8, CellView> for Looks {
     ghost use Rattle.counter_cells.specs.Views.{Capped, claim_on};
     ghost use Rattle.counter_cells.specs.Steps.{looked};
 
-    ghost then = { λ s v n w. (w.0 ≡ looked (count_cell s.word) n v.0) × (w.1 ≡ v.1) × Capped (claim_on (count_cell s.word) v.0.good) n v.0 };
+    ghost then = { λ s v n w. (w.0 ≡ looked (count_cell s.word) n v.0) × (w.1 ≡ v.1)
+        × Capped (claim_on (count_cell s.word) v.0.good) n v.0 };
 }
 
 /// Adds hits to a count under a pin.
@@ -79,7 +80,8 @@ impl Play<u8, CellView> for Charges {
     ghost use Rattle.counter_cells.specs.Views.{Capped, claim_on};
     ghost use Rattle.counter_cells.specs.Steps.{charged};
 
-    ghost then = { λ s v n w. (w.0 ≡ charged (count_cell s.word) n s.first v.0) × (w.1 ≡ v.1) × Capped (claim_on (count_cell s.word) v.0.good) n v.0 };
+    ghost then = { λ s v n w. (w.0 ≡ charged (count_cell s.word) n s.first v.0) × (w.1 ≡ v.1)
+        × Capped (claim_on (count_cell s.word) v.0.good) n v.0 };
 }
 
 /// The claimer reads a gate, which shows the claim and the open bit that it knows.

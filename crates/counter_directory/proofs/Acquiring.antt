@@ -62,17 +62,23 @@ ticks_more v w x moment now h own le e =
     last_push m [] y = refl
     last_push m (x ∷ xs) y = last_push x.moment xs y
 
-    same : record v { ticks = (v.ticks ++ h.added) ++ tick_of moment now w ∷ []; moment = moment } ≡ record v { ticks = v.ticks ++ (h.added ++ tick_of moment now w ∷ []); moment = last_moment v.moment (h.added ++ tick_of moment now w ∷ []) }
-    same = let a = append_assoc v.ticks h.added (tick_of moment now w ∷ []) in let l = last_push v.moment h.added (tick_of moment now w) in λ i. record v { ticks = a i; moment = sym l i }
+    same : record v { ticks = (v.ticks ++ h.added) ++ tick_of moment now w ∷ []; moment = moment } ≡ record v {
+      ticks = v.ticks ++ (h.added ++ tick_of moment now w ∷ []);
+      moment = last_moment v.moment (h.added ++ tick_of moment now w ∷ []);
+    }
+    same = let a = append_assoc v.ticks h.added (tick_of moment now w ∷ []) in let l = last_push v.moment h.added (tick_of moment now w) in
+        λ i. record v { ticks = a i; moment = sym l i }
 
 -- each counter of the call has a claim afterwards
-pub all_there : (b : Bounds) (m : ℕ) (keys : List CounterKey) (found left : ClaimTableView) → HasBound b m keys found left → (q : CounterKey) → 1 ≤ key_count q keys → 1 ≤ claims_of q left.claims
+pub all_there : (b : Bounds) (m : ℕ) (keys : List CounterKey) (found left : ClaimTableView) → HasBound b m keys found left → (q : CounterKey) → 1 ≤ key_count q keys
+    → 1 ≤ claims_of q left.claims
 all_there b m keys found left did q h =
     let is = did.are q in
     let adds = did.adds q in
     pick (claims_of q found.claims) refl is adds
   where
-    pick : (n : ℕ) → claims_of q found.claims ≡ n → key_count q did.missing ≡ one_if ((claims_of q found.claims == 0) && ltb 0 (key_count q keys)) → claims_of q left.claims ≡ claims_of q found.claims + key_count q did.missing → 1 ≤ claims_of q left.claims
+    pick : (n : ℕ) → claims_of q found.claims ≡ n → key_count q did.missing ≡ one_if ((claims_of q found.claims == 0) && ltb 0 (key_count q keys))
+        → claims_of q left.claims ≡ claims_of q found.claims + key_count q did.missing → 1 ≤ claims_of q left.claims
     pick zero e is adds =
         let a : (claims_of q found.claims == 0) ≡ true = eq-eqb (claims_of q found.claims) 0 e in
         let l : ltb 0 (key_count q keys) ≡ true = grind (arith, nat_tests) in
@@ -81,14 +87,18 @@ all_there b m keys found left did q h =
     pick (suc n) e is adds = omega arith
 
 -- a refusal before the pins is one of the whole call
-pub refuses : (b : Bounds) (m : ℕ) (names : List CounterName) (keys : List CounterKey) (cell_pass cell_pass' : CellView) (found left : ClaimTableView) (f : AcquireFault) → keys ≡ keys_at m names → m ≡ cell_pass'.moment → HasTicked cell_pass cell_pass' → Binds b m keys found (Err f) left → Acquires b names cell_pass found (Err f) cell_pass' left
+pub refuses : (b : Bounds) (m : ℕ) (names : List CounterName) (keys : List CounterKey) (cell_pass cell_pass' : CellView) (found left : ClaimTableView) (f : AcquireFault)
+    → keys ≡ keys_at m names → m ≡ cell_pass'.moment → HasTicked cell_pass cell_pass' → Binds b m keys found (Err f) left
+    → Acquires b names cell_pass found (Err f) cell_pass' left
 refuses b m names keys cell_pass cell_pass' found left OutOfMemory e at ticks did = (ticks, did)
 refuses b m names keys cell_pass cell_pass' found left (ClaimsSpent claims wanted) e at ticks did =
     (ticks, subst (λ (l : List CounterKey). AreSpent b l found left claims wanted) (e ∙ ap (λ t. keys_at t names) at) did)
 refuses b m names keys cell_pass cell_pass' found left (CountersFull moment live held wanted) e at ticks did =
     (ticks, did.0 ∙ at, subst (λ (l : List CounterKey). AreFull b l found left moment live held wanted) (e ∙ ap (λ t. keys_at t names) (sym did.0)) did.1)
 
-pub acquires : (b : Bounds) (m : ℕ) (names : List CounterName) (keys : List CounterKey) (cell_pass mid cell_pass' : CellView) (found left : ClaimTableView) (a : Acquired) → keys ≡ keys_at m names → a.moment ≡ m → m ≡ mid.moment → HasTicked cell_pass mid → PinsAfterMisses a.spots.items mid cell_pass' → Bound left.claims keys a.spots.items → length a.spots.items ≡ length keys → Agree a.spots.items → HasBound b m keys found left → Acquires b names cell_pass found (Ok a) cell_pass' left
+pub acquires : (b : Bounds) (m : ℕ) (names : List CounterName) (keys : List CounterKey) (cell_pass mid cell_pass' : CellView) (found left : ClaimTableView) (a : Acquired)
+    → keys ≡ keys_at m names → a.moment ≡ m → m ≡ mid.moment → HasTicked cell_pass mid → PinsAfterMisses a.spots.items mid cell_pass' → Bound left.claims keys a.spots.items
+    → length a.spots.items ≡ length keys → Agree a.spots.items → HasBound b m keys found left → Acquires b names cell_pass found (Ok a) cell_pass' left
 acquires b m names keys cell_pass mid cell_pass' found left a e same at ticks pins bound len agree did =
     let k : keys ≡ keys_at a.moment names = e ∙ ap (λ t. keys_at t names) (sym same) in (
       record {

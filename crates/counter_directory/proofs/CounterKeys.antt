@@ -43,8 +43,10 @@ same_number a b t = grind (arith, nat_tests)
 
 entry_is : (a b : Entry) → (same_entry a b ≡ true → a ≡ b) × (a ≡ b → same_entry a b ≡ true)
 entry_is a b = (
-  λ h. make ((bytes_decides a.key b.key).0 (left (same_text a.key b.key) (same_text a.value b.value) h)) ((bytes_decides a.value b.value).0 (right (same_text a.key b.key) (same_text a.value b.value) h)),
-  λ e. both (same_text a.key b.key) (same_text a.value b.value) ((bytes_decides a.key b.key).1 (ap (λ (x : Entry). x.key) e)) ((bytes_decides a.value b.value).1 (ap (λ (x : Entry). x.value) e)),
+  λ h. make ((bytes_decides a.key b.key).0 (left (same_text a.key b.key) (same_text a.value b.value) h))
+      ((bytes_decides a.value b.value).0 (right (same_text a.key b.key) (same_text a.value b.value) h)),
+  λ e. both (same_text a.key b.key) (same_text a.value b.value) ((bytes_decides a.key b.key).1 (ap (λ (x : Entry). x.key) e))
+      ((bytes_decides a.value b.value).1 (ap (λ (x : Entry). x.value) e)),
 )
   where
     make : a.key ≡ b.key → a.value ≡ b.value → a ≡ b
@@ -56,8 +58,10 @@ name_is a b = (
       make ((bytes_decides a.domain b.domain).0 (left (same_text a.domain b.domain) (same_entries a.entries b.entries && (unit_rank a.unit == unit_rank b.unit)) h))
       ((pointwise_decides entry_is a.entries b.entries).0 (left (same_entries a.entries b.entries) (unit_rank a.unit == unit_rank b.unit) r))
       (rank_is a.unit b.unit (same_number (unit_rank a.unit) (unit_rank b.unit) (right (same_entries a.entries b.entries) (unit_rank a.unit == unit_rank b.unit) r))),
-  λ e. both (same_text a.domain b.domain) (same_entries a.entries b.entries && (unit_rank a.unit == unit_rank b.unit)) ((bytes_decides a.domain b.domain).1 (ap (λ (x : CounterName). x.domain) e))
-      (both (same_entries a.entries b.entries) (unit_rank a.unit == unit_rank b.unit) ((pointwise_decides entry_is a.entries b.entries).1 (ap (λ (x : CounterName). x.entries) e)) (eq-eqb (unit_rank a.unit) (unit_rank b.unit) (ap (λ (x : CounterName). unit_rank x.unit) e))),
+  λ e. both (same_text a.domain b.domain) (same_entries a.entries b.entries && (unit_rank a.unit == unit_rank b.unit))
+      ((bytes_decides a.domain b.domain).1 (ap (λ (x : CounterName). x.domain) e))
+      (both (same_entries a.entries b.entries) (unit_rank a.unit == unit_rank b.unit) ((pointwise_decides entry_is a.entries b.entries).1 (ap (λ (x : CounterName). x.entries) e))
+      (eq-eqb (unit_rank a.unit) (unit_rank b.unit) (ap (λ (x : CounterName). unit_rank x.unit) e))),
 )
   where
     make : a.domain ≡ b.domain → a.entries ≡ b.entries → a.unit ≡ b.unit → a ≡ b
@@ -65,8 +69,10 @@ name_is a b = (
 
 key_is : (a b : CounterKey) → (same_counter a b ≡ true → a ≡ b) × (a ≡ b → same_counter a b ≡ true)
 key_is a b = (
-  λ h. make ((name_is a.name b.name).0 (left (same_name a.name b.name) (a.start == b.start) h)) (same_number a.start b.start (right (same_name a.name b.name) (a.start == b.start) h)),
-  λ e. both (same_name a.name b.name) (a.start == b.start) ((name_is a.name b.name).1 (ap (λ (x : CounterKey). x.name) e)) (eq-eqb a.start b.start (ap (λ (x : CounterKey). x.start) e)),
+  λ h. make ((name_is a.name b.name).0 (left (same_name a.name b.name) (a.start == b.start) h))
+      (same_number a.start b.start (right (same_name a.name b.name) (a.start == b.start) h)),
+  λ e. both (same_name a.name b.name) (a.start == b.start) ((name_is a.name b.name).1 (ap (λ (x : CounterKey). x.name) e))
+      (eq-eqb a.start b.start (ap (λ (x : CounterKey). x.start) e)),
 )
   where
     make : a.name ≡ b.name → a.start ≡ b.start → a ≡ b

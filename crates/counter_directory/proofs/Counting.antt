@@ -50,7 +50,8 @@ sum_one (suc n) x = let r = sum_one n x in pick r (ℕ_discrete x n)
     pick r (no ne) = let a : one_if (x == n) ≡ 0 = ap one_if (ne_eqb x n ne) in let b : one_if (ltb x n) ≡ one_if (ltb x (suc n)) = grind (arith, nat_tests) in omega arith
 
 -- a list has as many items as they stand in it, where all are below n
-pub sum_times : {A : Type 0} → (n : ℕ) (f : A → ℕ) (xs : List A) → ((k : ℕ) → n ≤ k → total (λ x. one_if (f x == k)) xs ≡ 0) → sum_below n (λ k. total (λ x. one_if (f x == k)) xs) ≡ length xs
+pub sum_times : {A : Type 0} → (n : ℕ) (f : A → ℕ) (xs : List A) → ((k : ℕ) → n ≤ k → total (λ x. one_if (f x == k)) xs ≡ 0)
+    → sum_below n (λ k. total (λ x. one_if (f x == k)) xs) ≡ length xs
 sum_times n f [] h = sum_none n
 sum_times n f (x ∷ xs) h =
     let r = sum_times n f xs (λ k l. let q = h k l in omega arith) in
@@ -61,7 +62,8 @@ sum_times n f (x ∷ xs) h =
   where
     pick : (b : Bool) → ltb (f x) n ≡ b → one_if b ≡ 1
     pick true is = refl
-    pick false is = let l : n ≤ f x = grind (arith, nat_tests) in let q = h (f x) l in let e : one_if (f x == f x) ≡ 1 = ap one_if (eq-eqb (f x) (f x) refl) in absurd (omega arith)
+    pick false is = let l : n ≤ f x = grind (arith, nat_tests) in let q = h (f x) l in let e : one_if (f x == f x) ≡ 1 = ap one_if (eq-eqb (f x) (f x) refl) in
+        absurd (omega arith)
 
 -- how many cells the rings hold
 abbrev pub ring_lens : List Ring → ℕ
@@ -84,14 +86,16 @@ module _ {A : Type 0} where
       pick zero is rest = let r = rest is in (suc r.0, r.1, r.2, r.3)
       pick (suc n) is rest = (zero, x, refl, omega arith)
 
-module _ (cells last fresh next_claim : ℕ) (claims : List Claim) (rings : List Ring) (expired held : List ℕ) (reserved : List Spot) (f : IsLawfulPool cells last fresh next_claim claims rings expired held reserved) where
+module _ (cells last fresh next_claim : ℕ) (claims : List Claim) (rings : List Ring) (expired held : List ℕ) (reserved : List Spot)
+    (f : IsLawfulPool cells last fresh next_claim claims rings expired held reserved) where
   outside : (k : ℕ) → fresh ≤ k → one_if (ltb k fresh) ≡ 0
   outside k h = ap one_if (le-ltb k fresh h)
 
   -- the cells that were ever taken are those in the lists
   pub counted : ring_lens rings + length expired + length held + length reserved ≡ fresh
   counted =
-      let none = λ (k : ℕ) (l : fresh ≤ k). let o = f.once k in let z = outside k l in let q : ring_times k rings + times k expired + times k held + reserved_on k reserved ≡ 0 = omega arith in q in
+      let none = λ (k : ℕ) (l : fresh ≤ k). let o = f.once k in let z = outside k l in
+      let q : ring_times k rings + times k expired + times k held + reserved_on k reserved ≡ 0 = omega arith in q in
       let a = sum_rings fresh rings (λ k l. let q = none k l in omega arith) in
       let b = sum_times fresh (λ x. x) expired (λ k l. let q = none k l in omega arith) in
       let d = sum_times fresh (λ x. x) held (λ k l. let q = none k l in omega arith) in
@@ -125,7 +129,8 @@ module _ (cells last fresh next_claim : ℕ) (claims : List Claim) (rings : List
           omega arith
         where
           later_end : (u : ℕ) (r : Ring) → get_elem? rings u ≡ some r → 1 ≤ times k r.cells.items → Dec (r.end ≤ last) → last < r.end
-          later_end u r at h (yes le) = let w = at_within rings u r at in let z : times k r.cells.items ≡ 0 = ap (times k) (emptied u (omega arith) r at le) in absurd (omega arith)
+          later_end u r at h (yes le) =
+              let w = at_within rings u r at in let z : times k r.cells.items ≡ 0 = ap (times k) (emptied u (omega arith) r at le) in absurd (omega arith)
           later_end u r at h (no n) = omega arith
 
   live_sum : length rings ≤ 4 → ExpiredBelow 4 last rings → (n : ℕ) → live_below n last claims ≡ sum_below n (λ k. ring_times k rings)

@@ -27,7 +27,8 @@ good_pinned k (s ∷ ss) v = let r = good_pinned k ss (good_pin s.cell s.claim v
 bare_ticked : (v w : CellView) → HasTicked v w → v.good ≡ [] → w.good ≡ []
 bare_ticked v w h bare = ap (λ (u : CellView). u.good) h.view ∙ bare
 
-pub pins_held : (b : Bounds) (names : List CounterName) (cell_pass cell_pass1 cell_pass' : CellView) (found left : ClaimTableView) (r : Result Acquired AcquireFault) → Acquires b names cell_pass found r cell_pass1 left → cell_pass' ≡ cell_pass1 → cell_pass.good ≡ [] → IfOk r (λ a. (k : ℕ) → good_on k cell_pass' ≡ spots_on k a.spots.items)
+pub pins_held : (b : Bounds) (names : List CounterName) (cell_pass cell_pass1 cell_pass' : CellView) (found left : ClaimTableView) (r : Result Acquired AcquireFault)
+    → Acquires b names cell_pass found r cell_pass1 left → cell_pass' ≡ cell_pass1 → cell_pass.good ≡ [] → IfOk r (λ a. (k : ℕ) → good_on k cell_pass' ≡ spots_on k a.spots.items)
 pins_held b names cell_pass cell_pass1 cell_pass' found left (Ok a) did at bare = λ k.
     let h = did.0 in
     let ticked = h.ticked in
@@ -37,18 +38,22 @@ pins_held b names cell_pass cell_pass1 cell_pass' found left (Ok a) did at bare 
     omega arith
 pins_held b names cell_pass cell_pass1 cell_pass' found left (Err f) did at bare = tt
 
-pub none_held : (b : Bounds) (names : List CounterName) (cell_pass cell_pass1 cell_pass' : CellView) (found left : ClaimTableView) (r : Result Acquired AcquireFault) → Acquires b names cell_pass found r cell_pass1 left → cell_pass' ≡ cell_pass1 → cell_pass.good ≡ [] → OnErr r (cell_pass'.good ≡ [])
+pub none_held : (b : Bounds) (names : List CounterName) (cell_pass cell_pass1 cell_pass' : CellView) (found left : ClaimTableView) (r : Result Acquired AcquireFault)
+    → Acquires b names cell_pass found r cell_pass1 left → cell_pass' ≡ cell_pass1 → cell_pass.good ≡ [] → OnErr r (cell_pass'.good ≡ [])
 none_held b names cell_pass cell_pass1 cell_pass' found left (Ok a) did at bare = tt
 none_held b names cell_pass cell_pass1 cell_pass' found left (Err OutOfMemory) did at bare = ap (λ (u : CellView). u.good) at ∙ bare_ticked cell_pass cell_pass1 did.0 bare
-none_held b names cell_pass cell_pass1 cell_pass' found left (Err (ClaimsSpent claims wanted)) did at bare = ap (λ (u : CellView). u.good) at ∙ bare_ticked cell_pass cell_pass1 did.0 bare
-none_held b names cell_pass cell_pass1 cell_pass' found left (Err (CountersFull moment live held wanted)) did at bare = ap (λ (u : CellView). u.good) at ∙ bare_ticked cell_pass cell_pass1 did.0 bare
+none_held b names cell_pass cell_pass1 cell_pass' found left (Err (ClaimsSpent claims wanted)) did at bare =
+    ap (λ (u : CellView). u.good) at ∙ bare_ticked cell_pass cell_pass1 did.0 bare
+none_held b names cell_pass cell_pass1 cell_pass' found left (Err (CountersFull moment live held wanted)) did at bare =
+    ap (λ (u : CellView). u.good) at ∙ bare_ticked cell_pass cell_pass1 did.0 bare
 
 some_at : (l : List CounterKey) (i : ℕ) → i < length l → (k : CounterKey) × (get_elem? l i ≡ some k)
 some_at [] i h = absurd (omega arith)
 some_at (x ∷ xs) zero h = (x, refl)
 some_at (x ∷ xs) (suc i) h = some_at xs i (omega arith)
 
-pub cells_held : (b : Bounds) (most : ℕ) (names : List CounterName) (cell_pass cell_pass' : CellView) (found left : ClaimTableView) (r : Result Acquired AcquireFault) → Acquires b names cell_pass found r cell_pass' left → IsLawfulClaims b.cells most left.claims → IfOk r (λ a. All (λ s. s.cell < b.cells) a.spots.items)
+pub cells_held : (b : Bounds) (most : ℕ) (names : List CounterName) (cell_pass cell_pass' : CellView) (found left : ClaimTableView) (r : Result Acquired AcquireFault)
+    → Acquires b names cell_pass found r cell_pass' left → IsLawfulClaims b.cells most left.claims → IfOk r (λ a. All (λ s. s.cell < b.cells) a.spots.items)
 cells_held b most names cell_pass cell_pass' found left (Ok a) did law = λ i d lt.
     let h = did.0 in
     let keys = keys_at a.moment names in

@@ -14,7 +14,8 @@ use Rattle.counter_directory.proofs.CounterKeys.{same_yes, same_no, key_discrete
 use Rattle.counter_directory.proofs.Lists.{last_expired}
 use Rattle.counter_directory.proofs.Sums.{total_push}
 
-pub indexed_more : (look look' : CounterKey → Option Spot) (x : Claim) (s : Spot) (claims : List Claim) → claims_of x.key claims ≡ 0 → s.cell ≡ x.cell → s.claim ≡ x.claim → ((q : CounterKey) → look' q ≡ cond (same_counter x.key q) (Some s) (look q)) → Indexed look claims → Indexed look' (claims ++ x ∷ [])
+pub indexed_more : (look look' : CounterKey → Option Spot) (x : Claim) (s : Spot) (claims : List Claim) → claims_of x.key claims ≡ 0 → s.cell ≡ x.cell → s.claim ≡ x.claim
+    → ((q : CounterKey) → look' q ≡ cond (same_counter x.key q) (Some s) (look q)) → Indexed look claims → Indexed look' (claims ++ x ∷ [])
 indexed_more look look' x s claims none sc sn put f = record {
   there = λ q t e. there q t e (key_discrete x.key q);
   none = λ q e. gone q e (key_discrete x.key q);
@@ -30,7 +31,8 @@ indexed_more look look' x s claims none sc sn put f = record {
         let c : x.cell ≡ t.cell = sym sc ∙ ap (λ (z : Spot). z.cell) same in
         let n : x.claim ≡ t.claim = sym sn ∙ ap (λ (z : Spot). z.claim) same in
         let p = total_push (λ (y : Claim). one_if ((same_counter y.key q) && ((y.cell == t.cell) && (y.claim == t.claim)))) claims x in
-        let one : one_if ((same_counter x.key q) && ((x.cell == t.cell) && (x.claim == t.claim))) ≡ 1 = rw (same_yes x.key q k, eq-eqb x.cell t.cell c, eq-eqb x.claim t.claim n) refl in
+        let one : one_if ((same_counter x.key q) && ((x.cell == t.cell) && (x.claim == t.claim))) ≡ 1 =
+        rw (same_yes x.key q k, eq-eqb x.cell t.cell c, eq-eqb x.claim t.claim n) refl in
         omega arith
     there q t e (no n) =
         let a : look q ≡ Some t = sym (put q ∙ ap (λ b. cond b (Some s) (look q)) (same_no x.key q n)) ∙ e in
@@ -50,7 +52,9 @@ indexed_more look look' x s claims none sc sn put f = record {
 pub indexed_to : (look : CounterKey → Option Spot) (claims claims' : List Claim) → claims' ≡ claims → Indexed look claims → Indexed look claims'
 indexed_to look claims claims' e f = subst (λ l. Indexed look l) (sym e) f
 
-pub finds : (look look' : CounterKey → Option Spot) (n : ℕ) (x : Claim) (p d : Spot) (claims claims' : List Claim) (waiting waiting' : List Spot) → n ≡ length waiting → p ≡ get_or waiting (n - 1) d → waiting ≡ waiting' ++ (spot x.cell x.claim) ∷ [] → claims' ≡ claims ++ x ∷ [] → claims_of x.key claims ≡ 0 → ((q : CounterKey) → look' q ≡ cond (same_counter x.key q) (Some p) (look q)) → Indexed look claims → Indexed look' claims'
+pub finds : (look look' : CounterKey → Option Spot) (n : ℕ) (x : Claim) (p d : Spot) (claims claims' : List Claim) (waiting waiting' : List Spot) → n ≡ length waiting
+    → p ≡ get_or waiting (n - 1) d → waiting ≡ waiting' ++ (spot x.cell x.claim) ∷ [] → claims' ≡ claims ++ x ∷ [] → claims_of x.key claims ≡ 0
+    → ((q : CounterKey) → look' q ≡ cond (same_counter x.key q) (Some p) (look q)) → Indexed look claims → Indexed look' claims'
 finds look look' n x p d claims claims' waiting waiting' len is cut more none put f =
     let same : p ≡ (spot x.cell x.claim) = last_expired waiting waiting' (spot x.cell x.claim) d p n cut len is in
     subst (λ l. Indexed look' l) (sym more) (indexed_more look look' x p claims none (ap (λ (q : Spot). q.cell) same) (ap (λ (q : Spot). q.claim) same) put f)

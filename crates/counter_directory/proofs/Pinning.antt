@@ -1,5 +1,6 @@
 -- Pins on the cells of counters.
-use Rattle.std.proofs.Common.{◌≡◌, ◌⊎◌, ℕ, zero, suc, ◌+◌, ◌≤◌, ◌<◌, ◌==◌, ◌&&◌, List, [], ◌∷◌, ◌++◌, length, take, get_or, Bool, true, false, refl, sym, ap, ◌∙◌, subst, arith, inl, inr, append_assoc}
+use Rattle.std.proofs.Common.{◌≡◌, ◌⊎◌, ℕ, zero, suc, ◌+◌, ◌≤◌, ◌<◌, ◌==◌, ◌&&◌, List, [], ◌∷◌, ◌++◌, length, take, get_or, Bool, true, false, refl, sym, ap, ◌∙◌, subst, arith}
+use Rattle.std.proofs.Common.{inl, inr, append_assoc}
 use Rattle.std.proofs.lemmas.Bool.Decides.{nat_tests}
 use Rattle.std.proofs.lemmas.Grind.{common_steps}
 use Rattle.std.proofs.lemmas.List.{take_more, append-nil}
@@ -34,7 +35,8 @@ same_number : (a b : ℕ) → (a == b) ≡ true → a ≡ b
 same_number a b t = grind (arith, nat_tests)
 
 -- the claim that binds a counter
-found : (q : CounterKey) (k c : ℕ) (claims : List Claim) → 1 ≤ bindings_of q k c claims → (i : ℕ) × (x : Claim) × (get_elem? claims i ≡ some x) × (x.key ≡ q) × (x.cell ≡ k) × (x.claim ≡ c)
+found : (q : CounterKey) (k c : ℕ) (claims : List Claim) → 1 ≤ bindings_of q k c claims → (i : ℕ) × (x : Claim) × (get_elem? claims i ≡ some x) × (x.key ≡ q) × (x.cell ≡ k)
+    × (x.claim ≡ c)
 found q k c claims some_one =
     let s = total_some (λ (x : Claim). one_if (same_counter x.key q && ((x.cell == k) && (x.claim == c)))) claims some_one in
     let e = parts (same_counter s.1.key q) (s.1.cell == k) (s.1.claim == c) s.3 in
@@ -49,7 +51,8 @@ cell_bound cells most q k c claims law some_one =
     omega arith
 
 -- the claimer's view shows the number of a counter whose window hasn't ended
-pub shown_by : (v : CellView) (cells last next_claim : ℕ) (q : CounterKey) (k c : ℕ) (claims : List Claim) (waiting : List Spot) → GatesFit v cells last next_claim claims waiting → 1 ≤ bindings_of q k c claims → last < window_end_of q → (cell_or v.cells k).claim ≡ c
+pub shown_by : (v : CellView) (cells last next_claim : ℕ) (q : CounterKey) (k c : ℕ) (claims : List Claim) (waiting : List Spot) → GatesFit v cells last next_claim claims waiting
+    → 1 ≤ bindings_of q k c claims → last < window_end_of q → (cell_or v.cells k).claim ≡ c
 shown_by v cells last next_claim q k c claims waiting g some_one lt =
     let s = found q k c claims some_one in
     let o = g.opened s.0 s.1 s.2 (subst (λ (z : CounterKey). last < window_end_of z) (sym s.3) lt) in
@@ -60,7 +63,8 @@ pinned_more [] s v = refl
 pinned_more (x ∷ xs) s v = pinned_more xs s (good_pin x.cell x.claim v)
 
 -- misses beside pins
-missed_through : (ss : List Spot) (more : List OtherGate) (v : CellView) → record (pinned_on ss v) { others = (pinned_on ss v).others ++ more } ≡ pinned_on ss (record v { others = v.others ++ more })
+missed_through : (ss : List Spot) (more : List OtherGate) (v : CellView)
+    → record (pinned_on ss v) { others = (pinned_on ss v).others ++ more } ≡ pinned_on ss (record v { others = v.others ++ more })
 missed_through [] more v = refl
 missed_through (s ∷ ss) more v = missed_through ss more (good_pin s.cell s.claim v)
 
@@ -81,8 +85,12 @@ pin_after v w x s p e = (p.0, e ∙ ap (good_pin s.cell s.claim) p.1)
 pub pins_more : (ss new : List Spot) (s : Spot) (v w x : CellView) → new ≡ ss ++ s ∷ [] → PinsAfterMisses ss v w → PinsAfterMisses (s ∷ []) w x → PinsAfterMisses new v x
 pins_more ss new s v w x e p q =
     let a : record w { others = w.others ++ q.0 } ≡ pinned_on ss (record v { others = v.others ++ (p.0 ++ q.0) })
-    = ap (λ (u : CellView). record u { others = u.others ++ q.0 }) p.1 ∙ missed_through ss q.0 (record v { others = v.others ++ p.0 }) ∙ ap (λ (o : List OtherGate). pinned_on ss (record v { others = o })) (append_assoc v.others p.0 q.0) in
-    (p.0 ++ q.0, q.1 ∙ ap (good_pin s.cell s.claim) a ∙ sym (pinned_more ss s (record v { others = v.others ++ (p.0 ++ q.0) })) ∙ ap (λ (l : List Spot). pinned_on l (record v { others = v.others ++ (p.0 ++ q.0) })) (sym e))
+    = ap (λ (u : CellView). record u { others = u.others ++ q.0 }) p.1 ∙ missed_through ss q.0 (record v { others = v.others ++ p.0 })
+    ∙ ap (λ (o : List OtherGate). pinned_on ss (record v { others = o })) (append_assoc v.others p.0 q.0) in (
+      p.0 ++ q.0,
+      q.1 ∙ ap (good_pin s.cell s.claim) a ∙ sym (pinned_more ss s (record v { others = v.others ++ (p.0 ++ q.0) }))
+          ∙ ap (λ (l : List Spot). pinned_on l (record v { others = v.others ++ (p.0 ++ q.0) })) (sym e),
+    )
 
 -- how many pins there are then
 good_count : (ss : List Spot) (v : CellView) → length (pinned_on ss v).good ≡ length ss + length v.good
@@ -100,7 +108,8 @@ pins_moment ss v w p = ap (λ (u : CellView). u.moment) p.1 ∙ same ss (record 
     same (s ∷ ss) v = same ss (good_pin s.cell s.claim v)
 
 -- what holds of each counter with its spot, held of one more pair
-each_more : (P : CounterKey → Spot → Type 0) (keys : List CounterKey) (spots new : List Spot) (i : ℕ) (d : CounterKey) (s : Spot) → i < length keys → length spots ≡ i → new ≡ spots ++ s ∷ [] → P (get_or keys i d) s
+each_more : (P : CounterKey → Spot → Type 0) (keys : List CounterKey) (spots new : List Spot) (i : ℕ) (d : CounterKey) (s : Spot) → i < length keys → length spots ≡ i
+    → new ≡ spots ++ s ∷ [] → P (get_or keys i d) s
     → ((j : ℕ) (k : CounterKey) (t : Spot) → get_elem? (take i keys) j ≡ some k → get_elem? spots j ≡ some t → P k t)
     → (j : ℕ) (k : CounterKey) (t : Spot) → get_elem? (take (i + 1) keys) j ≡ some k → get_elem? new j ≡ some t → P k t
 each_more P keys spots new i d s lt len e here all j k t at there =
@@ -109,16 +118,20 @@ each_more P keys spots new i d s lt len e here all j k t at there =
     let n : length (take i keys) ≡ i = grind (arith, common_steps) in
     pick n (at_cut (take i keys) (get_or keys i d) k j a) (at_cut spots s t j b)
   where
-    pick : length (take i keys) ≡ i → ((j < length (take i keys)) × (get_elem? (take i keys) j ≡ some k)) ⊎ ((j ≡ length (take i keys)) × (get_or keys i d ≡ k)) → ((j < length spots) × (get_elem? spots j ≡ some t)) ⊎ ((j ≡ length spots) × (s ≡ t)) → P k t
+    pick : length (take i keys) ≡ i → ((j < length (take i keys)) × (get_elem? (take i keys) j ≡ some k)) ⊎ ((j ≡ length (take i keys)) × (get_or keys i d ≡ k))
+        → ((j < length spots) × (get_elem? spots j ≡ some t)) ⊎ ((j ≡ length spots) × (s ≡ t)) → P k t
     pick n (inl x) (inl y) = all j k t x.1 y.1
     pick n (inl x) (inr y) = let a = x.0 in let b = y.0 in absurd (omega arith)
     pick n (inr x) (inl y) = let a = x.0 in let b = y.0 in absurd (omega arith)
     pick n (inr x) (inr y) = subst (λ (u : CounterKey). P u t) x.1 (subst (λ (r : Spot). P (get_or keys i d) r) y.1 here)
 
-pub bound_more : (claims : List Claim) (keys : List CounterKey) (spots new : List Spot) (i : ℕ) (d : CounterKey) (s : Spot) → i < length keys → length spots ≡ i → new ≡ spots ++ s ∷ [] → 1 ≤ bindings_of (get_or keys i d) s.cell s.claim claims → Bound claims (take i keys) spots → Bound claims (take (i + 1) keys) new
+pub bound_more : (claims : List Claim) (keys : List CounterKey) (spots new : List Spot) (i : ℕ) (d : CounterKey) (s : Spot) → i < length keys → length spots ≡ i
+    → new ≡ spots ++ s ∷ [] → 1 ≤ bindings_of (get_or keys i d) s.cell s.claim claims → Bound claims (take i keys) spots → Bound claims (take (i + 1) keys) new
 bound_more claims keys spots new i d s = each_more (λ k t. 1 ≤ bindings_of k t.cell t.claim claims) keys spots new i d s
 
-pub shown_more : (v : CellView) (last : ℕ) (keys : List CounterKey) (spots new : List Spot) (i : ℕ) (d : CounterKey) (s : Spot) → i < length keys → length spots ≡ i → new ≡ spots ++ s ∷ [] → (last < window_end_of (get_or keys i d) → (cell_or v.cells s.cell).claim ≡ s.claim) → AreShown v last (take i keys) spots → AreShown v last (take (i + 1) keys) new
+pub shown_more : (v : CellView) (last : ℕ) (keys : List CounterKey) (spots new : List Spot) (i : ℕ) (d : CounterKey) (s : Spot) → i < length keys → length spots ≡ i
+    → new ≡ spots ++ s ∷ [] → (last < window_end_of (get_or keys i d) → (cell_or v.cells s.cell).claim ≡ s.claim) → AreShown v last (take i keys) spots
+    → AreShown v last (take (i + 1) keys) new
 shown_more v last keys spots new i d s = each_more (λ k t. last < window_end_of k → (cell_or v.cells t.cell).claim ≡ t.claim) keys spots new i d s
 
 -- spots of one cell have one number

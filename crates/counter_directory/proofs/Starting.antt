@@ -20,7 +20,8 @@ none_in : (k : ℕ) (rings : List Ring) → AreEmpty rings → ring_times k ring
 none_in k [] e = refl
 none_in k (r ∷ rs) e = let a : times k r.cells.items ≡ 0 = ap (times k) (e 0 r refl).0 in let b = none_in k rs (λ u s at. e (suc u) s at) in omega arith
 
-pub pool_start : (cells last : ℕ) (claims : List Claim) (rings : List Ring) (expired held : List ℕ) (reserved : List Spot) → claims ≡ [] → expired ≡ [] → held ≡ [] → reserved ≡ [] → AreEmpty rings → IsLawfulPool cells last 0 0 claims rings expired held reserved
+pub pool_start : (cells last : ℕ) (claims : List Claim) (rings : List Ring) (expired held : List ℕ) (reserved : List Spot) → claims ≡ [] → expired ≡ [] → held ≡ []
+    → reserved ≡ [] → AreEmpty rings → IsLawfulPool cells last 0 0 claims rings expired held reserved
 pool_start cells last claims rings expired held reserved c o h t e =
     subst (λ l. IsLawfulPool cells last 0 0 l rings expired held reserved) (sym c) (subst (λ l. IsLawfulPool cells last 0 0 [] rings l held reserved) (sym o)
     (subst (λ l. IsLawfulPool cells last 0 0 [] rings [] l reserved) (sym h) (subst (λ l. IsLawfulPool cells last 0 0 [] rings [] [] l) (sym t) (record {
@@ -46,9 +47,12 @@ pub windows_start : (last : ℕ) (rings : List Ring) → AreEmpty rings → Ring
 windows_start last rings e u r at = let z = (e u r at).1 in (ap (λ n. n % len_of u) z ∙ zero_mod u, omega arith)
 
 pub empty_more : (rings new : List Ring) (r : Ring) → new ≡ rings ++ r ∷ [] → r.cells.items ≡ [] → r.end ≡ 0 → AreEmpty rings → AreEmpty new
-empty_more rings new r e none end all u s at = ⊎_elim (λ h. all u s h) (λ h. (ap (λ (q : Ring). q.cells.items) (sym h) ∙ none, ap (λ (q : Ring). q.end) (sym h) ∙ end)) (at_snoc rings r s u (subst (λ l. get_elem? l u ≡ some s) e at))
+empty_more rings new r e none end all u s at =
+    ⊎_elim (λ h. all u s h) (λ h. (ap (λ (q : Ring). q.cells.items) (sym h) ∙ none, ap (λ (q : Ring). q.end) (sym h) ∙ end))
+    (at_snoc rings r s u (subst (λ l. get_elem? l u ≡ some s) e at))
 
-pub gates_start : (v : CellView) (cells n last next_claim : ℕ) (claims : List Claim) (waiting : List Spot) → length v.cells ≡ n → cells ≡ n → v.used_claims ≡ [] → next_claim ≡ 0 → claims ≡ [] → waiting ≡ [] → GatesFit v cells last next_claim claims waiting
+pub gates_start : (v : CellView) (cells n last next_claim : ℕ) (claims : List Claim) (waiting : List Spot) → length v.cells ≡ n → cells ≡ n → v.used_claims ≡ [] → next_claim ≡ 0
+    → claims ≡ [] → waiting ≡ [] → GatesFit v cells last next_claim claims waiting
 gates_start v cells n last next_claim claims waiting long size none none_used c w = record {
   long = long ∙ sym size;
   count = ap (λ (l : List ℕ). length l) none ∙ sym none_used;
@@ -64,4 +68,5 @@ indexed_start look claims none c = subst (λ (l : List Claim). Indexed look l) (
     clash q s a b = cc
 
 pub roomy_more : (n : ℕ) (rings new : List Ring) (r : Ring) → new ≡ rings ++ r ∷ [] → n ≤ vec_capacity r.cells → AreRoomy n rings → AreRoomy n new
-roomy_more n rings new r e room all u s at = ⊎_elim (λ h. all u s h) (λ h. subst (λ (q : Ring). n ≤ vec_capacity q.cells) h room) (at_snoc rings r s u (subst (λ l. get_elem? l u ≡ some s) e at))
+roomy_more n rings new r e room all u s at =
+    ⊎_elim (λ h. all u s h) (λ h. subst (λ (q : Ring). n ≤ vec_capacity q.cells) h room) (at_snoc rings r s u (subst (λ l. get_elem? l u ≡ some s) e at))

@@ -107,9 +107,12 @@ pub record HasPinned (names : List CounterName) (cell_pass cell_pass' : CellView
   pub agree : Agree a.spots.items
 
 -- of the bounds, the names, the cell pass and the table found: what a call left
-abbrev pub Acquires : Bounds → List CounterName → CellView → ClaimTableView → Result Acquired AcquireFault → CellView → ClaimTableView → Type 0
-Acquires b names cell_pass found (Ok a) cell_pass' left = HasPinned names cell_pass cell_pass' a left × HasBound b a.moment (keys_at a.moment names) found left
+abbrev pub Acquires : Bounds → List CounterName → CellView → ClaimTableView → Result Acquired AcquireFault → CellView → ClaimTableView
+    → Type 0
+Acquires b names cell_pass found (Ok a) cell_pass' left =
+    HasPinned names cell_pass cell_pass' a left × HasBound b a.moment (keys_at a.moment names) found left
 Acquires b names cell_pass found (Err OutOfMemory) cell_pass' left = HasTicked cell_pass cell_pass' × (left ≡ found)
-Acquires b names cell_pass found (Err (ClaimsSpent claims wanted)) cell_pass' left = HasTicked cell_pass cell_pass' × AreSpent b (keys_at cell_pass'.moment names) found left claims wanted
+Acquires b names cell_pass found (Err (ClaimsSpent claims wanted)) cell_pass' left =
+    HasTicked cell_pass cell_pass' × AreSpent b (keys_at cell_pass'.moment names) found left claims wanted
 Acquires b names cell_pass found (Err (CountersFull moment live held wanted)) cell_pass' left =
     HasTicked cell_pass cell_pass' × (moment ≡ cell_pass'.moment) × AreFull b (keys_at moment names) found left moment live held wanted

@@ -41,7 +41,8 @@ AddsEach before new after = (q : CounterKey) → claims_of q after ≡ claims_of
 
 -- each counter has a spot to which a claim binds it
 abbrev pub Bound : List Claim → List CounterKey → List Spot → Type 0
-Bound claims keys spots = (i : ℕ) (k : CounterKey) (s : Spot) → get_elem? keys i ≡ some k → get_elem? spots i ≡ some s → 1 ≤ bindings_of k s.cell s.claim claims
+Bound claims keys spots =
+    (i : ℕ) (k : CounterKey) (s : Spot) → get_elem? keys i ≡ some k → get_elem? spots i ≡ some s → 1 ≤ bindings_of k s.cell s.claim claims
 
 -- how many of the spots are on the cell
 abbrev pub spots_on : ℕ → List Spot → ℕ
@@ -54,11 +55,15 @@ pinned_on (s ∷ ss) v = pinned_on ss (good_pin s.cell s.claim v)
 
 -- the counter came to the list where it has no claim and wasn't there
 abbrev pub AddsMissing : List Claim → CounterKey → List CounterKey → List CounterKey → Type 0
-AddsMissing claims k missing new = (q : CounterKey) → key_count q new ≡ key_count q missing + (if same_counter k q then one_if ((claims_of q claims == 0) && (key_count q missing == 0)) else 0)
+AddsMissing claims k missing new =
+    (q : CounterKey) → key_count q new ≡ key_count q missing +
+    (if same_counter k q then one_if ((claims_of q claims == 0) && (key_count q missing == 0)) else 0)
 
 -- the claimer's view shows each spot's number on its cell, where the counter's window hasn't ended
 abbrev pub AreShown : CellView → ℕ → List CounterKey → List Spot → Type 0
-AreShown v last keys spots = (i : ℕ) (k : CounterKey) (s : Spot) → get_elem? keys i ≡ some k → get_elem? spots i ≡ some s → last < window_end_of k → (cell_or v.cells s.cell).claim ≡ s.claim
+AreShown v last keys spots =
+    (i : ℕ) (k : CounterKey) (s : Spot) → get_elem? keys i ≡ some k → get_elem? spots i ≡ some s → last < window_end_of k
+    → (cell_or v.cells s.cell).claim ≡ s.claim
 
 -- spots of one cell have one number
 abbrev pub Agree : List Spot → Type 0

@@ -26,7 +26,8 @@ reserved_as number reserved = total (λ (p : Spot). one_if (p.claim == number)) 
 
 -- Each cell below `fresh` stands in one list, once. The last window of a cell in a ring ends with the ring's, and that of
 -- any other cell has ended. Of the numbers below `next_claim` each is claimed or reserved at most once
-pub record IsLawfulPool (cells last fresh next_claim : ℕ) (claims : List Claim) (rings : List Ring) (expired held : List ℕ) (reserved : List Spot) : Type 0 where
+pub record IsLawfulPool (cells last fresh next_claim : ℕ) (claims : List Claim) (rings : List Ring) (expired held : List ℕ)
+    (reserved : List Spot) : Type 0 where
   pub once : (k : ℕ) → ring_times k rings + times k expired + times k held + reserved_on k reserved ≡ one_if (nat_lt k fresh)
   pub most : fresh ≤ cells
   pub never : (k : ℕ) → fresh ≤ k → last_end 0 k claims ≡ 0

@@ -19,7 +19,8 @@ pub record DirectoryView : Type 0 where
 
 -- One turn at the lock. The pass then knows the list that the turn left, of which it had known a prefix. That list is
 -- lawful, and the moment of the cell pass is no earlier than that of the last claim found
-pub record Turned (b : Bounds) (names : List CounterName) (cell_pass : cell_view.CellView) (result : Result Acquired AcquireFault) (cell_pass' : cell_view.CellView) (pass pass' : told_view.TokenView Claim) : Type 0 where
+pub record Turned (b : Bounds) (names : List CounterName) (cell_pass : cell_view.CellView) (result : Result Acquired AcquireFault)
+    (cell_pass' : cell_view.CellView) (pass pass' : told_view.TokenView Claim) : Type 0 where
   pub found : ClaimTableView
   pub left : ClaimTableView
   pub did : Acquires b names cell_pass found result cell_pass' left

@@ -44,7 +44,8 @@ pub(crate) struct CellPool {
     pub ghost four: { vec_len rings ≡ 4 },
     pub ghost next_claim_is: { next_claim ≡ vec_len claims + vec_len reserved },
     pub ghost few: { next_claim ≤ most },
-    pub ghost room: { (cells ≤ vec_capacity expired) × (cells ≤ vec_capacity held) × (MOST_PINS ≤ vec_capacity reserved) × AreRoomy cells rings.items },
+    pub ghost room: { (cells ≤ vec_capacity expired) × (cells ≤ vec_capacity held) × (MOST_PINS ≤ vec_capacity reserved)
+        × AreRoomy cells rings.items },
     pub ghost windows: { RingWindows last rings.items },
     pub ghost sizes: { (cells ≤ MOST_CELLS) × (most ≤ MOST_CLAIM_NUMBERS) },
 }
@@ -55,7 +56,8 @@ impl CellPool {
     /// No claim, and no cell taken.
     pub fn make(alloc: Global, cells: u32, most: u64) -> Result<CellPool, OutOfMemory>
         requires { (cells ≤ MOST_CELLS) × (most ≤ MOST_CLAIM_NUMBERS) }
-        ensures { IfOk result (λ s. (s.cells ≡ cells) × (s.most ≡ most) × (s.next_claim ≡ 0) × (s.claims.items ≡ []) × (s.reserved.items ≡ [])) }
+        ensures { IfOk result (λ s. (s.cells ≡ cells) × (s.most ≡ most) × (s.next_claim ≡ 0) × (s.claims.items ≡ [])
+            × (s.reserved.items ≡ [])) }
     {
         let rings = rings(alloc, cells)?;
         let expired = Vec::with_capacity(alloc, cells as usize)?;
@@ -82,9 +84,11 @@ impl CellPool {
         requires next_claim { self.old.next_claim < self.old.most }
         ensures keeps { KeepsClaims self.old self.new }
         ensures same { (self.new.held ≡ self.old.held) × (self.new.fresh ≡ self.old.fresh) }
-        ensures reserved { (k : ℕ) × (self.old.expired.items ≡ self.new.expired.items ++ k ∷ []) × (self.new.reserved.items ≡ self.old.reserved.items ++ spot k self.old.next_claim ∷ []) }
+        ensures reserved { (k : ℕ) × (self.old.expired.items ≡ self.new.expired.items ++ k ∷ [])
+            × (self.new.reserved.items ≡ self.old.reserved.items ++ spot k self.old.next_claim ∷ []) }
         ensures next_claim { self.new.next_claim ≡ self.old.next_claim + 1 }
-        ensures lens { (vec_len self.new.reserved ≡ vec_len self.old.reserved + 1) × (vec_len self.new.expired + 1 ≡ vec_len self.old.expired) }
+        ensures lens { (vec_len self.new.reserved ≡ vec_len self.old.reserved + 1)
+            × (vec_len self.new.expired + 1 ≡ vec_len self.old.expired) }
     {
         if let Some(cell) = self.expired.pop() {
             self.reserved.push_reserved(Spot {
@@ -101,7 +105,8 @@ impl CellPool {
         ensures keeps { KeepsClaims self.old self.new }
         ensures numbers { KeepsNumbers self.old self.new }
         ensures same { self.new.reserved ≡ self.old.reserved }
-        ensures held { (k : ℕ) × (self.old.expired.items ≡ self.new.expired.items ++ k ∷ []) × (self.new.held.items ≡ self.old.held.items ++ k ∷ []) }
+        ensures held { (k : ℕ) × (self.old.expired.items ≡ self.new.expired.items ++ k ∷ [])
+            × (self.new.held.items ≡ self.old.held.items ++ k ∷ []) }
         ensures lens { (vec_len self.new.held ≡ vec_len self.old.held + 1) × (vec_len self.new.expired + 1 ≡ vec_len self.old.expired) }
     {
         if let Some(cell) = self.expired.pop() {
@@ -164,7 +169,8 @@ impl CellPool {
     /// Room for as many new claims.
     pub fn make_room(&mut self, wanted: usize) -> Result<(), OutOfMemory>
         ensures numbers { KeepsNumbers self.old self.new }
-        ensures lists { (self.new.claims.items ≡ self.old.claims.items) × (self.new.rings ≡ self.old.rings) × (self.new.last ≡ self.old.last) }
+        ensures lists { (self.new.claims.items ≡ self.old.claims.items) × (self.new.rings ≡ self.old.rings)
+            × (self.new.last ≡ self.old.last) }
         ensures same { (self.new.reserved ≡ self.old.reserved) × (self.new.expired ≡ self.old.expired) × (self.new.held ≡ self.old.held) }
         ensures room { OnOk result (vec_len self.new.claims + wanted ≤ vec_capacity self.new.claims) }
     {
@@ -179,9 +185,11 @@ impl CellPool {
         requires counter { claims_of key self.old.claims.items ≡ 0 }
         requires window { key.start ≡ window_start key.name.unit self.old.last }
         requires ring { FitsRing (unit_rank key.name.unit) (window_end_of key) self.old.rings.items }
-        ensures claims { BindsLast self.old.reserved.items self.new.reserved.items self.old.claims.items self.new.claims.items key self.old.last }
+        ensures claims { BindsLast self.old.reserved.items self.new.reserved.items self.old.claims.items self.new.claims.items key
+            self.old.last }
         ensures rings { KeepsFits (unit_rank key.name.unit) (window_end_of key) self.old.rings.items self.new.rings.items }
-        ensures lens { (vec_len self.new.reserved + 1 ≡ vec_len self.old.reserved) × (vec_len self.new.claims ≡ vec_len self.old.claims + 1) × (vec_capacity self.new.claims ≡ vec_capacity self.old.claims) }
+        ensures lens { (vec_len self.new.reserved + 1 ≡ vec_len self.old.reserved) × (vec_len self.new.claims ≡ vec_len self.old.claims + 1)
+            × (vec_capacity self.new.claims ≡ vec_capacity self.old.claims) }
         ensures numbers { KeepsNumbers self.old self.new }
         ensures same { (self.new.expired ≡ self.old.expired) × (self.new.held ≡ self.old.held) × (self.new.last ≡ self.old.last) }
     {

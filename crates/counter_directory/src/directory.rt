@@ -35,7 +35,8 @@ impl<N: CellNaming> Model for Directory<N> {
 
     ghost view = { λ d. record { list_id = list_id d.told; passes = tokens d.told; claims_max = (first_value d.told).pool.most } };
 
-    ghost invariant = { λ d. (d.passes ≡ tokens d.told) × (1 ≤ d.passes) × (d.passes ≤ MOST_PASSES) × ((first_value d.told).pool.claims.items ≡ []) };
+    ghost invariant = { λ d. (d.passes ≡ tokens d.told) × (1 ≤ d.passes) × (d.passes ≤ MOST_PASSES)
+        × ((first_value d.told).pool.claims.items ≡ []) };
 }
 
 /// What is left of a directory that is closed.
@@ -103,7 +104,8 @@ impl<N: CellNaming> Directory<N> {
         ensures within { IfOk result (λ a. All (λ s. s.cell < N.setup.cells) a.spots.items) }
         ensures pins { IfOk result (λ a. (cell : ℕ) → good_on cell cell_pass.new ≡ spots_on cell a.spots.items) }
         ensures none { OnErr result (cell_pass.new.good ≡ []) }
-        ensures turn { Turned (record { cells = N.setup.cells; claims = self.now.claims_max; held = MOST_PINS * (self.now.passes - 1) }) names.now cell_pass.old result cell_pass.new (view pass.old) (view pass.new) }
+        ensures turn { Turned (record { cells = N.setup.cells; claims = self.now.claims_max; held = MOST_PINS * (self.now.passes - 1) })
+            names.now cell_pass.old result cell_pass.new (view pass.old) (view pass.new) }
     {
         let most_held = MOST_PINS as usize * (self.passes as usize - 1);
         let mut act = Acquire {

@@ -28,8 +28,10 @@ module _ {K T : Type 0} where
     rests = g.rests;
   }
 
-  pub prefixes_of : (seats : List (Seen K T)) (v : TokenView T) (ys : List T) → JoinsTokens seats v → ((i : ℕ) (xs : List T) → get_elem? v.joined_lists i ≡ some xs → IsPrefix xs ys) → All (λ s. IsPrefix (known s) ys) seats
-  prefixes_of seats v ys g h k d le = h k (known (slice_index_or seats k d)) (ap (λ (l : List (List T)). get_elem? l k) g.joined_lists ∙ at_map known seats k (slice_index_or seats k d) (at_or seats k d le))
+  pub prefixes_of : (seats : List (Seen K T)) (v : TokenView T) (ys : List T) → JoinsTokens seats v
+      → ((i : ℕ) (xs : List T) → get_elem? v.joined_lists i ≡ some xs → IsPrefix xs ys) → All (λ s. IsPrefix (known s) ys) seats
+  prefixes_of seats v ys g h k d le =
+      h k (known (slice_index_or seats k d)) (ap (λ (l : List (List T)). get_elem? l k) g.joined_lists ∙ at_map known seats k (slice_index_or seats k d) (at_or seats k d le))
 
 at_length : {A : Type 0} (xs ys : List A) (y : A) → slice_index_or (xs ++ y ∷ ys) (length xs) y ≡ y
 at_length [] ys y = refl

@@ -1,5 +1,6 @@
 -- Each step keeps the rule.
-use Rattle.std.proofs.Common.{◌≡◌, ◌≢◌, ℕ, zero, suc, ◌+◌, ◌%◌, ◌^◌, ◌≤◌, ◌<◌, ◌==◌, List, [], ◌∷◌, ◌++◌, length, set, Bool, true, false, true≢false, refl, sym, ap, ◌∙◌, subst, ⊎_elim, inl, inr, arith, length-append, eq-eqb, ne_eqb}
+use Rattle.std.proofs.Common.{◌≡◌, ◌≢◌, ℕ, zero, suc, ◌+◌, ◌%◌, ◌^◌, ◌≤◌, ◌<◌, ◌==◌, List, [], ◌∷◌, ◌++◌, length, set, Bool, true, false, true≢false, refl, sym, ap, ◌∙◌, subst}
+use Rattle.std.proofs.Common.{⊎_elim, inl, inr, arith, length-append, eq-eqb, ne_eqb}
 use Rattle.std.specs.Prelude.{slice_index, slice_set, Some, None}
 use Rattle.std.specs.declared.option.Option.{Option}
 use mathlib.Core.Option.{some, some-ne-none}
@@ -13,8 +14,10 @@ use Rattle.atomic_table.proofs.Lists.{at_snoc, set_else}
 use Rattle.told_list.specs.declared.rule.Setup.{Setup}
 use Rattle.told_list.specs.declared.rule.TokenView.{TokenView}
 use Rattle.told_list.specs.Lists.{total, one_if, times, count_from, IsOwnedOnce}
-use Rattle.told_list.specs.Rule.{first_view, loaded, Loaded, slot_taken, begun, added, ended, one_less, one_token, joined, empty_view, Fits, Began, ValueState, free, taken, awaited, IsLast, IsLawful, Justifies}
-use Rattle.told_list.proofs.Sums.{total_set, total_kept, total_append, total_one, total_two, total_all, prefix_self, prefix_more, prefix_length, each_set, each_snoc, one_true, true_one, false_none, times_from, times_append, owned_more}
+use Rattle.told_list.specs.Rule.{first_view, loaded, Loaded, slot_taken, begun, added, ended, one_less, one_token, joined, empty_view, Fits, Began, ValueState, free, taken}
+use Rattle.told_list.specs.Rule.{awaited, IsLast, IsLawful, Justifies}
+use Rattle.told_list.proofs.Sums.{total_set, total_kept, total_append, total_one, total_two, total_all, prefix_self, prefix_more, prefix_length, each_set, each_snoc, one_true}
+use Rattle.told_list.proofs.Sums.{true_one, false_none, times_from, times_append, owned_more}
 
 same_words : (ws : List ℕ) (i a b : ℕ) → i ≤ 1 → ws ≡ a ∷ b ∷ [] → slice_set ws i (slice_index ws i) ≡ ws
 same_words ws zero a b le e = subst (λ (xs : List ℕ). slice_set xs 0 (slice_index xs 0) ≡ xs) (sym e) refl
@@ -68,11 +71,16 @@ module _ {K T F : Type 0} (items : K → List T) (fixed : K → F) (most : ℕ) 
   at_rest log g h p s a b (taken x y z) = absurd (omega arith)
   at_rest log g h p s a b (awaited x y z at) = absurd (omega arith)
 
-  owned_same : (log : List T) (vs : List (TokenView T)) (id : ℕ) (v w : TokenView T) → get_elem? vs id ≡ some v → w.own ≡ v.own → ((p : ℕ) → IsOwnedOnce (length (items o.kept)) (length log) p (total (λ u. times p u.own) vs)) → (p : ℕ) → IsOwnedOnce (length (items o.kept)) (length log) p (total (λ u. times p u.own) (set vs id w))
-  owned_same log vs id v w at e h p = subst (λ (n : ℕ). IsOwnedOnce (length (items o.kept)) (length log) p n) (sym (total_kept (λ (u : TokenView T). times p u.own) vs id v w at (ap (λ (l : List ℕ). times p l) e))) (h p)
+  owned_same : (log : List T) (vs : List (TokenView T)) (id : ℕ) (v w : TokenView T) → get_elem? vs id ≡ some v → w.own ≡ v.own
+      → ((p : ℕ) → IsOwnedOnce (length (items o.kept)) (length log) p (total (λ u. times p u.own) vs)) → (p : ℕ)
+      → IsOwnedOnce (length (items o.kept)) (length log) p (total (λ u. times p u.own) (set vs id w))
+  owned_same log vs id v w at e h p =
+      subst (λ (n : ℕ). IsOwnedOnce (length (items o.kept)) (length log) p n)
+      (sym (total_kept (λ (u : TokenView T). times p u.own) vs id v w at (ap (λ (l : List ℕ). times p l) e))) (h p)
 
   -- a view changes, and neither the words nor the value
-  unmoved : (s : State (Option K) (TokenView T)) (h : Law s) (id : ℕ) (v w : TokenView T) (ws : List ℕ) → get_elem? s.views id ≡ some v → Fits h.log w → w.holds ≡ v.holds → w.unfilled ≡ v.unfilled → w.tokens ≡ v.tokens → w.own ≡ v.own → ws ≡ s.words → Law (record { words = ws; homes = s.homes; views = set s.views id w })
+  unmoved : (s : State (Option K) (TokenView T)) (h : Law s) (id : ℕ) (v w : TokenView T) (ws : List ℕ) → get_elem? s.views id ≡ some v → Fits h.log w → w.holds ≡ v.holds
+      → w.unfilled ≡ v.unfilled → w.tokens ≡ v.tokens → w.own ≡ v.own → ws ≡ s.words → Law (record { words = ws; homes = s.homes; views = set s.views id w })
   unmoved s h id v w ws at fit a b c d e = record {
     log = h.log;
     lock = h.lock;
@@ -80,7 +88,8 @@ module _ {K T F : Type 0} (items : K → List T) (fixed : K → F) (most : ℕ) 
     few = h.few;
     begins = h.begins;
     each = each_set (Fits h.log) s.views id w (λ j u _ x. h.each j u x) fit;
-    place = place_same h.log h.lock _ _ _ _ s _ refl (total_kept (λ (u : TokenView T). one_if u.holds) s.views id v w at (ap one_if a)) (total_kept (λ (u : TokenView T). one_if u.unfilled) s.views id v w at (ap one_if b)) h.place;
+    place = place_same h.log h.lock _ _ _ _ s _ refl (total_kept (λ (u : TokenView T). one_if u.holds) s.views id v w at (ap one_if a))
+        (total_kept (λ (u : TokenView T). one_if u.unfilled) s.views id v w at (ap one_if b)) h.place;
     tokens = total_kept (λ (u : TokenView T). u.tokens) s.views id v w at c ∙ h.tokens;
     places = owned_same h.log s.views id v w at d h.places;
   }
@@ -94,11 +103,19 @@ module _ {K T F : Type 0} (items : K → List T) (fixed : K → F) (most : ℕ) 
         loaded v n,
         keeps,
         tt,
-        unmoved s h id v (loaded v n) _ at (record { known = fit.known; shown = omega (arith, is); start = fit.start; whole = fit.whole; joined_lists = fit.joined_lists; bare = fit.bare }) refl refl refl refl (same_words s.words 0 _ _ (omega arith) h.words),
+        unmoved s h id v (loaded v n) _ at (record {
+          known = fit.known;
+          shown = omega (arith, is);
+          start = fit.start;
+          whole = fit.whole;
+          joined_lists = fit.joined_lists;
+          bare = fit.bare;
+        }) refl refl refl refl (same_words s.words 0 _ _ (omega arith) h.words),
         ((refl, omega (arith, prefix_length v.known h.log fit.known), omega (arith, h.few)), refl),
       )
 
-  pub unfilled : (slots id : ℕ) (me : Me (Option K) (TokenView T)) → me.1 ≡ [] → me.0.unfilled ≡ true → Allows Law slots id me 1 (λ _. 1) (λ _ w. w ≡ (slot_taken me.0, (0, None) ∷ []))
+  pub unfilled : (slots id : ℕ) (me : Me (Option K) (TokenView T)) → me.1 ≡ [] → me.0.unfilled ≡ true
+      → Allows Law slots id me 1 (λ _. 1) (λ _ w. w ≡ (slot_taken me.0, (0, None) ∷ []))
   unfilled slots id me bare on s h here at small =
       let v = me.0 in
       let w = slot_taken v in
@@ -115,8 +132,17 @@ module _ {K T F : Type 0} (items : K → List T) (fixed : K → F) (most : ℕ) 
           words = ap (λ (ws : List ℕ). slice_set ws 1 1) h.words;
           few = h.few;
           begins = h.begins;
-          each = each_set (Fits h.log) s.views id w (λ j u _ x. h.each j u x) (record { known = fit.known; shown = fit.shown; start = λ _. fit.start on; whole = λ _. fit.start on; joined_lists = fit.joined_lists; bare = λ none. absurd (not_both v.unfilled (fit.bare none).2 on) });
-          place = taken refl (omega (arith, total_set (λ (u : TokenView T). one_if u.holds) s.views id v w at)) (omega (arith, total_set (λ (u : TokenView T). one_if u.unfilled) s.views id v w at));
+          each = each_set (Fits h.log) s.views id w (λ j u _ x. h.each j u x)
+              (record {
+                known = fit.known;
+                shown = fit.shown;
+                start = λ _. fit.start on;
+                whole = λ _. fit.start on;
+                joined_lists = fit.joined_lists;
+                bare = λ none. absurd (not_both v.unfilled (fit.bare none).2 on);
+              });
+          place = taken refl (omega (arith, total_set (λ (u : TokenView T). one_if u.holds) s.views id v w at))
+              (omega (arith, total_set (λ (u : TokenView T). one_if u.unfilled) s.views id v w at));
           tokens = total_kept (λ (u : TokenView T). u.tokens) s.views id v w at refl ∙ h.tokens;
           places = owned_same h.log s.views id v w at refl h.places;
         },
@@ -125,9 +151,11 @@ module _ {K T F : Type 0} (items : K → List T) (fixed : K → F) (most : ℕ) 
 
   module _ (slots id : ℕ) (me : Me (Option K) (TokenView T)) (fact : K → Type 0) (busy : Type 0) where
     abbrev Steps : State (Option K) (TokenView T) → Type 0
-    Steps s = (w : TokenView T) × (a : Act (Option K)) × Valid s.homes me.1 a × Law (stepped s 1 (either (slice_index s.words 1 == 0) 1 (slice_index s.words 1)) id me.1 w a) × Began items fixed fact busy me (slice_index s.words 1) (w, carried_after me.1 a)
+    Steps s = (w : TokenView T) × (a : Act (Option K)) × Valid s.homes me.1 a × Law (stepped s 1 (either (slice_index s.words 1 == 0) 1 (slice_index s.words 1)) id me.1 w a)
+        × Began items fixed fact busy me (slice_index s.words 1) (w, carried_after me.1 a)
 
-    found_free : (s : State (Option K) (TokenView T)) (h : Law s) → me.1 ≡ [] → 1 ≤ me.0.tokens → Justifies items fixed most o id me.0 fact busy → get_elem? s.views id ≡ some me.0 → slice_index s.words 1 ≡ 0 → Located h.log h.lock (holding s.views) (awaiting s.views) s → Steps s
+    found_free : (s : State (Option K) (TokenView T)) (h : Law s) → me.1 ≡ [] → 1 ≤ me.0.tokens → Justifies items fixed most o id me.0 fact busy → get_elem? s.views id ≡ some me.0
+        → slice_index s.words 1 ≡ 0 → Located h.log h.lock (holding s.views) (awaiting s.views) s → Steps s
     found_free s h bare some_token justified at hit (free g a b k there is same) =
         let v = me.0 in
         let w = begun (items k) v in
@@ -144,29 +172,49 @@ module _ {K T F : Type 0} (items : K → List T) (fixed : K → F) (most : ℕ) 
                 words = ap (λ (ws : List ℕ). slice_set ws 1 1) h.words;
                 few = h.few;
                 begins = h.begins;
-                each = each_set (Fits h.log) s.views id w (λ j u _ y. h.each j u y) (record { known = subst (λ (l : List T). IsPrefix (items k) l) is (prefix_self (items k)); shown = fit.shown; start = λ _. is; whole = λ _. is; joined_lists = fit.joined_lists; bare = λ none. absurd (omega arith) });
-                place = taken refl (omega (arith, total_set (λ (u : TokenView T). one_if u.holds) s.views id v w at)) (omega (arith, total_set (λ (u : TokenView T). one_if u.unfilled) s.views id v w at));
+                each = each_set (Fits h.log) s.views id w (λ j u _ y. h.each j u y)
+                    (record {
+                      known = subst (λ (l : List T). IsPrefix (items k) l) is (prefix_self (items k));
+                      shown = fit.shown;
+                      start = λ _. is;
+                      whole = λ _. is;
+                      joined_lists = fit.joined_lists;
+                      bare = λ none. absurd (omega arith);
+                    });
+                place = taken refl (omega (arith, total_set (λ (u : TokenView T). one_if u.holds) s.views id v w at))
+                    (omega (arith, total_set (λ (u : TokenView T). one_if u.unfilled) s.views id v w at));
                 tokens = total_kept (λ (u : TokenView T). u.tokens) s.views id v w at refl ∙ h.tokens;
                 places = owned_same h.log s.views id v w at refl h.places;
               }),
-          inl (hit, k, ap (λ (c : List (ℕ × Option K)). (w, (0, Some k) ∷ c)) bare, subst (λ (l : List T). IsPrefix v.known l) (sym is) fit.known, subst (λ (l : List T). v.shown ≤ length l) (sym is) fit.shown, justified.found s h at k is same),
+          inl (
+            hit,
+            k,
+            ap (λ (c : List (ℕ × Option K)). (w, (0, Some k) ∷ c)) bare,
+            subst (λ (l : List T). IsPrefix v.known l) (sym is) fit.known,
+            subst (λ (l : List T). v.shown ≤ length l) (sym is) fit.shown,
+            justified.found s h at k is same,
+          ),
         )
     found_free s h bare some_token justified at hit (taken g a b) = let e : slice_index s.words 1 ≡ h.lock = ap (λ (ws : List ℕ). slice_index ws 1) h.words in absurd (omega arith)
-    found_free s h bare some_token justified at hit (awaited g a b there) = let e : slice_index s.words 1 ≡ h.lock = ap (λ (ws : List ℕ). slice_index ws 1) h.words in absurd (omega arith)
+    found_free s h bare some_token justified at hit (awaited g a b there) =
+        let e : slice_index s.words 1 ≡ h.lock = ap (λ (ws : List ℕ). slice_index ws 1) h.words in absurd (omega arith)
 
-    found_going : (s : State (Option K) (TokenView T)) (h : Law s) → Justifies items fixed most o id me.0 fact busy → get_elem? s.views id ≡ some me.0 → slice_index s.words 1 ≢ 0 → Steps s
+    found_going : (s : State (Option K) (TokenView T)) (h : Law s) → Justifies items fixed most o id me.0 fact busy → get_elem? s.views id ≡ some me.0 → slice_index s.words 1 ≢ 0
+        → Steps s
     found_going s h justified at miss =
         let x = slice_index s.words 1 in
         let e : x ≡ h.lock = ap (λ (ws : List ℕ). slice_index ws 1) h.words in (
           me.0,
           keeps,
           tt,
-          subst (λ b. Law (stepped s 1 (either b 1 x) id me.1 me.0 keeps)) (sym (ne_eqb x 0 miss)) (unmoved s h id me.0 me.0 _ at (h.each id me.0 at) refl refl refl refl (same_words s.words 1 _ _ (omega arith) h.words)),
+          subst (λ b. Law (stepped s 1 (either b 1 x) id me.1 me.0 keeps)) (sym (ne_eqb x 0 miss))
+              (unmoved s h id me.0 me.0 _ at (h.each id me.0 at) refl refl refl refl (same_words s.words 1 _ _ (omega arith) h.words)),
           inr (miss, refl, justified.going s h at (λ none. miss (e ∙ none))),
         )
 
     pub begins : me.1 ≡ [] → 1 ≤ me.0.tokens → Justifies items fixed most o id me.0 fact busy → Allows Law slots id me 1 (λ n. either (n == 0) 1 n) (Began items fixed fact busy me)
-    begins bare some_token justified s h here at small = dite (ℕ_discrete (slice_index s.words 1) 0) (λ hit. found_free s h bare some_token justified at hit h.place) (λ miss. found_going s h justified at miss)
+    begins bare some_token justified s h here at small =
+        dite (ℕ_discrete (slice_index s.words 1) 0) (λ hit. found_free s h bare some_token justified at hit h.place) (λ miss. found_going s h justified at miss)
 
   pub adds : (slots id k : ℕ) (xs : List T) (me : Me (Option K) (TokenView T)) → me.0.holds ≡ true → length xs ≡ k → length me.0.known + k ≤ most → length me.0.known + k < 2 ^ 64
       → Allows Law slots id me 0 (λ n. (n + k) % 2 ^ 64) (λ n w. w ≡ (added xs me.0, me.1))
@@ -198,20 +246,37 @@ module _ {K T F : Type 0} (items : K → List T) (fixed : K → F) (most : ℕ) 
               let f = h.each j u e in
               let rests : u.holds ≡ false = one_true u.holds (let two = total_two (λ (x : TokenView T). one_if x.holds) s.views id j v u apart at e in omega arith) in
               let done : u.unfilled ≡ false = one_true u.unfilled (let b = total_one (λ (x : TokenView T). one_if x.unfilled) s.views j u e in omega arith) in
-              record { known = prefix_more u.known log xs f.known; shown = let b = f.shown in omega arith; start = λ y. absurd (not_both u.unfilled done y); whole = λ y. absurd (not_both u.holds rests y); joined_lists = λ i ys y. prefix_more ys log xs (f.joined_lists i ys y); bare = f.bare })
-              (record { known = subst (λ (l : List T). IsPrefix (v.known ++ xs) l) same (prefix_self (v.known ++ xs)); shown = let b = fit.shown in omega arith; start = λ _. same; whole = λ _. same; joined_lists = λ i ys y. prefix_more ys log xs (fit.joined_lists i ys y); bare = λ none. absurd (not_both v.holds (fit.bare none).1 on) });
-          place = taken t.0 (total_kept (λ (u : TokenView T). one_if u.holds) s.views id v w at refl ∙ t.1) (total_kept (λ (u : TokenView T). one_if u.unfilled) s.views id v w at refl ∙ t.2);
+              record {
+                known = prefix_more u.known log xs f.known;
+                shown = let b = f.shown in omega arith;
+                start = λ y. absurd (not_both u.unfilled done y);
+                whole = λ y. absurd (not_both u.holds rests y);
+                joined_lists = λ i ys y. prefix_more ys log xs (f.joined_lists i ys y);
+                bare = f.bare;
+              })
+              (record {
+                known = subst (λ (l : List T). IsPrefix (v.known ++ xs) l) same (prefix_self (v.known ++ xs));
+                shown = let b = fit.shown in omega arith;
+                start = λ _. same;
+                whole = λ _. same;
+                joined_lists = λ i ys y. prefix_more ys log xs (fit.joined_lists i ys y);
+                bare = λ none. absurd (not_both v.holds (fit.bare none).1 on);
+              });
+          place = taken t.0 (total_kept (λ (u : TokenView T). one_if u.holds) s.views id v w at refl ∙ t.1)
+              (total_kept (λ (u : TokenView T). one_if u.unfilled) s.views id v w at refl ∙ t.2);
           tokens = total_kept (λ (u : TokenView T). u.tokens) s.views id v w at refl ∙ h.tokens;
           places = λ p.
               let new = times_from p (length v.known) (length xs) in
               let ts = total_set (λ (u : TokenView T). times p u.own) s.views id v w at in
               let ta = times_append p v.own (count_from (length v.known) (length xs)) in
-              owned_more (length (items o.kept)) (length log) (length now) p _ _ _ (length xs) (h.places p) (subst (λ n. IsOwnedOnce n (n + length xs) p (times p (count_from (length v.known) (length xs)))) len new) (omega arith) (omega arith) h.begins;
+              owned_more (length (items o.kept)) (length log) (length now) p _ _ _ (length xs) (h.places p)
+              (subst (λ n. IsOwnedOnce n (n + length xs) p (times p (count_from (length v.known) (length xs)))) len new) (omega arith) (omega arith) h.begins;
         },
         refl,
       )
 
-  pub ends : (slots id : ℕ) (k : K) (me : Me (Option K) (TokenView T)) → slots ≡ 1 → me.0.holds ≡ true → me.1 ≡ (0, Some k) ∷ [] → items k ≡ me.0.known → fixed k ≡ fixed o.kept → Allows Law slots id me 1 (λ _. 0) (λ _ w. w ≡ (ended me.0, []))
+  pub ends : (slots id : ℕ) (k : K) (me : Me (Option K) (TokenView T)) → slots ≡ 1 → me.0.holds ≡ true → me.1 ≡ (0, Some k) ∷ [] → items k ≡ me.0.known → fixed k ≡ fixed o.kept
+      → Allows Law slots id me 1 (λ _. 0) (λ _ w. w ≡ (ended me.0, []))
   ends slots id k me single on has is same s h here at small =
       let v = me.0 in
       let w = ended v in
@@ -227,8 +292,18 @@ module _ {K T F : Type 0} (items : K → List T) (fixed : K → F) (most : ℕ) 
           words = ap (λ (ws : List ℕ). slice_set ws 1 0) h.words;
           few = h.few;
           begins = h.begins;
-          each = each_set (Fits h.log) s.views id w (λ j u _ y. h.each j u y) (record { known = fit.known; shown = fit.shown; start = fit.start; whole = λ _. fit.whole on; joined_lists = fit.joined_lists; bare = λ none. absurd (not_both v.holds (fit.bare none).1 on) });
-          place = free refl (let ts = total_set (λ (u : TokenView T). one_if u.holds) s.views id v w at in omega arith) (total_kept (λ (u : TokenView T). one_if u.unfilled) s.views id v w at refl ∙ t.2) k (ap (put_back s.homes) has ∙ one_home s.homes (some (Some k)) (here ∙ single)) (is ∙ fit.whole on) same;
+          each = each_set (Fits h.log) s.views id w (λ j u _ y. h.each j u y)
+              (record {
+                known = fit.known;
+                shown = fit.shown;
+                start = fit.start;
+                whole = λ _. fit.whole on;
+                joined_lists = fit.joined_lists;
+                bare = λ none. absurd (not_both v.holds (fit.bare none).1 on);
+              });
+          place = free refl (let ts = total_set (λ (u : TokenView T). one_if u.holds) s.views id v w at in omega arith)
+              (total_kept (λ (u : TokenView T). one_if u.unfilled) s.views id v w at refl ∙ t.2) k (ap (put_back s.homes) has ∙ one_home s.homes (some (Some k)) (here ∙ single))
+              (is ∙ fit.whole on) same;
           tokens = total_kept (λ (u : TokenView T). u.tokens) s.views id v w at refl ∙ h.tokens;
           places = owned_same h.log s.views id v w at refl h.places;
         },
@@ -250,14 +325,25 @@ module _ {K T F : Type 0} (items : K → List T) (fixed : K → F) (most : ℕ) 
         begins = h.begins;
         each =
             each_snoc (Fits log) mid right
-            (each_set (Fits log) s.views id left (λ j u _ e. h.each j u e) (record { known = fit.known; shown = fit.shown; start = fit.start; whole = fit.whole; joined_lists = fit.joined_lists; bare = λ _. (bare, rests, done) }))
-            (record { known = fit.known; shown = omega arith; start = λ y. absurd (true≢false (sym y)); whole = λ y. absurd (true≢false (sym y)); joined_lists = λ i ys y. absurd (no_item i ys y); bare = λ y. absurd (omega arith) });
+            (each_set (Fits log) s.views id left (λ j u _ e. h.each j u e)
+            (record { known = fit.known; shown = fit.shown; start = fit.start; whole = fit.whole; joined_lists = fit.joined_lists; bare = λ _. (bare, rests, done) }))
+            (record {
+              known = fit.known;
+              shown = omega arith;
+              start = λ y. absurd (true≢false (sym y));
+              whole = λ y. absurd (true≢false (sym y));
+              joined_lists = λ i ys y. absurd (no_item i ys y);
+              bare = λ y. absurd (omega arith);
+            });
         place =
             place_same log h.lock _ _ _ _ s _ refl
             (omega (arith, total_append (λ (u : TokenView T). one_if u.holds) mid (right ∷ []), total_kept (λ (u : TokenView T). one_if u.holds) s.views id v left at refl))
-            (omega (arith, total_append (λ (u : TokenView T). one_if u.unfilled) mid (right ∷ []), total_kept (λ (u : TokenView T). one_if u.unfilled) s.views id v left at refl)) h.place;
+            (omega (arith, total_append (λ (u : TokenView T). one_if u.unfilled) mid (right ∷ []), total_kept (λ (u : TokenView T). one_if u.unfilled) s.views id v left at refl))
+            h.place;
         tokens = omega (arith, total_append (λ (u : TokenView T). u.tokens) mid (right ∷ []), total_set (λ (u : TokenView T). u.tokens) s.views id v left at, h.tokens);
-        places = λ p. subst (λ (n : ℕ). IsOwnedOnce (length (items o.kept)) (length log) p n) (omega (arith, total_append (λ (u : TokenView T). times p u.own) mid (right ∷ []), total_kept (λ (u : TokenView T). times p u.own) s.views id v left at refl)) (h.places p);
+        places = λ p. subst (λ (n : ℕ). IsOwnedOnce (length (items o.kept)) (length log) p n)
+            (omega (arith, total_append (λ (u : TokenView T). times p u.own) mid (right ∷ []), total_kept (λ (u : TokenView T). times p u.own) s.views id v left at refl))
+            (h.places p);
       }
 
   pub joins : (id : ℕ) (v : TokenView T) (other : ℕ) (w : TokenView T) → w.holds ≡ false → w.unfilled ≡ false → Joins Law id v other w (joined v w) empty_view
@@ -284,14 +370,30 @@ module _ {K T F : Type 0} (items : K → List T) (fixed : K → F) (most : ℕ) 
               shown = fit.shown;
               start = fit.start;
               whole = fit.whole;
-              joined_lists = λ i ys y. ⊎_elim (λ a. fit.joined_lists i ys a) (λ (a : w.known ≡ ys). subst (λ (l : List T). IsPrefix l log) a fit'.known) (at_snoc v.joined_lists w.known ys i y);
+              joined_lists = λ i ys y. ⊎_elim (λ a. fit.joined_lists i ys a) (λ (a : w.known ≡ ys). subst (λ (l : List T). IsPrefix l log) a fit'.known)
+                  (at_snoc v.joined_lists w.known ys i y);
               bare = λ none. let a = fit.bare (omega arith) in let b = fit'.bare (omega arith) in (ap (λ (l : List ℕ). l ++ w.own) a.0 ∙ b.0, a.1, a.2);
             }) j u e)
-            (record { known = (log, refl); shown = omega arith; start = λ y. absurd (true≢false (sym y)); whole = λ y. absurd (true≢false (sym y)); joined_lists = λ i ys y. absurd (no_item i ys y); bare = λ _. (refl, refl, refl) });
+            (record {
+              known = (log, refl);
+              shown = omega arith;
+              start = λ y. absurd (true≢false (sym y));
+              whole = λ y. absurd (true≢false (sym y));
+              joined_lists = λ i ys y. absurd (no_item i ys y);
+              bare = λ _. (refl, refl, refl);
+            });
         place =
             place_same log h.lock _ _ _ _ s _ refl
-            (omega (arith, total_kept (λ (u : TokenView T). one_if u.holds) s.views id v both at refl, total_set (λ (u : TokenView T). one_if u.holds) mid other w empty_view there))
-            (omega (arith, total_kept (λ (u : TokenView T). one_if u.unfilled) s.views id v both at refl, total_set (λ (u : TokenView T). one_if u.unfilled) mid other w empty_view there)) h.place;
+            (omega (
+              arith,
+              total_kept (λ (u : TokenView T). one_if u.holds) s.views id v both at refl,
+              total_set (λ (u : TokenView T). one_if u.holds) mid other w empty_view there,
+            ))
+            (omega (
+              arith,
+              total_kept (λ (u : TokenView T). one_if u.unfilled) s.views id v both at refl,
+              total_set (λ (u : TokenView T). one_if u.unfilled) mid other w empty_view there,
+            )) h.place;
         tokens = omega (arith, total_set (λ (u : TokenView T). u.tokens) s.views id v both at, total_set (λ (u : TokenView T). u.tokens) mid other w empty_view there, h.tokens);
         places = λ p.
             let a = total_set (λ (u : TokenView T). times p u.own) s.views id v both at in
@@ -300,14 +402,26 @@ module _ {K T F : Type 0} (items : K → List T) (fixed : K → F) (most : ℕ) 
             subst (λ (n : ℕ). IsOwnedOnce (length (items o.kept)) (length log) p n) (omega arith) (h.places p);
       }
 
-  pub starts : length (items o.kept) ≤ most → 1 ≤ o.tokens → Law (record { words = length (items o.kept) ∷ 2 ∷ []; homes = some None ∷ []; views = first_view (items o.kept) o.tokens ∷ [] })
+  pub starts : length (items o.kept) ≤ most → 1 ≤ o.tokens → Law (record {
+    words = length (items o.kept) ∷ 2 ∷ [];
+    homes = some None ∷ [];
+    views = first_view (items o.kept) o.tokens ∷ [];
+  })
   starts few some_token = record {
     log = items o.kept;
     lock = 2;
     words = refl;
     few = few;
     begins = omega arith;
-    each = λ j u e. each_snoc (Fits (items o.kept)) [] (first_view (items o.kept) o.tokens) (λ i x y. absurd (no_item i x y)) (record { known = prefix_self (items o.kept); shown = omega arith; start = λ _. refl; whole = λ _. refl; joined_lists = λ i ys y. absurd (no_item i ys y); bare = λ none. absurd (omega arith) }) j u e;
+    each = λ j u e. each_snoc (Fits (items o.kept)) [] (first_view (items o.kept) o.tokens) (λ i x y. absurd (no_item i x y))
+        (record {
+          known = prefix_self (items o.kept);
+          shown = omega arith;
+          start = λ _. refl;
+          whole = λ _. refl;
+          joined_lists = λ i ys y. absurd (no_item i ys y);
+          bare = λ none. absurd (omega arith);
+        }) j u e;
     place = awaited refl refl refl refl;
     tokens = omega arith;
     places = λ p. record { early = λ _. refl; there = λ a b. absurd (omega arith); late = λ _. refl };
@@ -324,10 +438,19 @@ module _ {K T F : Type 0} (items : K → List T) (fixed : K → F) (most : ℕ) 
           words = h.words;
           few = h.few;
           begins = h.begins;
-          each = each_snoc (Fits h.log) s.views none h.each (record { known = (h.log, refl); shown = omega arith; start = λ y. absurd (true≢false (sym y)); whole = λ y. absurd (true≢false (sym y)); joined_lists = λ i ys y. absurd (no_item i ys y); bare = λ _. (refl, refl, refl) });
-          place = place_same h.log h.lock _ _ _ _ s _ refl (omega (arith, total_append (λ (u : TokenView T). one_if u.holds) s.views (none ∷ []))) (omega (arith, total_append (λ (u : TokenView T). one_if u.unfilled) s.views (none ∷ []))) h.place;
+          each = each_snoc (Fits h.log) s.views none h.each (record {
+            known = (h.log, refl);
+            shown = omega arith;
+            start = λ y. absurd (true≢false (sym y));
+            whole = λ y. absurd (true≢false (sym y));
+            joined_lists = λ i ys y. absurd (no_item i ys y);
+            bare = λ _. (refl, refl, refl);
+          });
+          place = place_same h.log h.lock _ _ _ _ s _ refl (omega (arith, total_append (λ (u : TokenView T). one_if u.holds) s.views (none ∷ [])))
+              (omega (arith, total_append (λ (u : TokenView T). one_if u.unfilled) s.views (none ∷ []))) h.place;
           tokens = omega (arith, total_append (λ (u : TokenView T). u.tokens) s.views (none ∷ []), h.tokens);
-          places = λ p. subst (λ (n : ℕ). IsOwnedOnce (length (items o.kept)) (length h.log) p n) (omega (arith, total_append (λ (u : TokenView T). times p u.own) s.views (none ∷ []))) (h.places p);
+          places = λ p. subst (λ (n : ℕ). IsOwnedOnce (length (items o.kept)) (length h.log) p n)
+              (omega (arith, total_append (λ (u : TokenView T). times p u.own) s.views (none ∷ []))) (h.places p);
         },
         refl,
       )
@@ -338,15 +461,19 @@ module _ {K T F : Type 0} (items : K → List T) (fixed : K → F) (most : ℕ) 
     found = λ s h at k is same. record {
       joined_lists = λ i ys y. subst (λ (l : List T). IsPrefix ys l) (sym is) ((h.each id v at).joined_lists i ys y);
       owned = λ p.
-          let all : total (λ (u : TokenView T). times p u.own) s.views ≡ times p v.own = total_all (λ (u : TokenView T). times p u.own) (λ (u : TokenView T). u.tokens) s.views id v (λ j u y none. ap (times p) ((h.each j u y).bare none).0) at (h.tokens ∙ sym every) in
-          subst (λ (n : ℕ). IsOwnedOnce (length (items o.kept)) (length (items k)) p n) all (subst (λ (l : List T). IsOwnedOnce (length (items o.kept)) (length l) p (total (λ (u : TokenView T). times p u.own) s.views)) (sym is) (h.places p));
+          let all : total (λ (u : TokenView T). times p u.own) s.views ≡ times p v.own = total_all (λ (u : TokenView T). times p u.own) (λ (u : TokenView T). u.tokens) s.views id v
+          (λ j u y none. ap (times p) ((h.each j u y).bare none).0) at (h.tokens ∙ sym every) in
+          subst (λ (n : ℕ). IsOwnedOnce (length (items o.kept)) (length (items k)) p n) all
+          (subst (λ (l : List T). IsOwnedOnce (length (items o.kept)) (length l) p (total (λ (u : TokenView T). times p u.own) s.views)) (sym is) (h.places p));
       stays = same;
     };
     going = λ s h at going.
         going
         (at_rest h.log h.lock _ _ s
-        (total_all (λ (u : TokenView T). one_if u.holds) (λ (u : TokenView T). u.tokens) s.views id v (λ j u y none. false_none u.holds ((h.each j u y).bare none).1) at (h.tokens ∙ sym every) ∙ false_none v.holds rests)
-        (total_all (λ (u : TokenView T). one_if u.unfilled) (λ (u : TokenView T). u.tokens) s.views id v (λ j u y none. false_none u.unfilled ((h.each j u y).bare none).2) at (h.tokens ∙ sym every) ∙ false_none v.unfilled done)
+        (total_all (λ (u : TokenView T). one_if u.holds) (λ (u : TokenView T). u.tokens) s.views id v (λ j u y none. false_none u.holds ((h.each j u y).bare none).1) at
+        (h.tokens ∙ sym every) ∙ false_none v.holds rests)
+        (total_all (λ (u : TokenView T). one_if u.unfilled) (λ (u : TokenView T). u.tokens) s.views id v (λ j u y none. false_none u.unfilled ((h.each j u y).bare none).2) at
+        (h.tokens ∙ sym every) ∙ false_none v.unfilled done)
         h.place);
   }
 

@@ -1,5 +1,6 @@
 -- Sums over the views after a step of one of them, and the places of a list.
-use Rattle.std.proofs.Common.{◌≡◌, ◌≢◌, ℕ, zero, suc, ◌+◌, ◌≤◌, ◌<◌, ◌==◌, List, [], ◌∷◌, ◌++◌, length, set, Bool, true, false, refl, sym, ap, ◌∙◌, subst, ⊎_elim, arith, length-append, append_assoc, drop}
+use Rattle.std.proofs.Common.{◌≡◌, ◌≢◌, ℕ, zero, suc, ◌+◌, ◌≤◌, ◌<◌, ◌==◌, List, [], ◌∷◌, ◌++◌, length, set, Bool, true, false, refl, sym, ap, ◌∙◌, subst, ⊎_elim, arith}
+use Rattle.std.proofs.Common.{length-append, append_assoc, drop}
 use Rattle.std.proofs.lemmas.Bool.Decides.{nat_tests}
 use Rattle.std.proofs.Math.Seq.{drop-append_seam}
 use mathlib.Core.Option.{some, some-ne-none, some-injective}
@@ -46,7 +47,8 @@ module _ {A : Type 0} where
       omega arith
 
   -- where one view has all of g, and f is nothing where g is nothing, it has all of f
-  pub total_all : (f g : A → ℕ) (views : List A) (k : ℕ) (v : A) → ((j : ℕ) (u : A) → get_elem? views j ≡ some u → g u ≡ 0 → f u ≡ 0) → get_elem? views k ≡ some v → total g views ≡ g v → total f views ≡ f v
+  pub total_all : (f g : A → ℕ) (views : List A) (k : ℕ) (v : A) → ((j : ℕ) (u : A) → get_elem? views j ≡ some u → g u ≡ 0 → f u ≡ 0) → get_elem? views k ≡ some v
+      → total g views ≡ g v → total f views ≡ f v
   total_all f g [] k v bare e all = absurd (some-ne-none v (sym e))
   total_all f g (x ∷ xs) zero v bare e all =
       let s : x ≡ v = some-injective _ _ e in
@@ -71,14 +73,16 @@ module _ {A : Type 0} where
   prefix_length xs ys p = omega (arith, length-append xs p.0, ap length p.1)
 
   -- what holds of each view holds after a change of one
-  pub each_set : (P : A → Type 0) (views : List A) (k : ℕ) (w : A) → ((j : ℕ) (u : A) → ¬ (j ≡ k) → get_elem? views j ≡ some u → P u) → P w → (j : ℕ) (u : A) → get_elem? (set views k w) j ≡ some u → P u
+  pub each_set : (P : A → Type 0) (views : List A) (k : ℕ) (w : A) → ((j : ℕ) (u : A) → ¬ (j ≡ k) → get_elem? views j ≡ some u → P u) → P w → (j : ℕ) (u : A)
+      → get_elem? (set views k w) j ≡ some u → P u
   each_set P views k w others mine j u e =
       ⊎_elim
       (λ (x : (j ≡ k) × (w ≡ u)). subst P x.1 mine)
       (λ (x : (j ≢ k) × (get_elem? views j ≡ some u)). others j u x.0 x.1)
       (at_set views k j w u e)
 
-  pub each_snoc : (P : A → Type 0) (views : List A) (w : A) → ((j : ℕ) (u : A) → get_elem? views j ≡ some u → P u) → P w → (j : ℕ) (u : A) → get_elem? (views ++ w ∷ []) j ≡ some u → P u
+  pub each_snoc : (P : A → Type 0) (views : List A) (w : A) → ((j : ℕ) (u : A) → get_elem? views j ≡ some u → P u) → P w → (j : ℕ) (u : A) → get_elem? (views ++ w ∷ []) j ≡ some u
+      → P u
   each_snoc P views w others mine j u e = ⊎_elim (λ x. others j u x) (λ (x : w ≡ u). subst P x mine) (at_snoc views w u j e)
 
 pub one_true : (b : Bool) → one_if b ≡ 0 → b ≡ false
@@ -92,10 +96,16 @@ pub false_none : (b : Bool) → b ≡ false → one_if b ≡ 0
 false_none b e = ap one_if e
 
 from_more : (p n k owned : ℕ) (b : Bool) → (p == n) ≡ b → IsOwnedOnce (suc n) (suc n + k) p owned → IsOwnedOnce n (n + suc k) p (one_if b + owned)
-from_more p n k owned true is r = let at : p ≡ n = grind (arith, nat_tests) in let e : owned ≡ 0 = r.early (omega arith) in record { early = λ h. absurd (omega arith); there = λ a b. omega arith; late = λ h. absurd (omega arith) }
+from_more p n k owned true is r =
+    let at : p ≡ n = grind (arith, nat_tests) in let e : owned ≡ 0 = r.early (omega arith) in
+    record { early = λ h. absurd (omega arith); there = λ a b. omega arith; late = λ h. absurd (omega arith) }
 from_more p n k owned false is r =
     let off : p ≢ n = grind (arith, nat_tests) in
-    record { early = λ h. let e = r.early (omega arith) in omega arith; there = λ a b. let e = r.there (omega arith) (omega arith) in omega arith; late = λ h. let e = r.late (omega arith) in omega arith }
+    record {
+      early = λ h. let e = r.early (omega arith) in omega arith;
+      there = λ a b. let e = r.there (omega arith) (omega arith) in omega arith;
+      late = λ h. let e = r.late (omega arith) in omega arith;
+    }
 
 -- the k numbers from n on have each of them once
 pub times_from : (p n k : ℕ) → IsOwnedOnce n (n + k) p (times p (count_from n k))
@@ -106,7 +116,8 @@ pub times_append : (p : ℕ) (xs ys : List ℕ) → times p (xs ++ ys) ≡ times
 times_append p xs ys = total_append (λ x. one_if (p == x)) xs ys
 
 -- a turn's places come behind those that were there
-pub owned_more : (first len now p old new after k : ℕ) → IsOwnedOnce first len p old → IsOwnedOnce len (len + k) p new → after ≡ old + new → now ≡ len + k → first ≤ len → IsOwnedOnce first now p after
+pub owned_more : (first len now p old new after k : ℕ) → IsOwnedOnce first len p old → IsOwnedOnce len (len + k) p new → after ≡ old + new → now ≡ len + k → first ≤ len
+    → IsOwnedOnce first now p after
 owned_more first len now p old new after k r n sum is le = record {
   early = λ h. let a = r.early h in let b = n.early (omega arith) in omega arith;
   there = λ a b. split (dec_lt p len) a b;

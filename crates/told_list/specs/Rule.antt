@@ -18,7 +18,17 @@ IsSeatOf seat table = (seat ≡ table) × (table.words ≡ 2) × (table.slots �
 module _ {T : Type 0} where
   -- a view that knows this list, stands for so many tokens and has done nothing
   abbrev pub idle_view : List T → ℕ → TokenView T
-  idle_view xs n = record { known = xs; loads = 0; shown = 0; turns = 0; own = []; tokens = n; unfilled = false; holds = false; joined_lists = [] }
+  idle_view xs n = record {
+    known = xs;
+    loads = 0;
+    shown = 0;
+    turns = 0;
+    own = [];
+    tokens = n;
+    unfilled = false;
+    holds = false;
+    joined_lists = [];
+  }
 
   -- the view of the first seat, before the value lies in the table
   abbrev pub first_view : List T → ℕ → TokenView T
@@ -81,12 +91,14 @@ module _ {K T F : Type 0} (items : K → List T) (fixed : K → F) where
   -- what the first step of a turn tells: the value found, of which `fact` holds, or that another token has its turn, and then `busy`
   abbrev pub Began : (K → Type 0) → Type 0 → Me (Option K) (TokenView T) → ℕ → Me (Option K) (TokenView T) → Type 0
   Began fact busy v n w =
-      ((n ≡ 0) × (k : K) × (w ≡ (begun (items k) v.0, (0, Some k) ∷ [])) × IsPrefix v.0.known (items k) × (v.0.shown ≤ length (items k)) × fact k)
+      ((n ≡ 0) × (k : K) × (w ≡ (begun (items k) v.0, (0, Some k) ∷ [])) × IsPrefix v.0.known (items k) × (v.0.shown ≤ length (items k))
+      × fact k)
       ⊎ ((n ≢ 0) × (w ≡ v) × busy)
 
   -- where the value is: in the table while no turn goes on, with the one view that has its turn, or not there yet
   pub data ValueState (first : K) (log : List T) (lock holding unfilled : ℕ) (s : State (Option K) (TokenView T)) : Type 0 where
-    free : lock ≡ 0 → holding ≡ 0 → unfilled ≡ 0 → (k : K) → s.homes ≡ some (Some k) ∷ [] → items k ≡ log → fixed k ≡ fixed first → ValueState first log lock holding unfilled s
+    free : lock ≡ 0 → holding ≡ 0 → unfilled ≡ 0 → (k : K) → s.homes ≡ some (Some k) ∷ [] → items k ≡ log → fixed k ≡ fixed first
+        → ValueState first log lock holding unfilled s
     taken : lock ≡ 1 → holding ≡ 1 → unfilled ≡ 0 → ValueState first log lock holding unfilled s
     awaited : lock ≡ 2 → holding ≡ 0 → unfilled ≡ 1 → s.homes ≡ some None ∷ [] → ValueState first log lock holding unfilled s
 
@@ -110,5 +122,6 @@ module _ {K T F : Type 0} (items : K → List T) (fixed : K → F) where
 
   -- what the rule proves of the value that a view finds, and where it finds that another turn goes on
   pub record Justifies (most : ℕ) (o : Setup K) (id : ℕ) (v : TokenView T) (fact : K → Type 0) (busy : Type 0) : Type 0 where
-    pub found : (s : State (Option K) (TokenView T)) (h : IsLawful most o s) → get_elem? s.views id ≡ some v → (k : K) → items k ≡ h.log → fixed k ≡ fixed o.kept → fact k
+    pub found : (s : State (Option K) (TokenView T)) (h : IsLawful most o s) → get_elem? s.views id ≡ some v → (k : K) → items k ≡ h.log
+        → fixed k ≡ fixed o.kept → fact k
     pub going : (s : State (Option K) (TokenView T)) (h : IsLawful most o s) → get_elem? s.views id ≡ some v → h.lock ≢ 0 → busy

@@ -56,8 +56,8 @@ module _ {T : Type 0} where
     pub turns : w.turns ≡ v.turns
     pub own : w.own ≡ v.own
 
-  -- one turn, which found one list and left another: what was known is a prefix of the list found, which no load of the token had shown to be longer,
-  -- the list left is known, and the places of what was added are the token's own
+  -- one turn, which found one list and left another: what was known is a prefix of the list found, which no load of the
+  -- token had shown to be longer, the list left is known, and the places of what was added are the token's own
   pub record HasTurned (found left : List T) (v w : TokenView T) : Type 0 where
     pub knew : IsPrefix v.known found
     pub saw : v.shown ≤ length found

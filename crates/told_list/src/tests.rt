@@ -48,7 +48,8 @@ impl<'a> Act<Numbers> for Push<'a> {
 
     ghost ready = { λ p n. p.owner ≡ n.owner };
 
-    ghost did = { λ p n done q m. (q.next.ghost_name ≡ p.next.ghost_name) × (q.next.now ≡ p.next.now) × MatchBool done (m.items.items ≡ n.items.items ++ p.next.now ∷ []) (m.items.items ≡ n.items.items) };
+    ghost did = { λ p n done q m. (q.next.ghost_name ≡ p.next.ghost_name) × (q.next.now ≡ p.next.now)
+        × MatchBool done (m.items.items ≡ n.items.items ++ p.next.now ∷ []) (m.items.items ≡ n.items.items) };
 
     fn act(&mut self, kept: &mut Numbers) -> bool {
         prove!(self.owner == kept.owner);

@@ -63,7 +63,8 @@ impl<K: Kept + Drop> Told<K> {
     /// for nobody. What the token knows stays.
     pub fn behind(&self, seen: &mut Seen<K, K::Item>) -> Option<u64>
         requires seen { list_of seen.old ≡ list_id self.now }
-        ensures answer { MatchOption result ((view seen.new).shown ≡ length (known seen.old)) (λ n. (n ≡ (view seen.new).shown) × (length (known seen.old) < n)) }
+        ensures answer { MatchOption result ((view seen.new).shown ≡ length (known seen.old))
+            (λ n. (n ≡ (view seen.new).shown) × (length (known seen.old) < n)) }
         ensures loaded { HasLoaded K.MOST (view seen.old) (view seen.new) }
         ensures seen { list_of seen.new ≡ list_of seen.old }
     {
@@ -81,7 +82,9 @@ impl<K: Kept + Drop> Told<K> {
     ) -> A::Out
         requires seen { list_of seen.old ≡ list_id self.now }
         requires ready { (found : K) → K.fixed found ≡ K.fixed (first_value self.now) → A.ready act.old found }
-        ensures turn { (found : K) × (left : K) × A.did act.old found result act.new left × HasTurned (K.items found) (K.items left) (view seen.old) (view seen.new) × (K.fixed found ≡ K.fixed (first_value self.now)) × (K.fixed left ≡ K.fixed (first_value self.now)) }
+        ensures turn { (found : K) × (left : K) × A.did act.old found result act.new left
+            × HasTurned (K.items found) (K.items left) (view seen.old) (view seen.new) × (K.fixed found ≡ K.fixed (first_value self.now))
+            × (K.fixed left ≡ K.fixed (first_value self.now)) }
         ensures seen { list_of seen.new ≡ list_of seen.old }
     {
         let _turn = self.queue.lock(rt);
@@ -101,7 +104,8 @@ impl<K: Kept + Drop> Told<K> {
         requires seats { All (λ s. list_of s ≡ list_id self) seats.items }
         requires every { vec_len seats ≡ tokens self }
         ensures prefixes { All (λ s. IsPrefix (known s) (K.items result)) seats.items }
-        ensures owned { (p : ℕ) → IsOwnedOnce (length (K.items (first_value self))) (length (K.items result)) p (total (λ s. times p (view s).own) seats.items) }
+        ensures owned { (p : ℕ) → IsOwnedOnce (length (K.items (first_value self))) (length (K.items result)) p
+            (total (λ s. times p (view s).own) seats.items) }
         ensures fixed { K.fixed result ≡ K.fixed (first_value self) }
     {
         let Told { table, queue: _ } = self;

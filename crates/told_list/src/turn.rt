@@ -26,7 +26,9 @@ pub(crate) fn begin<K: Kept, M: TurnFacts<K>>(
     requires token { 1 ≤ seat.old.me.0.tokens }
     requires justified { Justifies K.items K.fixed K.MOST shared.now.key seat.old.id seat.old.me.0 M.fact M.busy }
     ensures here { (seat.new.table_id ≡ seat.old.table_id) × (seat.new.id ≡ seat.old.id) }
-    ensures found { MatchOption result ((seat.new.me ≡ seat.old.me) × M.busy) (λ k. (seat.new.me ≡ (begun (K.items k) seat.old.me.0, (0, None) ∷ [])) × IsPrefix seat.old.me.0.known (K.items k) × (seat.old.me.0.shown ≤ length (K.items k)) × M.fact k) }
+    ensures found { MatchOption result ((seat.new.me ≡ seat.old.me) × M.busy)
+        (λ k. (seat.new.me ≡ (begun (K.items k) seat.old.me.0, (0, None) ∷ [])) × IsPrefix seat.old.me.0.known (K.items k)
+        × (seat.old.me.0.shown ≤ length (K.items k)) × M.fact k) }
 {
     if shared.compare_exchange::<Begins<K, M>>(seat, LOCK, FREE, TAKEN) != FREE {
         return None;

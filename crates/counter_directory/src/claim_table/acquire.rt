@@ -26,7 +26,9 @@ impl<N: CellNaming> ClaimTable<N> {
         requires names { length names.now ≤ MOST_PINS }
         ensures most { self.new.pool.most ≡ self.old.pool.most }
         ensures later { last_of 0 self.old.pool.claims.items ≤ cell_pass.new.moment }
-        ensures did { Acquires (record { cells = N.setup.cells; claims = self.old.pool.most; held = most_held }) names.now cell_pass.old (record { claimer = self.old.claimer; claims = self.old.pool.claims.items }) result cell_pass.new (record { claimer = self.new.claimer; claims = self.new.pool.claims.items }) }
+        ensures did { Acquires (record { cells = N.setup.cells; claims = self.old.pool.most; held = most_held }) names.now cell_pass.old
+            (record { claimer = self.old.claimer; claims = self.old.pool.claims.items }) result cell_pass.new
+            (record { claimer = self.new.claimer; claims = self.new.pool.claims.items }) }
     {
         let alloc = *self.pool.claims.allocator();
         let moment = tick_up(rt, cells, cell_pass, self.pool.last);

@@ -25,7 +25,8 @@ impl<N: CellNaming> ClaimTable<N> {
     /// Raises the moment.
     pub(crate) fn expire(&mut self, moment: Seconds) -> Result<(), OutOfMemory>
         requires { self.old.pool.last ≤ moment }
-        ensures same { (self.new.pool.claims ≡ self.old.pool.claims) × (self.new.pool.reserved ≡ self.old.pool.reserved) × (self.new.pool.most ≡ self.old.pool.most) × (self.new.index ≡ self.old.index) × (self.new.claimer ≡ self.old.claimer) }
+        ensures same { (self.new.pool.claims ≡ self.old.pool.claims) × (self.new.pool.reserved ≡ self.old.pool.reserved)
+            × (self.new.pool.most ≡ self.old.pool.most) × (self.new.index ≡ self.old.index) × (self.new.claimer ≡ self.old.claimer) }
         ensures last { self.new.pool.last ≡ moment }
         ensures expired { OnOk result (ExpiredBelow 4 moment self.new.pool.rings.items × (self.new.pool.held.items ≡ [])) }
     {
@@ -34,8 +35,11 @@ impl<N: CellNaming> ClaimTable<N> {
 
     /// Room for as many new claims.
     pub(crate) fn make_room(&mut self, wanted: usize) -> Result<(), OutOfMemory>
-        ensures same { (self.new.pool.claims.items ≡ self.old.pool.claims.items) × (self.new.pool.rings ≡ self.old.pool.rings) × (self.new.pool.most ≡ self.old.pool.most) × (self.new.pool.last ≡ self.old.pool.last) × (self.new.pool.held ≡ self.old.pool.held) × (self.new.claimer ≡ self.old.claimer) }
-        ensures room { OnOk result ((vec_len self.new.pool.claims + wanted ≤ vec_capacity self.new.pool.claims) × (wanted ≤ spare self.new.index)) }
+        ensures same { (self.new.pool.claims.items ≡ self.old.pool.claims.items) × (self.new.pool.rings ≡ self.old.pool.rings)
+            × (self.new.pool.most ≡ self.old.pool.most) × (self.new.pool.last ≡ self.old.pool.last)
+            × (self.new.pool.held ≡ self.old.pool.held) × (self.new.claimer ≡ self.old.claimer) }
+        ensures room { OnOk result ((vec_len self.new.pool.claims + wanted ≤ vec_capacity self.new.pool.claims)
+            × (wanted ≤ spare self.new.index)) }
     {
         self.index.reserve(wanted)?;
         self.pool.make_room(wanted)
@@ -54,9 +58,12 @@ impl<N: CellNaming> ClaimTable<N> {
         requires counter { claims_of listed self.old.pool.claims.items ≡ 0 }
         requires window { listed.start ≡ window_start listed.name.unit self.old.pool.last }
         requires ring { FitsRing (unit_rank listed.name.unit) (window_end_of listed) self.old.pool.rings.items }
-        ensures claims { BindsLast self.old.pool.reserved.items self.new.pool.reserved.items self.old.pool.claims.items self.new.pool.claims.items listed self.old.pool.last }
+        ensures claims { BindsLast self.old.pool.reserved.items self.new.pool.reserved.items self.old.pool.claims.items
+            self.new.pool.claims.items listed self.old.pool.last }
         ensures rings { KeepsFits (unit_rank listed.name.unit) (window_end_of listed) self.old.pool.rings.items self.new.pool.rings.items }
-        ensures lens { (vec_len self.new.pool.reserved + 1 ≡ vec_len self.old.pool.reserved) × (vec_len self.new.pool.claims ≡ vec_len self.old.pool.claims + 1) × (vec_capacity self.new.pool.claims ≡ vec_capacity self.old.pool.claims) × (spare self.old.index ≤ spare self.new.index + 1) }
+        ensures lens { (vec_len self.new.pool.reserved + 1 ≡ vec_len self.old.pool.reserved)
+            × (vec_len self.new.pool.claims ≡ vec_len self.old.pool.claims + 1)
+            × (vec_capacity self.new.pool.claims ≡ vec_capacity self.old.pool.claims) × (spare self.old.index ≤ spare self.new.index + 1) }
         ensures same { (self.new.pool.last ≡ self.old.pool.last) × (self.new.pool.most ≡ self.old.pool.most) }
     {
         let spot = self.pool.reserved[self.pool.reserved.len() - 1];
@@ -69,12 +76,15 @@ impl<N: CellNaming> ClaimTable<N> {
     /// Binds each of the counters to a reserved cell.
     pub(crate) fn bind_all(&mut self, cells: &Cells<N>, missing: Vec<NewCounter>)
         requires reserved { vec_len missing ≤ vec_len self.old.pool.reserved }
-        requires room { (vec_len self.old.pool.claims + vec_len missing ≤ vec_capacity self.old.pool.claims) × (vec_len missing ≤ spare self.old.index) }
+        requires room { (vec_len self.old.pool.claims + vec_len missing ≤ vec_capacity self.old.pool.claims)
+            × (vec_len missing ≤ spare self.old.index) }
         requires keys { AreOf self.old.pool.last missing.items × RingsFit self.old.pool.last self.old.pool.rings.items }
-        requires new { (q : CounterKey) → (key_count q missing.items ≤ 1) × (1 ≤ key_count q missing.items → claims_of q self.old.pool.claims.items ≡ 0) }
+        requires new { (q : CounterKey) → (key_count q missing.items ≤ 1)
+            × (1 ≤ key_count q missing.items → claims_of q self.old.pool.claims.items ≡ 0) }
         ensures adds { AddsEach self.old.pool.claims.items missing.items self.new.pool.claims.items }
         ensures grows { Grows self.old.pool.last self.old.pool.claims.items self.new.pool.claims.items }
-        ensures lens { (vec_len self.new.pool.claims ≡ vec_len self.old.pool.claims + vec_len missing) × (vec_len self.new.pool.reserved + vec_len missing ≡ vec_len self.old.pool.reserved) }
+        ensures lens { (vec_len self.new.pool.claims ≡ vec_len self.old.pool.claims + vec_len missing)
+            × (vec_len self.new.pool.reserved + vec_len missing ≡ vec_len self.old.pool.reserved) }
         ensures same { (self.new.pool.last ≡ self.old.pool.last) × (self.new.pool.most ≡ self.old.pool.most) }
     {
         for new in missing {
@@ -97,7 +107,9 @@ impl<N: CellNaming> ClaimTable<N> {
         requires later { self.old.pool.last ≤ moment }
         ensures last { OnOk result (self.new.pool.last ≡ moment) }
         ensures most { self.new.pool.most ≡ self.old.pool.most }
-        ensures did { Binds (record { cells = N.setup.cells; claims = self.old.pool.most; held = most_held }) moment keys.now (record { claimer = self.old.claimer; claims = self.old.pool.claims.items }) result (record { claimer = self.new.claimer; claims = self.new.pool.claims.items }) }
+        ensures did { Binds (record { cells = N.setup.cells; claims = self.old.pool.most; held = most_held }) moment keys.now
+            (record { claimer = self.old.claimer; claims = self.old.pool.claims.items }) result
+            (record { claimer = self.new.claimer; claims = self.new.pool.claims.items }) }
     {
         if self.expire(moment).is_err() {
             return Err(AcquireFault::OutOfMemory);

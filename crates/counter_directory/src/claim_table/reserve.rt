@@ -17,8 +17,10 @@ impl<N: CellNaming> ClaimTable<N> {
         ensures keeps { KeepsClaims self.old.pool self.new.pool }
         ensures same { (self.new.pool.fresh ≡ self.old.pool.fresh) × (self.new.index ≡ self.old.index) }
         ensures less { vec_len self.new.pool.expired + 1 ≡ vec_len self.old.pool.expired }
-        ensures one { vec_len self.new.pool.reserved + vec_len self.new.pool.held ≡ vec_len self.old.pool.reserved + vec_len self.old.pool.held + 1 }
-        ensures none_less { (vec_len self.old.pool.reserved ≤ vec_len self.new.pool.reserved) × (vec_len self.old.pool.held ≤ vec_len self.new.pool.held) }
+        ensures one { vec_len self.new.pool.reserved + vec_len self.new.pool.held ≡ vec_len self.old.pool.reserved + vec_len
+            self.old.pool.held + 1 }
+        ensures none_less { (vec_len self.old.pool.reserved ≤ vec_len self.new.pool.reserved)
+            × (vec_len self.old.pool.held ≤ vec_len self.new.pool.held) }
         ensures held { HeldSince self.old.claimer self.new.claimer self.old.pool.held.items self.new.pool.held.items }
     {
         let cell = self.pool.expired[self.pool.expired.len() - 1];
@@ -34,8 +36,10 @@ impl<N: CellNaming> ClaimTable<N> {
         requires room { vec_len self.old.pool.reserved < MOST_PINS }
         requires next_claim { self.old.pool.next_claim < self.old.pool.most }
         ensures keeps { KeepsClaims self.old.pool self.new.pool }
-        ensures same { (self.new.pool.expired ≡ self.old.pool.expired) × (self.new.pool.held ≡ self.old.pool.held) × (self.new.index ≡ self.old.index) }
-        ensures lens { (vec_len self.old.pool.reserved ≤ vec_len self.new.pool.reserved) × (vec_len self.new.pool.reserved ≤ vec_len self.old.pool.reserved + 1) }
+        ensures same { (self.new.pool.expired ≡ self.old.pool.expired) × (self.new.pool.held ≡ self.old.pool.held)
+            × (self.new.index ≡ self.old.index) }
+        ensures lens { (vec_len self.old.pool.reserved ≤ vec_len self.new.pool.reserved)
+            × (vec_len self.new.pool.reserved ≤ vec_len self.old.pool.reserved + 1) }
         ensures held { HeldSince self.old.claimer self.new.claimer self.old.pool.held.items self.new.pool.held.items }
     {
         match cells.reclaim(&mut self.claimer, self.pool.fresh, self.pool.next_claim) {
@@ -57,7 +61,10 @@ impl<N: CellNaming> ClaimTable<N> {
         requires held { self.old.pool.held.items ≡ [] }
         ensures keeps { KeepsClaims self.old.pool self.new.pool }
         ensures same { self.new.index ≡ self.old.index }
-        ensures reserved { MatchBool result ((wanted ≤ vec_len self.new.pool.reserved) × (vec_len self.new.pool.reserved ≡ max (vec_len self.old.pool.reserved) wanted)) ((vec_len self.new.pool.reserved < wanted) × (vec_len self.new.pool.expired ≡ 0) × (self.new.pool.cells ≤ self.new.pool.fresh) × (vec_len self.new.pool.held ≤ most_held)) }
+        ensures reserved { MatchBool result ((wanted ≤ vec_len self.new.pool.reserved)
+            × (vec_len self.new.pool.reserved ≡ max (vec_len self.old.pool.reserved) wanted))
+            ((vec_len self.new.pool.reserved < wanted) × (vec_len self.new.pool.expired ≡ 0) × (self.new.pool.cells ≤ self.new.pool.fresh)
+            × (vec_len self.new.pool.held ≤ most_held)) }
         ensures held { HeldSince self.old.claimer self.new.claimer [] self.new.pool.held.items }
     {
         for _round in rt.forever() {

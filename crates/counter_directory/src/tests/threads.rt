@@ -128,11 +128,13 @@ fn take_in_four_threads<N: CellNaming + Send + Sync, R: Threads + Wait + Sync>(
     let (ab, cd) = join(
         rt,
         || -> Option<(DirectoryPass<N>, DirectoryPass<N>)>
-            requires { (list_of a.pass ≡ directory.now.list_id) × (a.cell_pass.good ≡ []) × (list_of b.pass ≡ directory.now.list_id) × (b.cell_pass.good ≡ []) }
+            requires { (list_of a.pass ≡ directory.now.list_id) × (a.cell_pass.good ≡ []) × (list_of b.pass ≡ directory.now.list_id)
+                × (b.cell_pass.good ≡ []) }
             ensures { IfSome result (λ r. (list_of r.0 ≡ directory.entry.now.list_id) × (list_of r.1 ≡ directory.entry.now.list_id)) }
         { take_in_two_threads(rt, alloc, directory, cells, a, b, 0) },
         || -> Option<(DirectoryPass<N>, DirectoryPass<N>)>
-            requires { (list_of c.pass ≡ directory.now.list_id) × (c.cell_pass.good ≡ []) × (list_of d.pass ≡ directory.now.list_id) × (d.cell_pass.good ≡ []) }
+            requires { (list_of c.pass ≡ directory.now.list_id) × (c.cell_pass.good ≡ []) × (list_of d.pass ≡ directory.now.list_id)
+                × (d.cell_pass.good ≡ []) }
             ensures { IfSome result (λ r. (list_of r.0 ≡ directory.entry.now.list_id) × (list_of r.1 ≡ directory.entry.now.list_id)) }
         { take_in_two_threads(rt, alloc, directory, cells, c, d, 5_000) },
     );

@@ -19,10 +19,12 @@ loop-seen-preserved g c =
     let rest = subst (All (λ x. IsFresh (arc_value first ∷ []) (view x))) steps i.rest in
     record {
       whole = append_assoc c.loop-seen.yielded (s ∷ []) c.next.new.self.rest.items ∙ ap (λ l. c.loop-seen.yielded ++ l) (sym steps) ∙ i.whole;
-      same = ap (map (λ p. p.seen)) c.push_reserved.ensures.items ∙ map-append (λ p. p.seen) c.loop-seen.passes.items (pass ∷ []) ∙ ap (λ l. l ++ pass.seen ∷ []) i.same ∙ ap (λ x. c.loop-seen.yielded ++ x ∷ []) c.first_pass-pass.ensures.token;
+      same = ap (map (λ p. p.seen)) c.push_reserved.ensures.items ∙ map-append (λ p. p.seen) c.loop-seen.passes.items (pass ∷ []) ∙ ap (λ l. l ++ pass.seen ∷ []) i.same
+          ∙ ap (λ x. c.loop-seen.yielded ++ x ∷ []) c.first_pass-pass.ensures.token;
       first =
           subst (All (λ p. IsFirst (arc_value first) (pass_state p))) (sym c.push_reserved.ensures.items)
-          (All-push (λ p. IsFirst (arc_value first) (pass_state p)) c.loop-seen.passes.items pass i.first (subst (λ v. IsFirst v (pass_state pass)) c.in_ok-index.ensures c.first_pass-pass.ensures.first));
+          (All-push (λ p. IsFirst (arc_value first) (pass_state p)) c.loop-seen.passes.items pass i.first
+          (subst (λ v. IsFirst v (pass_state pass)) c.in_ok-index.ensures c.first_pass-pass.ensures.first));
       rest = all_rest (λ x. IsFresh (arc_value first ∷ []) (view x)) s c.next.new.self.rest.items rest;
       room = grind (arith, common_steps);
     }

@@ -15,6 +15,7 @@ split_seat-seat-requires g c =
       c.requires.claimer.0 ∙ sym c.requires.table.0,
       omega (arith, ap (λ (t : TableId). t.words) c.requires.table.0, c.requires.table.2),
       splits_as c.args.table.now.shared.key c.args.claimer.now.id v (one_less v) (new_pass v)
-          (splits c.args.table.now.shared.key c.args.claimer.now.id v (let e = ap (λ (m : Me ℕ CellView). m.0.unmade) is in omega (arith, c.requires.left.0)) (ap (λ (m : Me ℕ CellView). m.0.claimer) is)
+          (splits c.args.table.now.shared.key c.args.claimer.now.id v (let e = ap (λ (m : Me ℕ CellView). m.0.unmade) is in omega (arith, c.requires.left.0))
+          (ap (λ (m : Me ℕ CellView). m.0.claimer) is)
           (ap (λ (m : Me ℕ CellView). m.0.moment) is ∙ ap (λ (a : Setup). a.start) (sym c.requires.table.1))),
     )

@@ -15,7 +15,8 @@ loop-done-preserved g c =
       here = s.claimer.0;
       left = s.claimer.1 ∙ ap (λ n. (claimer_left g.N.CellNaming.setup n, [])) (let e : p - d - 1 ≡ p - (d + 1) = omega arith in e);
       made = ap (λ (l : List CellView). l ++ rest) c.push_reserved.ensures.items ∙ append_assoc c.loop-done.made.items (c.split-pass.result ∷ []) rest
-          ∙ ap (λ (x : CellView). c.loop-done.made.items ++ x ∷ rest) s.pass ∙ ap (λ (l : List CellView). c.loop-done.made.items ++ l) (sym (next_pass p d c.args.start c.loop-done-test.true)) ∙ i.made;
+          ∙ ap (λ (x : CellView). c.loop-done.made.items ++ x ∷ rest) s.pass
+          ∙ ap (λ (l : List CellView). c.loop-done.made.items ++ l) (sym (next_pass p d c.args.start c.loop-done-test.true)) ∙ i.made;
       len = c.push_reserved.ensures.len ∙ ap (λ n. n + 1) i.len;
       room = omega (arith, i.room, c.push_reserved.ensures.capacity);
     }

@@ -6,8 +6,11 @@ use Rattle.counter_cells.proofs.tests.charge_in_threads.Goals as goal
 pub loop-charged-preserved : goal.loop-charged-preserved
 loop-charged-preserved g c =
     let i = c.loop-charged.invariant in
-    let t = all_tail (λ o. IfSome o (λ x. x.pass.good ≡ [])) c.in-Some.charged c.next.new.self.rest.items (subst (All (λ o. IfSome o (λ x. x.pass.good ≡ []))) c.in-Some.ensures.steps.0 i.rest) in
+    let t = all_tail (λ o. IfSome o (λ x. x.pass.good ≡ [])) c.in-Some.charged c.next.new.self.rest.items
+    (subst (All (λ o. IfSome o (λ x. x.pass.good ≡ []))) c.in-Some.ensures.steps.0 i.rest) in
     record {
-      bare = subst (All (λ p. p.good ≡ [])) (sym c.in_ok-push.ensures.items) (all_push (λ p. p.good ≡ []) c.loop-charged.passes.items c.in_ok-charged.charged.pass i.bare (subst (λ o. IfSome o (λ x. x.pass.good ≡ [])) c.in_ok-charged.ensures.ok_part t.0));
+      bare = subst (All (λ p. p.good ≡ [])) (sym c.in_ok-push.ensures.items)
+          (all_push (λ p. p.good ≡ []) c.loop-charged.passes.items c.in_ok-charged.charged.pass i.bare
+          (subst (λ o. IfSome o (λ x. x.pass.good ≡ [])) c.in_ok-charged.ensures.ok_part t.0));
       rest = t.1;
     }

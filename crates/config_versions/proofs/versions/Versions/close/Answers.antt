@@ -8,10 +8,14 @@ use Rattle.config_versions.proofs.Lists.{all_parts, all_of_parts, total_map, own
 use Rattle.config_versions.proofs.versions.Versions.close.Goals as goal
 
 pub close-versions-requires-clause-seats : goal.close-versions-requires-clause-seats
-close-versions-requires-clause-seats g c = subst (All (λ s. list_of s ≡ list_id c.args.self.told)) (sym c.in_ok-seats.ensures) (all_of_parts (λ p. p.seen) (λ s. list_of s ≡ list_id c.args.self.told) c.args.passes.items c.requires.passes)
+close-versions-requires-clause-seats g c =
+    subst (All (λ s. list_of s ≡ list_id c.args.self.told)) (sym c.in_ok-seats.ensures)
+    (all_of_parts (λ p. p.seen) (λ s. list_of s ≡ list_id c.args.self.told) c.args.passes.items c.requires.passes)
 
 pub returns-clause-prefixes : goal.returns-clause-prefixes
-returns-clause-prefixes g c = all_parts (λ p. p.seen) (λ s. IsPrefix (known s) (map arc_value c.close-versions.result.versions.items)) c.args.passes.items (subst (All (λ s. IsPrefix (known s) (map arc_value c.close-versions.result.versions.items))) c.in_ok-seats.ensures c.close-versions.ensures.prefixes)
+returns-clause-prefixes g c =
+    all_parts (λ p. p.seen) (λ s. IsPrefix (known s) (map arc_value c.close-versions.result.versions.items)) c.args.passes.items
+    (subst (All (λ s. IsPrefix (known s) (map arc_value c.close-versions.result.versions.items))) c.in_ok-seats.ensures c.close-versions.ensures.prefixes)
 
 pub returns-clause-owned : goal.returns-clause-owned
 returns-clause-owned g c = λ n.

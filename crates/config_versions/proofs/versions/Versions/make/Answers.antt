@@ -11,6 +11,8 @@ returns-clause-first g c =
     let passes = c.in_ok-passes.passes.items in
     let told = c.in_ok-told.told in
     let version_list = c.in_ok-version_list.version_list in
-    let mine = all_left (λ s. list_of s ≡ list_id told) (λ s. IsFresh (map arc_value version_list.versions.items) (view s)) c.in_ok-told.seats.items c.in_ok-told.ensures.tokens in
+    let mine = all_left (λ s. list_of s ≡ list_id told) (λ s. IsFresh (map arc_value version_list.versions.items) (view s)) c.in_ok-told.seats.items c.in_ok-told.ensures.tokens
+    in
     all_both (λ p. list_of p.seen ≡ list_id told) (λ p. IsFirst (arc_value c.args.first) (pass_state p)) passes
-    (all_parts (λ p. p.seen) (λ s. list_of s ≡ list_id told) passes (subst (All (λ s. list_of s ≡ list_id told)) (sym c.in_ok-passes.ensures.tokens) mine)) c.in_ok-passes.ensures.first
+    (all_parts (λ p. p.seen) (λ s. list_of s ≡ list_id told) passes (subst (All (λ s. list_of s ≡ list_id told)) (sym c.in_ok-passes.ensures.tokens) mine))
+    c.in_ok-passes.ensures.first

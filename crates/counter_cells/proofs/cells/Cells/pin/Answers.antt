@@ -10,5 +10,6 @@ fetch_sub-requires g c =
       taken.seat.0 ∙ sym cells.named.0,
       omega (arith, c.gate.ensures, cells.words.0, cells.size.0, c.requires.cell),
       unpin_stray_asks cells.table.shared.key _ cells.named.1 _ _ c.args.spot.cell c.gate.result _ c.requires.cell c.gate.ensures
-          (strays c.args.spot.claim c.args.spot.cell c.take_pin-word.result c.pass.inside.seat.me.0 c.take_pin-word.new.seat.me.0 taken.pinned (sym c.shows.ensures ∙ c.if-shows.false)),
+          (strays c.args.spot.claim c.args.spot.cell c.take_pin-word.result c.pass.inside.seat.me.0 c.take_pin-word.new.seat.me.0 taken.pinned
+          (sym c.shows.ensures ∙ c.if-shows.false)),
     )

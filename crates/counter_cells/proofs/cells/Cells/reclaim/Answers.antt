@@ -19,9 +19,11 @@ compare_exchange-found-requires g c =
     let peeked = c.load-word.ensures.2.0 in (
       c.load-word.ensures.0 ∙ c.claimer.invariant.0.0 ∙ sym cells.named.0,
       omega (arith, c.gate-index.ensures, cells.words.0, cells.size.0, c.requires.cell),
-      reclaim_asks cells.table.shared.key _ cells.named.1 _ _ c.args.cell c.gate-index.result _ c.requires.cell c.gate-index.ensures c.without_pins-bare.result c.closed.result c.args.next
+      reclaim_asks cells.table.shared.key _ cells.named.1 _ _ c.args.cell c.gate-index.result _ c.requires.cell c.gate-index.ensures c.without_pins-bare.result c.closed.result
+          c.args.next
           (ap (λ (v : CellView). v.claimer) peeked.0 ∙ c.claimer.invariant.1.role)
-          (bare_is c.args.cell c.gate-index.result c.load-word.result c.without_pins-bare.result c.claimer.inside.seat.me.0 c.load-word.new.seat.me.0 c.gate-index.ensures peeked.0 peeked.1 peeked.2 c.without_pins-bare.ensures)
+          (bare_is c.args.cell c.gate-index.result c.load-word.result c.without_pins-bare.result c.claimer.inside.seat.me.0 c.load-word.new.seat.me.0 c.gate-index.ensures
+          peeked.0 peeked.1 peeked.2 c.without_pins-bare.ensures)
           c.closed.ensures c.requires.next.0
           (ap (λ (v : CellView). times c.args.next v.used_claims) (peeked.0 ∙ c.claimer.view_is) ∙ c.requires.next.1),
     )

@@ -14,5 +14,6 @@ fetch_sub-requires g c =
 pub invariant_of-pass : goal.invariant_of-pass
 invariant_of-pass g c =
     let i = c.pass.invariant in
-    let p = still_pass c.args.cell c.gate.result c.pass.inside.seat.me.0 c.fetch_sub.new.seat.me.0 c.gate.ensures c.fetch_sub.ensures.2.0 (rw c.pass.view_is c.requires.pin) i.1 in
+    let p = still_pass c.args.cell c.gate.result c.pass.inside.seat.me.0 c.fetch_sub.new.seat.me.0 c.gate.ensures c.fetch_sub.ensures.2.0
+    (rw c.pass.view_is c.requires.pin) i.1 in
     ((c.fetch_sub.ensures.0 ∙ i.0.0, c.fetch_sub.ensures.2.1 ∙ i.0.1), p.0, i.2 ∙ sym p.1, omega (arith, p.2, i.3))

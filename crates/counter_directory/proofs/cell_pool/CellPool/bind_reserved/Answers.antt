@@ -41,12 +41,19 @@ invariant_of-self c =
     let here : get_elem? s.rings.items (unit_rank c.args.key.name.unit) ≡ some r = subst (λ n. get_elem? s.rings.items n ≡ some r) rank at in
     let x : Claim = record { key = c.args.key; cell = c.in-Some.spot.cell; claim = c.in-Some.spot.claim; moment = s.last } in
     record {
-      cells_lawful = pool_more _ s.last _ _ _ r _ x s.claims.items _ s.rings.items _ _ s.reserved.items _ c.in-Some.ensures.items c.push_reserved.ensures.items (omega arith) at (c.requires.ring r here) c.end-end.ensures c.push_reserved-in-Some.ensures.items s.cells_lawful;
-      lawful = lawful_bound _ s.last _ _ _ x s.claims.items _ s.rings.items _ _ s.reserved.items _ c.in-Some.ensures.items c.push_reserved.ensures.items refl s.few c.requires.counter (start_before s.last c.args.key c.requires.window) (end_later s.last c.args.key c.requires.window) s.cells_lawful s.lawful;
+      cells_lawful = pool_more _ s.last _ _ _ r _ x s.claims.items _ s.rings.items _ _ s.reserved.items _ c.in-Some.ensures.items c.push_reserved.ensures.items (omega arith) at
+          (c.requires.ring r here) c.end-end.ensures c.push_reserved-in-Some.ensures.items s.cells_lawful;
+      lawful = lawful_bound _ s.last _ _ _ x s.claims.items _ s.rings.items _ _ s.reserved.items _ c.in-Some.ensures.items c.push_reserved.ensures.items refl s.few
+          c.requires.counter (start_before s.last c.args.key c.requires.window) (end_later s.last c.args.key c.requires.window) s.cells_lawful s.lawful;
       four = s.four;
       next_claim_is = omega (arith, s.next_claim_is, c.push_reserved.ensures.len, c.in-Some.ensures.cases);
       few = s.few;
-      room = (s.room.0, s.room.1, omega (arith, s.room.2, c.in-Some.ensures.capacity), roomy_set s.cells u _ s.rings.items (omega (arith, s.room.3 u r at, c.push_reserved-in-Some.ensures.capacity)) s.room.3);
+      room = (
+        s.room.0,
+        s.room.1,
+        omega (arith, s.room.2, c.in-Some.ensures.capacity),
+        roomy_set s.cells u _ s.rings.items (omega (arith, s.room.3 u r at, c.push_reserved-in-Some.ensures.capacity)) s.room.3,
+      );
       windows = windows_new s.last u _ s.rings.items (c.end-end.ensures ∙ end_rank s.last c.args.key c.requires.window ∙ ap (λ n. end_at n s.last) (sym rank)) s.windows;
       sizes = s.sizes;
     }

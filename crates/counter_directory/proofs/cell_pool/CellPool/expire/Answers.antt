@@ -8,7 +8,8 @@ pub invariant_of-self : goal.invariant_of-self
 invariant_of-self c =
     let s = c.args.self.now in
     record {
-      cells_lawful = joins_held (is_ok c.append.result) _ _ _ _ _ _ s.expired.items _ s.held.items _ _ c.append.ensures.items c.append.ensures.other_items (later _ s.last _ _ _ _ _ _ _ _ c.requires s.cells_lawful);
+      cells_lawful = joins_held (is_ok c.append.result) _ _ _ _ _ _ s.expired.items _ s.held.items _ _ c.append.ensures.items c.append.ensures.other_items
+          (later _ s.last _ _ _ _ _ _ _ _ c.requires s.cells_lawful);
       lawful = s.lawful;
       four = s.four;
       next_claim_is = s.next_claim_is;

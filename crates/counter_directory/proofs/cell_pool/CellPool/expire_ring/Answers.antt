@@ -13,12 +13,18 @@ invariant_of-self c =
     let r = c.index_mut-ring.result.now in
     let at : get_elem? s.rings.items c.args.unit ≡ some r = at_index s.rings.items c.args.unit r (omega (arith, s.rings.ok.0, s.four)) c.index_mut-ring.ensures.value in
     record {
-      cells_lawful = empties_ring (is_ok c.append.result) _ s.last _ _ _ r _ _ _ s.expired.items _ _ _ at (omega (arith, c.if-ring-last.true, c.get-last.ensures.value)) refl c.append.ensures.items c.append.ensures.other_items s.cells_lawful;
+      cells_lawful = empties_ring (is_ok c.append.result) _ s.last _ _ _ r _ _ _ s.expired.items _ _ _ at
+          (omega (arith, c.if-ring-last.true, c.get-last.ensures.value)) refl c.append.ensures.items c.append.ensures.other_items s.cells_lawful;
       lawful = s.lawful;
       four = s.four;
       next_claim_is = s.next_claim_is;
       few = s.few;
-      room = (omega (arith, s.room.0, c.append.ensures.capacity), s.room.1, s.room.2, roomy_set s.cells c.args.unit _ s.rings.items (omega (arith, s.room.3 c.args.unit r at, c.append.ensures.other_capacity)) s.room.3);
+      room = (
+        omega (arith, s.room.0, c.append.ensures.capacity),
+        s.room.1,
+        s.room.2,
+        roomy_set s.cells c.args.unit _ s.rings.items (omega (arith, s.room.3 c.args.unit r at, c.append.ensures.other_capacity)) s.room.3,
+      );
       windows = windows_set _ _ r _ _ at refl s.windows;
       sizes = s.sizes;
     }

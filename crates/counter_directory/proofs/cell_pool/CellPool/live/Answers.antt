@@ -13,10 +13,12 @@ live_of : (s : CellPool) → ExpiredBelow 4 s.last s.rings.items → live_below 
 live_of s e = live_is _ _ _ _ _ _ _ _ _ s.cells_lawful (omega (arith, s.rings.ok.0, s.four)) e
 
 pub overflow_add-rest-2 : goal.overflow_add-rest-2
-overflow_add-rest-2 c = let a = all_of c.args.self.now in let m = c.args.self.now.cells_lawful.most in let z = c.args.self.now.sizes.0 in let n : c.len.result + c.len-2.result + c.len-3.result < 2 ^ 64 = omega (arith, c.len.ensures, c.len-2.ensures, c.len-3.ensures) in search rules
+overflow_add-rest-2 c = let a = all_of c.args.self.now in let m = c.args.self.now.cells_lawful.most in let z = c.args.self.now.sizes.0 in
+    let n : c.len.result + c.len-2.result + c.len-3.result < 2 ^ 64 = omega (arith, c.len.ensures, c.len-2.ensures, c.len-3.ensures) in search rules
 
 pub overflow_cast-result : goal.overflow_cast-result
-overflow_cast-result c = let a = all_of c.args.self.now in let m = c.args.self.now.cells_lawful.most in let z = c.args.self.now.sizes.0 in let n : c.len.result + c.len-2.result + c.len-3.result < 2 ^ 32 = omega (arith, c.len.ensures, c.len-2.ensures, c.len-3.ensures) in search rules
+overflow_cast-result c = let a = all_of c.args.self.now in let m = c.args.self.now.cells_lawful.most in let z = c.args.self.now.sizes.0 in
+    let n : c.len.result + c.len-2.result + c.len-3.result < 2 ^ 32 = omega (arith, c.len.ensures, c.len-2.ensures, c.len-3.ensures) in search rules
 
 pub overflow_sub-result : goal.overflow_sub-result
 overflow_sub-result c = omega (arith, all_of c.args.self.now, c.len.ensures, c.len-2.ensures, c.len-3.ensures)

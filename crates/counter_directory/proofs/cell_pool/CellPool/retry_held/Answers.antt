@@ -9,7 +9,8 @@ invariant_of-self c =
     let s = c.args.self.now in
     let e = c.swap.ensures in
     record {
-      cells_lawful = swaps_held _ _ _ _ _ _ s.expired.items _ s.held.items _ _ (omega (arith, s.expired.ok.0, c.requires)) (ap (λ v. v.items) e.x_after) (ap (λ v. v.items) e.y_after) s.cells_lawful;
+      cells_lawful = swaps_held _ _ _ _ _ _ s.expired.items _ s.held.items _ _ (omega (arith, s.expired.ok.0, c.requires)) (ap (λ v. v.items) e.x_after)
+          (ap (λ v. v.items) e.y_after) s.cells_lawful;
       lawful = s.lawful;
       four = s.four;
       next_claim_is = s.next_claim_is;
@@ -20,4 +21,7 @@ invariant_of-self c =
     }
 
 pub returns-clause-held : goal.returns-clause-held
-returns-clause-held c = let s = c.args.self.now in (ap (λ v. v.items) c.swap.ensures.x_after, ap (λ v. v.items) c.swap.ensures.y_after ∙ empty s.expired.items (omega (arith, s.expired.ok.0, c.requires)))
+returns-clause-held c = let s = c.args.self.now in (
+  ap (λ v. v.items) c.swap.ensures.x_after,
+  ap (λ v. v.items) c.swap.ensures.y_after ∙ empty s.expired.items (omega (arith, s.expired.ok.0, c.requires)),
+)

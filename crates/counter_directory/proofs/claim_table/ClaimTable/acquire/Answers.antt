@@ -23,9 +23,12 @@ returns-clause-did g c =
     let bounds : Bounds = record { cells = g.N.CellNaming.setup.cells; claims = a.pool.most; held = c.args.most_held } in
     let found : ClaimTableView = record { claimer = a.claimer; claims = a.pool.claims.items } in
     let left : ClaimTableView = record { claimer = b.claimer; claims = b.pool.claims.items } in
-    let all : AreOf b.pool.last c.as_slice-2.result.now = subst (λ t. AreOf t c.as_slice-2.result.now) (sym c.in_default-bind_missing.ensures.last) (subst (λ (l : List CounterKey). AreOf m l) (sym e) (are_of m c.args.names.now)) in
+    let all : AreOf b.pool.last c.as_slice-2.result.now = subst (λ t. AreOf t c.as_slice-2.result.now) (sym c.in_default-bind_missing.ensures.last)
+    (subst (λ (l : List CounterKey). AreOf m l) (sym e) (are_of m c.args.names.now)) in
     let did = subst (λ (l : List CounterKey). HasBound bounds m l found left) (c.as_slice.ensures.value ∙ sym c.as_slice-2.ensures.value) c.in_default-bind_missing.ensures.did in
-    acquires bounds m c.args.names.now c.as_slice-2.result.now c.args.cell_pass.now c.tick_up-moment.new.cell_pass c.pin_all-spots.new.cell_pass found left (record { moment = m; spots = c.pin_all-spots.result }) e refl c.tick_up-moment.ensures.moment.0 c.tick_up-moment.ensures.ticked c.pin_all-spots.ensures.pinned c.pin_all-spots.ensures.bound.1 c.pin_all-spots.ensures.bound.0
+    acquires bounds m c.args.names.now c.as_slice-2.result.now c.args.cell_pass.now c.tick_up-moment.new.cell_pass c.pin_all-spots.new.cell_pass found left
+    (record { moment = m; spots = c.pin_all-spots.result }) e refl c.tick_up-moment.ensures.moment.0 c.tick_up-moment.ensures.ticked c.pin_all-spots.ensures.pinned
+    c.pin_all-spots.ensures.bound.1 c.pin_all-spots.ensures.bound.0
     (agrees b.claimer b.pool.last c.as_slice-2.result.now c.pin_all-spots.result.items c.pin_all-spots.ensures.bound.0 all c.pin_all-spots.ensures.shown) did
 
 pub returns-clause-later : goal.returns-clause-later

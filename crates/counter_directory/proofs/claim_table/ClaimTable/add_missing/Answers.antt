@@ -8,10 +8,16 @@ pub returns-then-not-has_no_claim-clause-adds : goal.returns-then-not-has_no_cla
 returns-then-not-has_no_claim-clause-adds g c = adds_missing_not c.args.self.now.pool.claims.items c.args.key.now c.args.missing.now.items (sym c.if-not-has_no_claim.ensures)
 
 pub returns-then-contains-clause-adds : goal.returns-then-contains-clause-adds
-returns-then-contains-clause-adds g c = adds_missing_there c.args.self.now.pool.claims.items c.args.key.now c.args.missing.now.items (ap (λ l. ltb 0 (key_count c.args.key.now l)) (sym c.as_slice.ensures.value) ∙ sym c.if-contains.ensures)
+returns-then-contains-clause-adds g c =
+    adds_missing_there c.args.self.now.pool.claims.items c.args.key.now c.args.missing.now.items
+    (ap (λ l. ltb 0 (key_count c.args.key.now l)) (sym c.as_slice.ensures.value) ∙ sym c.if-contains.ensures)
 
 pub returns-clause-adds : goal.returns-clause-adds
-returns-clause-adds g c = adds_missing_new c.args.self.now.pool.claims.items c.args.key.now c.args.missing.now.items _ (sym c.if-not-has_no_claim.ensures) (ap (λ l. ltb 0 (key_count c.args.key.now l)) (sym c.as_slice.ensures.value) ∙ sym c.if-contains.ensures) (c.push_reserved.ensures.items ∙ ap (λ k. c.args.missing.now.items ++ k ∷ []) c.in_ok-new.ensures)
+returns-clause-adds g c =
+    adds_missing_new c.args.self.now.pool.claims.items c.args.key.now c.args.missing.now.items _ (sym c.if-not-has_no_claim.ensures)
+    (ap (λ l. ltb 0 (key_count c.args.key.now l)) (sym c.as_slice.ensures.value) ∙ sym c.if-contains.ensures)
+    (c.push_reserved.ensures.items ∙ ap (λ k. c.args.missing.now.items ++ k ∷ []) c.in_ok-new.ensures)
 
 pub returns-clause-among : goal.returns-clause-among
-returns-clause-among g c = λ m is all. of_more m c.args.key.now c.args.missing.now.items _ (c.push_reserved.ensures.items ∙ ap (λ k. c.args.missing.now.items ++ k ∷ []) c.in_ok-new.ensures) is all
+returns-clause-among g c =
+    λ m is all. of_more m c.args.key.now c.args.missing.now.items _ (c.push_reserved.ensures.items ∙ ap (λ k. c.args.missing.now.items ++ k ∷ []) c.in_ok-new.ensures) is all

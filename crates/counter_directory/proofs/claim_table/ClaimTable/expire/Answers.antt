@@ -9,6 +9,7 @@ invariant_of-self g c =
     let e = c.expire.ensures in
     record {
       size = e.numbers.cells ∙ b.size;
-      gates = gates_to _ _ _ _ _ _ _ _ _ _ _ e.numbers.cells e.last e.numbers.next_claim (ap (λ z. z.items) e.same.0) (ap (λ z. z.items) e.same.1) (gates_later b.claimer b.pool.cells b.pool.last c.args.moment b.pool.next_claim b.pool.claims.items b.pool.reserved.items c.requires b.gates);
+      gates = gates_to _ _ _ _ _ _ _ _ _ _ _ e.numbers.cells e.last e.numbers.next_claim (ap (λ z. z.items) e.same.0) (ap (λ z. z.items) e.same.1)
+          (gates_later b.claimer b.pool.cells b.pool.last c.args.moment b.pool.next_claim b.pool.claims.items b.pool.reserved.items c.requires b.gates);
       found = indexed_to _ _ _ (ap (λ z. z.items) e.same.0) b.found;
     }

@@ -11,8 +11,10 @@ loop-key-preserved g c =
     let f = c.in_ok-add_missing.ensures in
     let claims = c.args.self.now.pool.claims.items in
     record {
-      missing = missing_more claims c.args.keys.now c.loop-key.missing.items c.add_missing.new.missing.items c.loop-key.key-index c.key-item.result (omega arith) (subst (λ (k : CounterKey). AddsMissing claims k c.loop-key.missing.items c.add_missing.new.missing.items) c.key-item.is f.adds) i.missing;
-      among = λ m all. f.among m (subst (λ (k : CounterKey). AreOf m (k ∷ [])) (sym c.key-item.is) (of_one m c.args.keys.now c.loop-key.key-index c.key-item.result (omega arith) all)) (i.among m all);
+      missing = missing_more claims c.args.keys.now c.loop-key.missing.items c.add_missing.new.missing.items c.loop-key.key-index c.key-item.result (omega arith)
+          (subst (λ (k : CounterKey). AddsMissing claims k c.loop-key.missing.items c.add_missing.new.missing.items) c.key-item.is f.adds) i.missing;
+      among = λ m all. f.among m (subst (λ (k : CounterKey). AreOf m (k ∷ [])) (sym c.key-item.is)
+          (of_one m c.args.keys.now c.loop-key.key-index c.key-item.result (omega arith) all)) (i.among m all);
       few = omega (arith, e.room.0, i.few);
       room = e.room.1 ∙ i.room;
     }

@@ -25,8 +25,12 @@ loop-key-preserved g c =
     let s = c.pin_one-spot.result in
     let b = c.args.self.now in
     record {
-      pinned = pins_more c.loop-key.spots.items c.push.new.self.items s c.args.cell_pass.now c.loop-key.cell_pass c.pin_one-spot.new.cell_pass c.push.ensures.items i.pinned e.pinned;
+      pinned = pins_more c.loop-key.spots.items c.push.new.self.items s c.args.cell_pass.now c.loop-key.cell_pass c.pin_one-spot.new.cell_pass c.push.ensures.items i.pinned
+          e.pinned;
       len = omega (arith, c.push.ensures.len, i.len);
-      bound = bound_more b.pool.claims.items c.args.keys.now c.loop-key.spots.items c.push.new.self.items c.loop-key.key-index c.key-item.result s (omega arith) i.len c.push.ensures.items (subst (λ (k : CounterKey). 1 ≤ bindings_of k s.cell s.claim b.pool.claims.items) c.key-item.is e.bound) i.bound;
-      shown = shown_more b.claimer b.pool.last c.args.keys.now c.loop-key.spots.items c.push.new.self.items c.loop-key.key-index c.key-item.result s (omega arith) i.len c.push.ensures.items (subst (λ (k : CounterKey). b.pool.last < window_end_of k → (cell_or b.claimer.cells s.cell).claim ≡ s.claim) c.key-item.is e.shown) i.shown;
+      bound = bound_more b.pool.claims.items c.args.keys.now c.loop-key.spots.items c.push.new.self.items c.loop-key.key-index c.key-item.result s
+          (omega arith) i.len c.push.ensures.items (subst (λ (k : CounterKey). 1 ≤ bindings_of k s.cell s.claim b.pool.claims.items) c.key-item.is e.bound) i.bound;
+      shown = shown_more b.claimer b.pool.last c.args.keys.now c.loop-key.spots.items c.push.new.self.items c.loop-key.key-index c.key-item.result s
+          (omega arith) i.len c.push.ensures.items (subst (λ (k : CounterKey). b.pool.last < window_end_of k
+          → (cell_or b.claimer.cells s.cell).claim ≡ s.claim) c.key-item.is e.shown) i.shown;
     }

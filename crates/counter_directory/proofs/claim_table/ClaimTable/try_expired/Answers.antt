@@ -9,8 +9,10 @@ use Rattle.counter_directory.proofs.Indexing.{indexed_to}
 use Rattle.counter_directory.proofs.claim_table.ClaimTable.try_expired.Goals as goal
 
 -- the cell read may be taken
-may : (s : CellPool) (n cell : ℕ) → n ≡ vec_len s.expired → 0 < vec_len s.expired → cell ≡ get_or s.expired.items (n - 1) cell → (cell < s.cells) × (reserved_on cell s.reserved.items ≡ 0) × (last_end 0 cell s.claims.items ≤ s.last)
-may s n cell len some is = expired_cell s.cells s.last _ _ n cell cell s.claims.items _ s.expired.items _ s.reserved.items (omega (arith, s.expired.ok.0)) (omega arith) is s.cells_lawful
+may : (s : CellPool) (n cell : ℕ) → n ≡ vec_len s.expired → 0 < vec_len s.expired → cell ≡ get_or s.expired.items (n - 1) cell → (cell < s.cells)
+    × (reserved_on cell s.reserved.items ≡ 0) × (last_end 0 cell s.claims.items ≤ s.last)
+may s n cell len some is =
+    expired_cell s.cells s.last _ _ n cell cell s.claims.items _ s.expired.items _ s.reserved.items (omega (arith, s.expired.ok.0)) (omega arith) is s.cells_lawful
 
 pub reclaim-requires-clause-cell : goal.reclaim-requires-clause-cell
 reclaim-requires-clause-cell g c =
@@ -23,11 +25,14 @@ invariant_of-self g c =
     let b = c.args.self.now in
     let m = may b.pool c.len.result c.index-cell.result.now c.len.ensures c.requires.some c.index-cell.ensures in
     let e = c.reserve_expired.ensures in
-    let k = last_expired b.pool.expired.items _ e.reserved.0 c.index-cell.result.now c.index-cell.result.now c.len.result e.reserved.1 (omega (arith, b.pool.expired.ok.0, c.len.ensures)) c.index-cell.ensures in
+    let k = last_expired b.pool.expired.items _ e.reserved.0 c.index-cell.result.now c.index-cell.result.now c.len.result e.reserved.1
+    (omega (arith, b.pool.expired.ok.0, c.len.ensures)) c.index-cell.ensures in
     record {
       size = e.keeps.cells ∙ b.size;
-      gates = gates_to _ _ _ _ _ _ _ _ _ _ _ e.keeps.cells e.keeps.last e.next_claim (ap (λ z. z.items) e.keeps.claims) (e.reserved.2 ∙ ap (λ z. b.pool.reserved.items ++ spot z b.pool.next_claim ∷ []) (sym k))
-          (gates_claimed b.claimer _ b.pool.cells b.pool.most b.pool.last b.pool.next_claim c.index-cell.result.now b.pool.claims.items b.pool.reserved.items m.0 m.1 m.2 b.pool.lawful c.in-Claimed.ensures.reclaim b.gates);
+      gates = gates_to _ _ _ _ _ _ _ _ _ _ _ e.keeps.cells e.keeps.last e.next_claim (ap (λ z. z.items) e.keeps.claims)
+          (e.reserved.2 ∙ ap (λ z. b.pool.reserved.items ++ spot z b.pool.next_claim ∷ []) (sym k))
+          (gates_claimed b.claimer _ b.pool.cells b.pool.most b.pool.last b.pool.next_claim c.index-cell.result.now b.pool.claims.items b.pool.reserved.items m.0 m.1 m.2
+          b.pool.lawful c.in-Claimed.ensures.reclaim b.gates);
       found = indexed_to _ _ _ (ap (λ z. z.items) e.keeps.claims) b.found;
     }
 
@@ -38,7 +43,8 @@ invariant_of-self-in-Held g c =
     record {
       size = e.keeps.cells ∙ b.size;
       gates = gates_to _ _ _ _ _ _ _ _ _ _ _ e.keeps.cells e.keeps.last e.numbers.next_claim (ap (λ z. z.items) e.keeps.claims) (ap (λ z. z.items) e.same)
-          (gates_held b.claimer _ b.pool.cells b.pool.last b.pool.next_claim c.index-cell.result.now c.in-Held.pins b.pool.claims.items b.pool.reserved.items c.in-Held.ensures.reclaim.0 b.gates);
+          (gates_held b.claimer _ b.pool.cells b.pool.last b.pool.next_claim c.index-cell.result.now c.in-Held.pins b.pool.claims.items b.pool.reserved.items
+          c.in-Held.ensures.reclaim.0 b.gates);
       found = indexed_to _ _ _ (ap (λ z. z.items) e.keeps.claims) b.found;
     }
 
@@ -47,4 +53,5 @@ returns-in-Held-clause-held g c =
     let b = c.args.self.now in
     let e = c.hold_expired.ensures in
     held_since_held b.claimer _ e.held.0 c.index-cell.result.now c.in-Held.pins b.pool.held.items _ c.in-Held.ensures.reclaim.0 e.held.2
-    (last_expired b.pool.expired.items _ e.held.0 c.index-cell.result.now c.index-cell.result.now c.len.result e.held.1 (omega (arith, b.pool.expired.ok.0, c.len.ensures)) c.index-cell.ensures)
+    (last_expired b.pool.expired.items _ e.held.0 c.index-cell.result.now c.index-cell.result.now c.len.result e.held.1
+    (omega (arith, b.pool.expired.ok.0, c.len.ensures)) c.index-cell.ensures)

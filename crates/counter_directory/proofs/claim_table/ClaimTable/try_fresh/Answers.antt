@@ -11,7 +11,8 @@ invariant_of-self g c =
     record {
       size = e.keeps.cells ∙ b.size;
       gates = gates_to _ _ _ _ _ _ _ _ _ _ _ e.keeps.cells e.keeps.last e.next_claim (ap (λ z. z.items) e.keeps.claims) e.reserved
-          (gates_claimed b.claimer _ b.pool.cells b.pool.most b.pool.last b.pool.next_claim b.pool.fresh b.pool.claims.items b.pool.reserved.items c.requires.some m.0 m.1 b.pool.lawful c.in-Claimed.ensures.reclaim b.gates);
+          (gates_claimed b.claimer _ b.pool.cells b.pool.most b.pool.last b.pool.next_claim b.pool.fresh b.pool.claims.items b.pool.reserved.items c.requires.some m.0 m.1
+          b.pool.lawful c.in-Claimed.ensures.reclaim b.gates);
       found = indexed_to _ _ _ (ap (λ z. z.items) e.keeps.claims) b.found;
     }
 
@@ -20,9 +21,11 @@ invariant_of-self-in-Held g c =
     let b = c.args.self.now in
     record {
       size = b.size;
-      gates = gates_held b.claimer _ b.pool.cells b.pool.last b.pool.next_claim b.pool.fresh c.in-Held.pins b.pool.claims.items b.pool.reserved.items c.in-Held.ensures.reclaim.0 b.gates;
+      gates = gates_held b.claimer _ b.pool.cells b.pool.last b.pool.next_claim b.pool.fresh c.in-Held.pins b.pool.claims.items b.pool.reserved.items c.in-Held.ensures.reclaim.0
+          b.gates;
       found = b.found;
     }
 
 pub returns-in-Held-clause-held : goal.returns-in-Held-clause-held
-returns-in-Held-clause-held g c = held_since_reserved c.args.self.now.claimer _ c.args.self.now.pool.fresh c.in-Held.pins c.args.self.now.pool.held.items c.in-Held.ensures.reclaim.0
+returns-in-Held-clause-held g c =
+    held_since_reserved c.args.self.now.claimer _ c.args.self.now.pool.fresh c.in-Held.pins c.args.self.now.pool.held.items c.in-Held.ensures.reclaim.0

@@ -7,4 +7,6 @@ pub returns-clause-prefixes : goal.returns-clause-prefixes
 returns-clause-prefixes g c = prefixes_of c.args.seats.items c.join_tokens-all.result.me.0 _ c.join_tokens-all.ensures.all c.take_last.ensures.last.joined_lists
 
 pub returns-clause-owned : goal.returns-clause-owned
-returns-clause-owned g c = λ p. subst (λ n. IsOwnedOnce (length (g.K.Kept.items c.args.self.table.shared.key.kept)) (length (g.K.Kept.items c.take_last.result)) p n) (c.join_tokens-all.ensures.all.own p) (c.take_last.ensures.last.owned p)
+returns-clause-owned g c =
+    λ p. subst (λ n. IsOwnedOnce (length (g.K.Kept.items c.args.self.table.shared.key.kept)) (length (g.K.Kept.items c.take_last.result)) p n) (c.join_tokens-all.ensures.all.own p)
+    (c.take_last.ensures.last.owned p)
