@@ -2,7 +2,8 @@
 use Rattle.std.proofs.Common.{◌≡◌, ℕ, zero, suc, ◌+◌, List, [], ◌∷◌, map, All, refl, ap, subst, arith}
 use Rattle.std.proofs.lemmas.List.{length-map}
 use Rattle.std.specs.Prelude.{slice_index_or}
-use Rattle.told_list.specs.Lists.{total, IsOwnedOnce}
+use Rattle.rate_types.specs.Sums.{total}
+use Rattle.told_list.specs.Lists.{IsOwnedOnce}
 
 module _ {A B : Type 0} (f : A → B) where
   index_map : (xs : List A) (k : ℕ) (d : A) → slice_index_or (map f xs) k (f d) ≡ f (slice_index_or xs k d)

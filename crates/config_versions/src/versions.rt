@@ -25,7 +25,8 @@ pub struct Versions<I: Drop> {
 impl<I: Drop> Versions<I> {
     ghost use Rattle.std.specs.Prelude.{◌≡◌, ◌≤◌, ◌<◌, ◌+◌, ℕ, All, IfOk, MatchOption, vec_len};
     ghost use mathlib.Core.List.{IsPrefix};
-    ghost use Rattle.told_list.specs.Lists.{total, times, IsOwnedOnce};
+    ghost use Rattle.rate_types.specs.Sums.{total, times};
+    ghost use Rattle.told_list.specs.Lists.{IsOwnedOnce};
     ghost use Rattle.config_versions.specs.PassState.{IsFirst, HasLoaded};
     ghost use Rattle.config_versions.specs.Answers.{AnswersInstall, AnswersRefresh};
     ghost use Rattle.config_versions.specs.Passes.{IsPassOf, pass_count, pass_state};

@@ -8,13 +8,15 @@ use Rattle.counter_cells.specs.declared.view.Charge.{Charge}
 use Rattle.counter_cells.specs.declared.view.Cell.{Cell}
 use Rattle.counter_cells.specs.declared.view.CellView.{CellView}
 use Rattle.counter_cells.specs.declared.setup.Setup.{Setup}
-use Rattle.counter_cells.specs.Sums.{total, one_if, times}
+use Rattle.rate_types.specs.Sums.{total, one_if, times}
 use Rattle.counter_cells.specs.Gates.{gate_word}
-use Rattle.counter_cells.specs.Views.{most_hits, pins_on, unused_on, small_on, pair_at, pair_of, charges_of, looks_of, claim_on, Capped}
+use Rattle.counter_cells.specs.Views.{most_hits, small_on, claim_on, Capped}
+use Rattle.counter_cells.specs.Counting.{pins_on, unused_on, pair_at, pair_of, charges_of, looks_of}
 use Rattle.counter_cells.specs.Steps.{without, charged}
 use Rattle.counter_cells.specs.Lawful.{Register}
 use Rattle.counter_cells.proofs.Kept.{hits_of, hits_below, charges_at, ViewFits, ViewLawful, Rule, cell_fits}
-use Rattle.counter_cells.proofs.Sums.{total_set, total_push, total_same, total_eq, total_none, each_set, each_push, each_map, each_map2, cond_yes, cond_no, below_no}
+use Rattle.rate_types.proofs.Sums.{total_set, total_push, total_same, total_eq, total_none, each_set, cond_yes, cond_no, below_no}
+use Rattle.counter_cells.proofs.Sums.{each_push, each_map, each_map2}
 use Rattle.counter_cells.proofs.Views.{without_here, without_else, without_le, claimed, small_le, none_there, all_below}
 
 ever_open : (st : Cell) → (st.ever ≡ false → (st.is_open ≡ false) × (st.claim ≡ 0)) → st.is_open ≡ true → (b : Bool) → st.ever ≡ b → st.ever ≡ true

@@ -8,12 +8,13 @@ use Rattle.atomic_table.proofs.Lists.{at_set, set_here, set_else}
 use Rattle.counter_cells.specs.declared.view.Cell.{Cell}
 use Rattle.counter_cells.specs.declared.view.CellView.{CellView}
 use Rattle.counter_cells.specs.declared.setup.Setup.{Setup}
-use Rattle.counter_cells.specs.Sums.{total, one_if, times}
+use Rattle.rate_types.specs.Sums.{total, one_if, times}
 use Rattle.counter_cells.specs.Gates.{gate_word}
-use Rattle.counter_cells.specs.Views.{is_pair, good_on, good_at, pins_on, small_on, pair_of, charges_of, looks_of, Capped, claim_on}
+use Rattle.counter_cells.specs.Views.{good_on, small_on, Capped, claim_on}
+use Rattle.counter_cells.specs.Counting.{is_pair, good_at, pins_on, pair_of, charges_of, looks_of}
 use Rattle.counter_cells.specs.Lawful.{Register}
 use Rattle.counter_cells.proofs.Kept.{hits_of, charges_at, RegisterFits, ViewFits, ViewLawful, Rule, cell_fits}
-use Rattle.counter_cells.proofs.Sums.{total_same, total_two, each_set}
+use Rattle.rate_types.proofs.Sums.{total_same, total_two, each_set}
 use Rattle.counter_cells.proofs.Looking.{lawful_same}
 use Rattle.counter_cells.proofs.Views.{claimed}
 

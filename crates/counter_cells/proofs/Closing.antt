@@ -13,16 +13,20 @@ use Rattle.counter_cells.specs.declared.view.Charge.{Charge}
 use Rattle.counter_cells.specs.declared.view.Cell.{Cell}
 use Rattle.counter_cells.specs.declared.view.CellView.{CellView}
 use Rattle.counter_cells.specs.declared.setup.Setup.{Setup}
-use Rattle.counter_cells.specs.Sums.{total, one_if, times}
+use Rattle.rate_types.specs.Sums.{total, one_if, times}
 use Rattle.counter_cells.specs.WordIndex.{count_of, clock_of}
-use Rattle.counter_cells.specs.Views.{pins_of, offered}
-use Rattle.counter_cells.specs.Steps.{joined}
+use Rattle.counter_cells.specs.Views.{offered}
+use Rattle.counter_cells.specs.Counting.{pins_of}
+use Rattle.counter_cells.specs.InnerSteps.{joined}
 use Rattle.counter_cells.specs.Ledgers.{ledger_of, sights_of}
-use Rattle.counter_cells.specs.Lawful.{AreLawful, Sourced, other_offers}
+use Rattle.counter_cells.specs.Lawful.{AreLawful, other_offers}
+use Rattle.counter_cells.specs.Ticks.{Sourced}
 use Rattle.counter_cells.specs.Seats.{IsClaimer}
-use Rattle.counter_cells.specs.Closing.{all_joined, ticks_of, TicksAreLawful}
+use Rattle.counter_cells.specs.Closing.{ticks_of, TicksAreLawful}
+use Rattle.counter_cells.specs.InnerSteps.{all_joined}
 use Rattle.counter_cells.proofs.Kept.{hits_below, ViewLawful, Holds}
-use Rattle.counter_cells.proofs.Sums.{total_append, total_two, total_none, each_map, each_left, each_right}
+use Rattle.rate_types.proofs.Sums.{total_append, total_two, total_none}
+use Rattle.counter_cells.proofs.Sums.{each_map, each_left, each_right}
 use Rattle.counter_cells.proofs.Ledgers.{total_is, ledger_from, sights_from}
 use Rattle.counter_cells.proofs.Regrouping.{final_as}
 use Rattle.counter_cells.proofs.Ticking.{sourced_more}

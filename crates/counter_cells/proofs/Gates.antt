@@ -7,12 +7,13 @@ use Rattle.counter_cells.specs.declared.view.Cell.{Cell}
 use Rattle.counter_cells.specs.declared.view.CellView.{CellView}
 use Rattle.counter_cells.specs.declared.setup.Setup.{Setup}
 use Rattle.std.specs.List.{AllByRecursion}
-use Rattle.counter_cells.specs.Sums.{total, one_if}
+use Rattle.rate_types.specs.Sums.{total, one_if}
 use Rattle.counter_cells.specs.Gates.{gate_word}
-use Rattle.counter_cells.specs.Views.{pins_on, pins_of, small_on, pair_of}
+use Rattle.counter_cells.specs.Views.{small_on}
+use Rattle.counter_cells.specs.Counting.{pins_on, pins_of, pair_of}
 use Rattle.counter_cells.specs.Lawful.{Register}
 use Rattle.counter_cells.proofs.Kept.{hits_below, ViewFits, ViewLawful, Rule}
-use Rattle.counter_cells.proofs.Sums.{total_set, total_same, total_le, each_set}
+use Rattle.rate_types.proofs.Sums.{total_set, total_same, total_le, each_set}
 use Rattle.counter_cells.proofs.Looking.{total_length, one_le, lawful_same}
 
 pub pins_le : (k : ℕ) (v : CellView) → pins_on k v ≤ pins_of v

@@ -12,13 +12,17 @@ use Rattle.counter_cells.specs.declared.view.Tick.{Tick}
 use Rattle.counter_cells.specs.declared.view.Charge.{Charge}
 use Rattle.counter_cells.specs.declared.view.CellView.{CellView}
 use Rattle.counter_cells.specs.declared.setup.Setup.{Setup}
-use Rattle.counter_cells.specs.Sums.{total, one_if, times}
+use Rattle.rate_types.specs.Sums.{total, one_if, times}
 use Rattle.counter_cells.specs.WordIndex.{gate_of, count_of}
-use Rattle.counter_cells.specs.Views.{offered, good_on, pins_on, pins_of, small_on, pair_at, charges_of, looks_of}
-use Rattle.counter_cells.specs.Steps.{last_moment, empty_view, joined}
-use Rattle.counter_cells.specs.Lawful.{offers, own_offers, other_offers, Sourced, TicksFit, ClockIsGreatestOffer}
+use Rattle.counter_cells.specs.Views.{offered, good_on, small_on}
+use Rattle.counter_cells.specs.Counting.{pins_on, pins_of, pair_at, charges_of, looks_of}
+use Rattle.counter_cells.specs.Steps.{last_moment, empty_view}
+use Rattle.counter_cells.specs.InnerSteps.{joined}
+use Rattle.counter_cells.specs.Lawful.{offers, other_offers, TicksFit, ClockIsGreatestOffer}
+use Rattle.counter_cells.specs.Ticks.{own_offers, Sourced}
 use Rattle.counter_cells.proofs.Kept.{hits_below, ViewFits, ViewLawful, Rule, Holds}
-use Rattle.counter_cells.proofs.Sums.{each_append, total_set, total_append, each_set, each_map, below_no}
+use Rattle.rate_types.proofs.Sums.{total_set, total_append, each_set, below_no}
+use Rattle.counter_cells.proofs.Sums.{each_append, each_map}
 use Rattle.counter_cells.proofs.Ticking.{sourced_more}
 use Rattle.counter_cells.proofs.SameSums.{lawful_as, rule_as}
 use Rattle.counter_cells.proofs.Gates.{pins_le}

@@ -9,10 +9,11 @@ use Rattle.counter_cells.specs.declared.view.Charge.{Charge}
 use Rattle.counter_cells.specs.declared.view.Cell.{Cell}
 use Rattle.counter_cells.specs.declared.view.CellView.{CellView}
 use Rattle.counter_cells.specs.declared.setup.Setup.{Setup}
-use Rattle.counter_cells.specs.Sums.{total, one_if, times}
+use Rattle.rate_types.specs.Sums.{total, one_if, times}
 use Rattle.counter_cells.specs.Gates.{gate_word}
 use Rattle.counter_cells.specs.WordIndex.{gate_of, count_of, clock_of}
-use Rattle.counter_cells.specs.Views.{most_hits, good_on, good_at, pins_on, pins_of, unused_on, small_on, pair_at, pair_of, charges_of, looks_of, Capped}
+use Rattle.counter_cells.specs.Views.{most_hits, good_on, small_on, Capped}
+use Rattle.counter_cells.specs.Counting.{good_at, pins_on, pins_of, unused_on, pair_at, pair_of, charges_of, looks_of}
 use Rattle.counter_cells.specs.Lawful.{Register, ClockIsGreatestOffer}
 
 -- a view's hits under a claim, those of charges with less before them, and its charges with exactly this before them

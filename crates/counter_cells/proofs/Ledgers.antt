@@ -9,10 +9,11 @@ use Rattle.rate_types.specs.Ledger as ledger
 use Rattle.rate_types.specs.Ledger.{IsLawfulLedger, IsLawfulSight, charged_total, charged_below}
 use Rattle.counter_cells.specs.declared.view.Charge.{Charge}
 use Rattle.counter_cells.specs.declared.view.CellView.{CellView}
-use Rattle.counter_cells.specs.Sums.{total, one_if}
+use Rattle.rate_types.specs.Sums.{total, one_if}
 use Rattle.counter_cells.specs.Ledgers.{charge_of, sight_of, ledger_of, sights_of}
 use Rattle.counter_cells.proofs.Kept.{hits_of, hits_below, charges_at, ViewLawful}
-use Rattle.counter_cells.proofs.Sums.{total_append, each_append, each_left, each_right}
+use Rattle.rate_types.proofs.Sums.{total_append}
+use Rattle.counter_cells.proofs.Sums.{each_append, each_left, each_right}
 
 module _ (f : ledger.Charge ℕ → ℕ) (g : Charge → ℕ) (same : (x : Charge) → f (charge_of x) ≡ g x) where
   mapped : (xs : List Charge) → total f (map charge_of xs) ≡ total g xs

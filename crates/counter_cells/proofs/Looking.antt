@@ -8,13 +8,15 @@ use Rattle.counter_cells.specs.declared.view.Charge.{Charge}
 use Rattle.counter_cells.specs.declared.view.Cell.{Cell}
 use Rattle.counter_cells.specs.declared.view.CellView.{CellView}
 use Rattle.counter_cells.specs.declared.setup.Setup.{Setup}
-use Rattle.counter_cells.specs.Sums.{total, one_if, times}
+use Rattle.rate_types.specs.Sums.{total, one_if, times}
 use Rattle.counter_cells.specs.Gates.{gate_word}
-use Rattle.counter_cells.specs.Views.{most_hits, good_on, pins_on, pins_of, unused_on, small_on, pair_at, pair_of, charges_of, looks_of, claim_on}
+use Rattle.counter_cells.specs.Views.{most_hits, good_on, small_on, claim_on}
+use Rattle.counter_cells.specs.Counting.{pins_on, pins_of, unused_on, pair_at, pair_of, charges_of, looks_of}
 use Rattle.counter_cells.specs.Steps.{without, looked}
 use Rattle.counter_cells.specs.Lawful.{Register}
 use Rattle.counter_cells.proofs.Kept.{hits_of, hits_below, charges_at, ViewFits, ViewLawful, Rule, cell_fits}
-use Rattle.counter_cells.proofs.Sums.{total_set, total_push, total_same, total_le, each_set, each_push, each_map, cond_yes, cond_no, below_no}
+use Rattle.rate_types.proofs.Sums.{total_set, total_push, total_same, total_le, each_set, cond_yes, cond_no, below_no}
+use Rattle.counter_cells.proofs.Sums.{each_push, each_map}
 use Rattle.counter_cells.proofs.Views.{without_here, without_else, without_le, claimed, small_le}
 use Rattle.counter_cells.proofs.Charging.{is_ever, one_cell, whole_below}
 

@@ -9,10 +9,10 @@ use Rattle.atomic_table.specs.Table.{opening}
 use Rattle.counter_cells.specs.declared.view.Cell.{Cell}
 use Rattle.counter_cells.specs.declared.view.CellView.{CellView}
 use Rattle.counter_cells.specs.declared.setup.Setup.{Setup}
-use Rattle.counter_cells.specs.Sums.{total}
+use Rattle.rate_types.specs.Sums.{total}
 use Rattle.counter_cells.specs.WordIndex.{gate_of, count_of}
 use Rattle.counter_cells.specs.Views.{no_cell}
-use Rattle.counter_cells.specs.Steps.{first_claimer}
+use Rattle.counter_cells.specs.InnerSteps.{first_claimer}
 use Rattle.counter_cells.specs.Lawful.{AreLawful, ClockIsGreatestOffer, TicksFit, other_offers}
 use Rattle.counter_cells.proofs.Regrouping.{lawful}
 use Rattle.counter_cells.proofs.Kept.{CellFits, ViewFits, ViewLawful, Rule, Holds}

@@ -7,11 +7,12 @@ use Rattle.counter_cells.specs.declared.view.Cell.{Cell}
 use Rattle.counter_cells.specs.declared.view.CellView.{CellView}
 use Rattle.counter_cells.specs.declared.setup.Setup.{Setup}
 use Rattle.std.specs.List.{AllByRecursion}
-use Rattle.counter_cells.specs.Sums.{total, one_if}
-use Rattle.counter_cells.specs.Views.{pins_on, small_on, charges_of, looks_of}
+use Rattle.rate_types.specs.Sums.{total, one_if}
+use Rattle.counter_cells.specs.Views.{small_on}
+use Rattle.counter_cells.specs.Counting.{pins_on, charges_of, looks_of}
 use Rattle.counter_cells.specs.Lawful.{Register}
 use Rattle.counter_cells.proofs.Kept.{hits_of, Rule}
-use Rattle.counter_cells.proofs.Sums.{total_same, total_none, total_one, cond_yes}
+use Rattle.rate_types.proofs.Sums.{total_same, total_none, total_one, cond_yes}
 use Rattle.counter_cells.proofs.Claiming.{claim_keeps, bare_closed, truth_same}
 
 no_hits : (c : ℕ) (xs : List Charge) → total (λ (x : Charge). one_if (x.claim == c)) xs ≡ 0 → total (λ (x : Charge). cond (x.claim == c) x.hits 0) xs ≡ 0

@@ -1,13 +1,15 @@
 -- What a pass keeps over its steps.
 use Rattle.std.proofs.Common.{◌≡◌, ℕ, suc, ◌+◌, ◌-◌, ◌≤◌, ◌<◌, [], ◌∷◌, length, cond, get_or, zero, false, refl, sym, ap, ◌∙◌, subst, arith}
 use Rattle.counter_cells.specs.declared.view.CellView.{CellView}
-use Rattle.counter_cells.specs.Sums.{one_if}
+use Rattle.rate_types.specs.Sums.{one_if}
 use Rattle.counter_cells.specs.Gates.{shows, gate_word, claim_shown, bit_shown}
 use Rattle.counter_cells.specs.WordIndex.{gate_at, gate_cell}
-use Rattle.counter_cells.specs.Views.{good_on, stray_on, cell_or}
-use Rattle.counter_cells.specs.Steps.{unpinned, good_pin, stray_pin, pinned, fresh_pass, new_passes}
+use Rattle.counter_cells.specs.Views.{good_on, cell_or}
+use Rattle.counter_cells.specs.Counting.{stray_on}
+use Rattle.counter_cells.specs.Steps.{unpinned, good_pin, fresh_pass, new_passes}
+use Rattle.counter_cells.specs.InnerSteps.{stray_pin, pinned}
 use Rattle.counter_cells.specs.Seats.{IsPass}
-use Rattle.counter_cells.proofs.Sums.{cond_yes}
+use Rattle.rate_types.proofs.Sums.{cond_yes}
 use Rattle.counter_cells.proofs.Views.{drop_length_one}
 
 pub still_pass : (k index : ℕ) (v w : CellView) → index ≡ gate_at k → w ≡ unpinned (gate_cell index) v → 1 ≤ good_on k v → IsPass v → IsPass w × (w.moment ≡ v.moment)

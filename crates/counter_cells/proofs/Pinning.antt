@@ -7,13 +7,14 @@ use lib.ListN.{get_elem?}
 use Rattle.counter_cells.specs.declared.view.Cell.{Cell}
 use Rattle.counter_cells.specs.declared.view.CellView.{CellView}
 use Rattle.counter_cells.specs.declared.setup.Setup.{Setup}
-use Rattle.counter_cells.specs.Sums.{total, one_if, times}
+use Rattle.rate_types.specs.Sums.{total, one_if, times}
 use Rattle.counter_cells.specs.Gates.{gate_word, shows}
-use Rattle.counter_cells.specs.Views.{is_pair, good_at, pins_on, pins_of, pair_at}
-use Rattle.counter_cells.specs.Steps.{good_pin, stray_pin, pinned}
+use Rattle.counter_cells.specs.Counting.{is_pair, good_at, pins_on, pins_of, pair_at}
+use Rattle.counter_cells.specs.Steps.{good_pin}
+use Rattle.counter_cells.specs.InnerSteps.{stray_pin, pinned}
 use Rattle.counter_cells.specs.Lawful.{Register}
 use Rattle.counter_cells.proofs.Kept.{Rule}
-use Rattle.counter_cells.proofs.Sums.{total_set, cond_yes, cond_no}
+use Rattle.rate_types.proofs.Sums.{total_set, cond_yes, cond_no}
 use Rattle.counter_cells.proofs.Charging.{is_ever, one_cell}
 use Rattle.counter_cells.proofs.Gates.{open_shown, gate_keeps}
 

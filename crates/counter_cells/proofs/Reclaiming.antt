@@ -8,13 +8,14 @@ use Rattle.atomic_table.proofs.Lists.{at_set}
 use Rattle.counter_cells.specs.declared.view.Cell.{Cell}
 use Rattle.counter_cells.specs.declared.view.CellView.{CellView}
 use Rattle.counter_cells.specs.declared.setup.Setup.{Setup}
-use Rattle.counter_cells.specs.Sums.{total, one_if, times}
+use Rattle.rate_types.specs.Sums.{total, one_if, times}
 use Rattle.counter_cells.specs.Gates.{gate_word}
-use Rattle.counter_cells.specs.Views.{is_pair, good_on, pins_on, small_on, pair_of, charges_of, looks_of}
+use Rattle.counter_cells.specs.Views.{good_on, small_on}
+use Rattle.counter_cells.specs.Counting.{is_pair, pins_on, pair_of, charges_of, looks_of}
 use Rattle.counter_cells.specs.Steps.{taken_cell}
 use Rattle.counter_cells.specs.Lawful.{Register}
 use Rattle.counter_cells.proofs.Kept.{RegisterFits, Rule}
-use Rattle.counter_cells.proofs.Sums.{total_same, total_none, total_one, cond_yes}
+use Rattle.rate_types.proofs.Sums.{total_same, total_none, total_one, cond_yes}
 use Rattle.counter_cells.proofs.Claiming.{claim_keeps}
 
 -- some cell has a pair of the claim

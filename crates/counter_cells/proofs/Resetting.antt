@@ -5,12 +5,13 @@ use lib.ListN.{get_elem?}
 use Rattle.counter_cells.specs.declared.view.Cell.{Cell}
 use Rattle.counter_cells.specs.declared.view.CellView.{CellView}
 use Rattle.counter_cells.specs.declared.setup.Setup.{Setup}
-use Rattle.counter_cells.specs.Sums.{one_if}
+use Rattle.rate_types.specs.Sums.{one_if}
 use Rattle.counter_cells.specs.Gates.{gate_word}
-use Rattle.counter_cells.specs.Views.{pins_on, small_on, pair_of, charges_of, looks_of}
+use Rattle.counter_cells.specs.Views.{small_on}
+use Rattle.counter_cells.specs.Counting.{pins_on, pair_of, charges_of, looks_of}
 use Rattle.counter_cells.specs.Lawful.{Register}
 use Rattle.counter_cells.proofs.Kept.{Rule}
-use Rattle.counter_cells.proofs.Sums.{total_same}
+use Rattle.rate_types.proofs.Sums.{total_same}
 use Rattle.counter_cells.proofs.Claiming.{claim_keeps, bare_closed, truth_same}
 
 module _ (a : Setup) (t : Register) (gate gate' count count' : ℕ → ℕ) (views : List CellView) (r : Rule a t gate count views) (id k : ℕ) (v : CellView)

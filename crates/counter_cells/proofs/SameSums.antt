@@ -6,9 +6,10 @@ use lib.ListN.{get_elem?}
 use Rattle.counter_cells.specs.declared.view.Charge.{Charge}
 use Rattle.counter_cells.specs.declared.view.CellView.{CellView}
 use Rattle.counter_cells.specs.declared.setup.Setup.{Setup}
-use Rattle.counter_cells.specs.Sums.{total, one_if}
+use Rattle.rate_types.specs.Sums.{total, one_if}
 use Rattle.counter_cells.specs.Gates.{gate_word}
-use Rattle.counter_cells.specs.Views.{pins_on, small_on}
+use Rattle.counter_cells.specs.Views.{small_on}
+use Rattle.counter_cells.specs.Counting.{pins_on}
 use Rattle.counter_cells.specs.Lawful.{Register}
 use Rattle.counter_cells.proofs.Kept.{hits_below, ViewFits, ViewLawful, Rule}
 use Rattle.counter_cells.proofs.Sums.{each_map}

@@ -8,13 +8,14 @@ use Rattle.atomic_table.specs.Table.{Splits}
 use Rattle.atomic_table.proofs.Lists.{at_snoc}
 use Rattle.counter_cells.specs.declared.view.CellView.{CellView}
 use Rattle.counter_cells.specs.declared.setup.Setup.{Setup}
-use Rattle.counter_cells.specs.Sums.{total, one_if, times}
+use Rattle.rate_types.specs.Sums.{total, one_if, times}
 use Rattle.counter_cells.specs.WordIndex.{gate_of, count_of}
-use Rattle.counter_cells.specs.Views.{pins_on, small_on}
-use Rattle.counter_cells.specs.Steps.{one_less, new_pass}
+use Rattle.counter_cells.specs.Views.{small_on}
+use Rattle.counter_cells.specs.Counting.{pins_on}
+use Rattle.counter_cells.specs.InnerSteps.{one_less, new_pass}
 use Rattle.counter_cells.specs.Lawful.{offers, other_offers, TicksFit, ClockIsGreatestOffer}
 use Rattle.counter_cells.proofs.Kept.{ViewFits, ViewLawful, Rule, Holds}
-use Rattle.counter_cells.proofs.Sums.{total_set, total_push, each_set, cond_yes, cond_no, below_yes, below_no}
+use Rattle.rate_types.proofs.Sums.{total_set, total_push, each_set, cond_yes, cond_no, below_yes, below_no}
 use Rattle.counter_cells.proofs.Ticking.{sourced_more}
 use Rattle.counter_cells.proofs.SameSums.{lawful_as, rule_as}
 

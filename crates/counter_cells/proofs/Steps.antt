@@ -18,18 +18,20 @@ use Rattle.counter_cells.proofs.Opening.{open_keeps}
 use Rattle.counter_cells.specs.declared.view.Cell.{Cell}
 use Rattle.counter_cells.specs.declared.view.CellView.{CellView}
 use Rattle.counter_cells.specs.declared.setup.Setup.{Setup}
-use Rattle.counter_cells.specs.Sums.{total, one_if, times}
+use Rattle.rate_types.specs.Sums.{total, one_if, times}
 use Rattle.counter_cells.specs.Gates.{shows, gate_word, pins_shown}
 use Rattle.counter_cells.specs.WordIndex.{gate_at, count_at, count_cell, gate_cell, gate_of, count_of}
-use Rattle.counter_cells.specs.Views.{most_hits, good_on, pins_of, small_on, pins_on, no_cell, cell_or, Capped, claim_on}
-use Rattle.counter_cells.specs.Steps.{charged, looked, good_pin, stray_pin, pinned, unpinned, stray_unpinned, ticked, taken_cell, claimed_by, held_by, reset_by, opened_by}
+use Rattle.counter_cells.specs.Views.{most_hits, good_on, small_on, no_cell, cell_or, Capped, claim_on}
+use Rattle.counter_cells.specs.Counting.{pins_of, pins_on}
+use Rattle.counter_cells.specs.Steps.{charged, looked, good_pin, unpinned, ticked, taken_cell, claimed_by, held_by, reset_by, opened_by}
+use Rattle.counter_cells.specs.InnerSteps.{stray_pin, pinned, stray_unpinned}
 use Rattle.counter_cells.specs.Claiming.{Peeked, Reclaimed}
 use Rattle.counter_cells.specs.Lawful.{Register, ClockIsGreatestOffer}
 use Rattle.counter_cells.proofs.Kept.{Rule, Holds}
 use Rattle.counter_cells.proofs.Views.{claimed, small_le}
 use Rattle.counter_cells.proofs.Charging.{charge_keeps}
 use Rattle.counter_cells.proofs.Looking.{look_keeps, one_le}
-use Rattle.counter_cells.proofs.Sums.{total_one, total_same}
+use Rattle.rate_types.proofs.Sums.{total_one, total_same}
 use Rattle.counter_cells.proofs.Gates.{few_pins, open_shown, gate_keeps}
 use Rattle.counter_cells.proofs.Pinning.{pinned_keeps}
 use Rattle.counter_cells.proofs.Unpinning.{unpin_keeps, unpin_stray_keeps}

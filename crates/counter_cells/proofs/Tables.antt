@@ -5,11 +5,13 @@ use prog.Atomic.{either}
 use Rattle.atomic_table.specs.Table.{Me, Allows}
 use Rattle.counter_cells.specs.declared.view.CellView.{CellView}
 use Rattle.counter_cells.specs.declared.setup.Setup.{Setup}
-use Rattle.counter_cells.specs.Sums.{one_if, times}
+use Rattle.rate_types.specs.Sums.{one_if, times}
 use Rattle.counter_cells.specs.Gates.{gate_word, claim_shown}
 use Rattle.counter_cells.specs.WordIndex.{gate_at, count_at, gate_cell, count_cell}
-use Rattle.counter_cells.specs.Views.{most_hits, good_on, small_on, stray_on, pins_of, claim_on, cell_or, Capped}
-use Rattle.counter_cells.specs.Steps.{ticked, pinned, unpinned, stray_unpinned, looked, charged, reset_by, opened_by}
+use Rattle.counter_cells.specs.Views.{most_hits, good_on, small_on, claim_on, cell_or, Capped}
+use Rattle.counter_cells.specs.Counting.{stray_on, pins_of}
+use Rattle.counter_cells.specs.Steps.{ticked, unpinned, looked, charged, reset_by, opened_by}
+use Rattle.counter_cells.specs.InnerSteps.{pinned, stray_unpinned}
 use Rattle.counter_cells.specs.Claiming.{Peeked, Reclaimed}
 use Rattle.counter_cells.specs.Lawful.{AreLawful}
 use Rattle.counter_cells.specs.Seats.{IsTaken}

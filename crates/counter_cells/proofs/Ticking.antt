@@ -11,11 +11,13 @@ use Rattle.counter_cells.specs.declared.view.Tick.{Tick}
 use Rattle.counter_cells.specs.declared.view.CellView.{CellView}
 use Rattle.counter_cells.specs.declared.setup.Setup.{Setup}
 use Rattle.std.specs.List.{AllByRecursion}
-use Rattle.counter_cells.specs.Sums.{total, one_if, times}
+use Rattle.rate_types.specs.Sums.{total, one_if, times}
 use Rattle.counter_cells.specs.Views.{offered}
 use Rattle.counter_cells.specs.Steps.{last_moment, number_of, tick_of, ticked}
-use Rattle.counter_cells.specs.Lawful.{offers, own_offers, other_offers, Sourced, TicksFit, ClockIsGreatestOffer}
-use Rattle.counter_cells.proofs.Sums.{total_set, total_push, total_same, total_eq, total_none, total_two, each_set, each_push, each_map, cond_yes, cond_no}
+use Rattle.counter_cells.specs.Lawful.{offers, other_offers, TicksFit, ClockIsGreatestOffer}
+use Rattle.counter_cells.specs.Ticks.{own_offers, Sourced}
+use Rattle.rate_types.proofs.Sums.{total_set, total_push, total_same, total_eq, total_none, total_two, each_set, cond_yes, cond_no}
+use Rattle.counter_cells.proofs.Sums.{each_push, each_map}
 use Rattle.counter_cells.proofs.Looking.{one_le}
 
 last_push : (m : ℕ) (xs : List Tick) (y : Tick) → last_moment m (xs ++ y ∷ []) ≡ y.moment

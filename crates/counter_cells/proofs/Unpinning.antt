@@ -8,13 +8,15 @@ use lib.ListN.{get_elem?}
 use Rattle.counter_cells.specs.declared.view.Cell.{Cell}
 use Rattle.counter_cells.specs.declared.view.CellView.{CellView}
 use Rattle.counter_cells.specs.declared.setup.Setup.{Setup}
-use Rattle.counter_cells.specs.Sums.{total, one_if}
+use Rattle.rate_types.specs.Sums.{total, one_if}
 use Rattle.counter_cells.specs.Gates.{gate_word}
-use Rattle.counter_cells.specs.Views.{is_pair, good_on, pins_on, unused_on}
-use Rattle.counter_cells.specs.Steps.{without, any_on, drop_pin, drop_stray, unpinned, stray_unpinned}
+use Rattle.counter_cells.specs.Views.{good_on}
+use Rattle.counter_cells.specs.Counting.{is_pair, pins_on, unused_on}
+use Rattle.counter_cells.specs.Steps.{without, any_on, drop_pin, unpinned}
+use Rattle.counter_cells.specs.InnerSteps.{drop_stray, stray_unpinned}
 use Rattle.counter_cells.specs.Lawful.{Register}
 use Rattle.counter_cells.proofs.Kept.{Rule}
-use Rattle.counter_cells.proofs.Sums.{total_set, cond_yes, cond_no}
+use Rattle.rate_types.proofs.Sums.{total_set, cond_yes, cond_no}
 use Rattle.counter_cells.proofs.Views.{without_here, without_le}
 use Rattle.counter_cells.proofs.Gates.{gate_keeps}
 

@@ -6,10 +6,11 @@ use native.Mathlib.Decide.{ℕ_discrete}
 use Rattle.std.proofs.lemmas.Bool.{eq-eqb}
 use Rattle.counter_cells.specs.declared.view.Charge.{Charge}
 use Rattle.std.specs.List.{AllByRecursion}
-use Rattle.counter_cells.specs.Sums.{total, one_if}
-use Rattle.counter_cells.specs.Views.{is_pair, claim_on}
+use Rattle.rate_types.specs.Sums.{total, one_if}
+use Rattle.counter_cells.specs.Views.{claim_on}
+use Rattle.counter_cells.specs.Counting.{is_pair}
 use Rattle.counter_cells.specs.Steps.{without, drop_pin}
-use Rattle.counter_cells.proofs.Sums.{cond_yes, cond_no, below_yes}
+use Rattle.rate_types.proofs.Sums.{cond_yes, cond_no, below_yes}
 
 -- the looks on one cell are gone, and those on the others are left
 pub without_here : (k : ℕ) (ps : List (ℕ × ℕ)) → total (λ p. one_if (p.0 == k)) (without k ps) ≡ 0

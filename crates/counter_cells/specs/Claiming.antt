@@ -1,7 +1,7 @@
--- What the claimer's steps on a gate tell.
+-- Inside: what the claimer's steps on a gate tell.
 use Rattle.std.specs.Prelude.{◌≡◌, ℕ, ◌≤◌}
 use Rattle.counter_cells.specs.declared.view.CellView.{CellView}
-use Rattle.counter_cells.specs.Sums.{one_if}
+use Rattle.rate_types.specs.Sums.{one_if}
 use Rattle.counter_cells.specs.Gates.{claim_shown, bit_shown, pins_shown}
 use Rattle.counter_cells.specs.Views.{cell_or}
 use Rattle.counter_cells.specs.Steps.{claimed_by, held_by}

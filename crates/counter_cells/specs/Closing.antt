@@ -7,16 +7,10 @@ use Rattle.rate_types.specs.Ledger.{charged_total}
 use Rattle.counter_cells.specs.declared.view.Tick.{Tick}
 use Rattle.counter_cells.specs.declared.view.Cell.{Cell}
 use Rattle.counter_cells.specs.declared.view.CellView.{CellView}
-use Rattle.counter_cells.specs.Sums.{total}
+use Rattle.rate_types.specs.Sums.{total}
 use Rattle.counter_cells.specs.Views.{offered}
-use Rattle.counter_cells.specs.Steps.{joined}
 use Rattle.counter_cells.specs.Ledgers.{ledger_of}
-use Rattle.counter_cells.specs.Lawful.{Sourced}
-
--- the claimer after these passes were joined
-abbrev pub all_joined : CellView → List CellView → CellView
-all_joined v [] = v
-all_joined v (w ∷ ws) = all_joined (joined v w) ws
+use Rattle.counter_cells.specs.Ticks.{Sourced}
 
 -- all ticks of the passes
 abbrev pub ticks_of : List CellView → List Tick

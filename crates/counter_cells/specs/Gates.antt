@@ -1,4 +1,4 @@
--- The word of a gate: a claim below 2 ^ 40, a bit that is 1 where the gate is open, and a number of pins.
+-- Inside: the word of a gate: a claim below 2 ^ 40, a bit that is 1 where the gate is open, and a number of pins.
 -- Of the code only src/gate.rt knows how the three are packed.
 use Rattle.std.specs.Prelude.{ℕ, ◌+◌, ◌*◌, ◌/◌, ◌%◌, ◌==◌, ◌&&◌, Bool}
 

@@ -1,5 +1,5 @@
--- Lawful cells: what holds of the words and of all views between any two steps, in seven parts.
-use Rattle.std.specs.Prelude.{◌≡◌, ℕ, ◌+◌, ◌*◌, ◌^◌, ◌≤◌, ◌<◌, ◌⊎◌, ◌==◌, nat_lt, true, false, IfSome, List, [], ◌∷◌, ◌++◌, length}
+-- Inside: lawful cells: what holds of the words and of all views between any two steps, in seven parts.
+use Rattle.std.specs.Prelude.{◌≡◌, ℕ, ◌+◌, ◌*◌, ◌≤◌, ◌<◌, ◌⊎◌, ◌==◌, nat_lt, true, false, IfSome, List, [], length}
 use Rattle.std.specs.Prelude.{if◌then◌else◌}
 use Rattle.std.specs.List.{AllByRecursion}
 use mathlib.Core.Option.{some}
@@ -11,13 +11,16 @@ use Rattle.counter_cells.specs.declared.view.Tick.{Tick}
 use Rattle.counter_cells.specs.declared.view.Cell.{Cell}
 use Rattle.counter_cells.specs.declared.view.CellView.{CellView}
 use Rattle.counter_cells.specs.declared.setup.Setup.{Setup}
-use Rattle.counter_cells.specs.Sums.{total, one_if, times}
+use Rattle.rate_types.specs.Sums.{total, one_if, times}
 use Rattle.counter_cells.specs.Gates.{gate_word}
 use Rattle.counter_cells.specs.WordIndex.{words_of, clock_of, gate_of, count_of}
-use Rattle.counter_cells.specs.Views.{most_hits, good_on, good_at, pins_on, pins_of, unused_on, small_on, pair_at, pair_of, charges_of}
-use Rattle.counter_cells.specs.Views.{looks_of, Capped, offered}
+use Rattle.counter_cells.specs.Views.{most_hits, good_on, small_on}
+use Rattle.counter_cells.specs.Counting.{good_at, pins_on, pins_of, unused_on, pair_at, pair_of, charges_of}
+use Rattle.counter_cells.specs.Views.{Capped, offered}
+use Rattle.counter_cells.specs.Counting.{looks_of}
 use Rattle.counter_cells.specs.Steps.{last_moment}
 use Rattle.counter_cells.specs.Ledgers.{ledger_of, sights_of}
+use Rattle.counter_cells.specs.Ticks.{Sourced}
 
 -- what the claimer's view says: of each cell its claim and whether it is open, and all claims that were used
 pub record Register : Type 0 where
@@ -37,22 +40,12 @@ IsOpenUnder r k claim = (c : Cell) × (get_elem? r.cells k ≡ some c) × (c.is_
 abbrev pub WasTaken : Register → ℕ → Type 0
 WasTaken r k = (c : Cell) × (get_elem? r.cells k ≡ some c) × (c.ever ≡ true)
 
--- how often a moment was offered: in a view; by a pass among these ticks; and in a view by other passes
+-- how often a moment was offered in a view, and there by other passes than the one with the number
 abbrev pub offers : ℕ → CellView → ℕ
 offers m v = total (offered m) v.ticks
 
-abbrev pub own_offers : ℕ → ℕ → List Tick → ℕ
-own_offers number m ts = total (λ (x : Tick). if x.number == number then offered m x else 0) ts
-
 abbrev pub other_offers : ℕ → ℕ → CellView → ℕ
 other_offers number m v = total (λ (x : Tick). if x.number == number then 0 else offered m x) v.ticks
-
--- the moment of each tick is the start, an offer of its pass at this tick or an earlier one, or an offer of another pass
-abbrev pub Sourced : ℕ → (ℕ → ℕ → ℕ) → List Tick → List Tick → Type 0
-Sourced start others earlier [] = Unit {0}
-Sourced start others earlier (x ∷ xs) =
-    ((x.moment ≡ start) ⊎ ((1 ≤ own_offers x.number x.moment (earlier ++ x ∷ [])) ⊎ (1 ≤ others x.number x.moment)))
-    × Sourced start others (earlier ++ x ∷ []) xs
 
 -- A view's moment is at most the clock, and is the start or that of its last tick. Its ticks have its numbers
 pub record TicksFit (start clock : ℕ) (others : ℕ → ℕ → ℕ) (v : CellView) : Type 0 where

@@ -1,13 +1,15 @@
-pub mod Sums
 pub mod Gates
 pub mod WordIndex
 pub mod Views
+pub mod Counting
 pub mod Steps
 pub mod Claiming
 pub mod Ledgers
 pub mod Lawful
+pub mod Ticks
 pub mod Names
 pub mod Seats
 pub mod Answers
 pub mod Opened
 pub mod Closing
+pub mod InnerSteps

@@ -5,7 +5,6 @@ use Rattle.counter_cells.specs.declared.view.Tick.{Tick}
 use Rattle.counter_cells.specs.declared.view.Cell.{Cell}
 use Rattle.counter_cells.specs.declared.view.CellView.{CellView}
 use Rattle.counter_cells.specs.declared.setup.Setup.{Setup}
-use Rattle.counter_cells.specs.Gates.{claim_shown, bit_shown, shows}
 use Rattle.counter_cells.specs.Views.{claim_on, no_cell, cell_or}
 
 -- a view that knows nothing
@@ -28,20 +27,9 @@ empty_view = record {
   held = [];
 }
 
--- the first seat: the claimer, with no cell taken, from which all passes are split off
-abbrev pub first_claimer : Setup → CellView
-first_claimer a = record empty_view { claimer = true; unmade = a.passes; moment = a.start; cells = replicate a.cells no_cell }
-
 -- a pass with the number, before its first step
 abbrev pub fresh_pass : ℕ → ℕ → CellView
 fresh_pass n start = record empty_view { numbers = n ∷ []; moment = start }
-
--- the claimer after one pass was split off, and that pass, which takes the next number downwards
-abbrev pub one_less : CellView → CellView
-one_less v = record v { unmade = v.unmade - 1 }
-
-abbrev pub new_pass : CellView → CellView
-new_pass v = fresh_pass (v.unmade - 1) v.moment
 
 -- all passes as they are made, the highest number first
 abbrev pub new_passes : ℕ → ℕ → List CellView
@@ -70,22 +58,10 @@ good_pin cell claim v = record v { good = (cell, claim) ∷ v.good; pairs = (cel
 abbrev pub missed : ℕ → ℕ → Bool → CellView → CellView
 missed cell claim is_open v = record v { others = v.others ++ (record { cell = cell; claim = claim; is_open = is_open }) ∷ [] }
 
--- a pin that missed, by the word that it found, and isn't given back yet
-abbrev pub stray_pin : ℕ → ℕ → CellView → CellView
-stray_pin cell word v = record (missed cell (claim_shown word) (bit_shown word == 1) v) { stray = cell ∷ v.stray }
-
--- a pin that asked for the claim and found the word: it is good where the gate was open under the claim, else stray
-abbrev pub pinned : ℕ → ℕ → ℕ → CellView → CellView
-pinned claim cell word v = if shows claim word then good_pin cell claim v else stray_pin cell word v
-
 -- without the newest pin on the cell
 abbrev pub drop_pin : ℕ → List (ℕ × ℕ) → List (ℕ × ℕ)
 drop_pin cell [] = []
 drop_pin cell (p ∷ ps) = if p.0 == cell then ps else p ∷ drop_pin cell ps
-
-abbrev pub drop_stray : ℕ → List ℕ → List ℕ
-drop_stray cell [] = []
-drop_stray cell (j ∷ js) = if j == cell then js else j ∷ drop_stray cell js
 
 -- without the looks on the cell
 abbrev pub without : ℕ → List (ℕ × ℕ) → List (ℕ × ℕ)
@@ -103,10 +79,6 @@ unpinned cell v = record v {
   good = drop_pin cell v.good;
   unused = if any_on cell (drop_pin cell v.good) then v.unused else without cell v.unused;
 }
-
--- a stray pin given back
-abbrev pub stray_unpinned : ℕ → CellView → CellView
-stray_unpinned cell v = record v { stray = drop_stray cell v.stray }
 
 -- a look that found the count: it is the cell's unused look, and one more look under the claim of the pin
 abbrev pub looked : ℕ → ℕ → CellView → CellView
@@ -142,16 +114,3 @@ opened_by cell v = record v { cells = slice_set v.cells cell (record (cell_or v.
 abbrev pub last_moment : ℕ → List Tick → ℕ
 last_moment moment [] = moment
 last_moment moment (x ∷ xs) = last_moment x.moment xs
-
--- a pass joined at closing
-abbrev pub joined : CellView → CellView → CellView
-joined v w = record v {
-  numbers = v.numbers ++ w.numbers;
-  ticks = v.ticks ++ w.ticks;
-  moment = last_moment v.moment w.ticks;
-  others = v.others ++ w.others;
-  unused = [];
-  charges = v.charges ++ w.charges;
-  looks = v.looks ++ w.looks;
-  pairs = v.pairs ++ w.pairs;
-}

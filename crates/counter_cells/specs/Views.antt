@@ -1,5 +1,5 @@
 -- What is counted in a view.
-use Rattle.std.specs.Prelude.{◌≡◌, ℕ, ◌+◌, ◌≤◌, ◌==◌, ◌&&◌, nat_lt, Bool, Option, Some, None, List, [], ◌∷◌, length, if◌then◌else◌}
+use Rattle.std.specs.Prelude.{◌≡◌, ℕ, ◌+◌, ◌≤◌, ◌==◌, nat_lt, Option, Some, None, List, [], ◌∷◌, if◌then◌else◌}
 use Rattle.std.specs.Prelude.{slice_index_or, false}
 use Rattle.std.specs.List.{AllByRecursion}
 use Rattle.rate_types.specs.declared.limits.TheConstants.{MOST_HITS}
@@ -7,55 +7,18 @@ use Rattle.counter_cells.specs.declared.view.Tick.{Tick}
 use Rattle.counter_cells.specs.declared.view.Charge.{Charge}
 use Rattle.counter_cells.specs.declared.view.Cell.{Cell}
 use Rattle.counter_cells.specs.declared.view.CellView.{CellView}
-use Rattle.counter_cells.specs.Sums.{total, one_if}
+use Rattle.rate_types.specs.Sums.{total, one_if}
 
 -- the most hits of one charge
 abbrev pub most_hits : ℕ
 most_hits = MOST_HITS
 
--- a pair of a cell and a claim is this one
-abbrev pub is_pair : ℕ → ℕ → ℕ × ℕ → Bool
-is_pair cell claim p = (p.0 == cell) && (p.1 == claim)
-
 -- the good pins on a cell, and those of them under a claim
 abbrev pub good_on : ℕ → CellView → ℕ
 good_on cell v = total (λ p. one_if (p.0 == cell)) v.good
 
-abbrev pub good_at : ℕ → ℕ → CellView → ℕ
-good_at cell claim v = total (λ p. one_if (is_pair cell claim p)) v.good
-
--- the stray pins on a cell
-abbrev pub stray_on : ℕ → CellView → ℕ
-stray_on cell v = total (λ j. one_if (j == cell)) v.stray
-
--- all pins on a cell
-abbrev pub pins_on : ℕ → CellView → ℕ
-pins_on cell v = good_on cell v + stray_on cell v
-
--- all pins
-abbrev pub pins_of : CellView → ℕ
-pins_of v = length v.good + length v.stray
-
--- the unused looks on a cell, and those of them that were at most the most hits
-abbrev pub unused_on : ℕ → CellView → ℕ
-unused_on cell v = total (λ p. one_if (p.0 == cell)) v.unused
-
 abbrev pub small_on : ℕ → CellView → ℕ
 small_on cell v = total (λ p. if p.0 == cell then one_if (nat_lt p.1 (MOST_HITS + 1)) else 0) v.unused
-
--- the pairs (cell, claim) under which the view has or had a good pin: of this cell and claim, and of this claim
-abbrev pub pair_at : ℕ → ℕ → CellView → ℕ
-pair_at cell claim v = total (λ p. one_if (is_pair cell claim p)) v.pairs
-
-abbrev pub pair_of : ℕ → CellView → ℕ
-pair_of claim v = total (λ p. one_if (p.1 == claim)) v.pairs
-
--- how many charges and looks it has under a claim
-abbrev pub charges_of : ℕ → CellView → ℕ
-charges_of claim v = total (λ (x : Charge). one_if (x.claim == claim)) v.charges
-
-abbrev pub looks_of : ℕ → CellView → ℕ
-looks_of claim v = total (λ p. one_if (p.0 == claim)) v.looks
 
 -- the claim of the newest good pin on a cell
 abbrev pub claim_on : ℕ → List (ℕ × ℕ) → ℕ

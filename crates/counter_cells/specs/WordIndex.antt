@@ -1,4 +1,4 @@
--- The index of each word in the table: first the clock, then of each cell its gate and its count.
+-- Inside: the index of each word in the table: first the clock, then of each cell its gate and its count.
 use Rattle.std.specs.Prelude.{ℕ, ◌+◌, ◌-◌, ◌*◌, ◌/◌, List, ◌∷◌, replicate, slice_index}
 
 abbrev pub words_of : ℕ → ℕ

@@ -1,9 +1,10 @@
 ghost use Rattle.std.specs.Prelude.{◌≡◌, ℕ, ◌*◌, ◌≤◌, ◌<◌, ◌^◌, length, true, false, []};
 ghost use Rattle.rate_types.specs.declared.limits.TheConstants.{MOST_CELLS, MOST_CLAIM_NUMBERS, MOST_PINS};
-ghost use Rattle.counter_cells.specs.Sums.{times};
+ghost use Rattle.rate_types.specs.Sums.{times};
 ghost use Rattle.counter_cells.specs.WordIndex.{words_of};
 ghost use Rattle.counter_cells.specs.Views.{most_hits, good_on, small_on, claim_on, cell_or, Capped};
-ghost use Rattle.counter_cells.specs.Steps.{ticked, pinned, good_pin, missed, unpinned, looked, charged, taken_cell, claimed_by, held_by};
+ghost use Rattle.counter_cells.specs.Steps.{ticked, good_pin, missed, unpinned, looked, charged, taken_cell, claimed_by, held_by};
+ghost use Rattle.counter_cells.specs.InnerSteps.{pinned};
 ghost use Rattle.counter_cells.specs.Steps.{reset_by, opened_by};
 ghost use Rattle.counter_cells.specs.declared.answers.Pin.TheVariants.{Pinned};
 ghost use Rattle.counter_cells.specs.declared.answers.Reclaim.TheVariants.{Claimed};
@@ -21,6 +22,8 @@ use crate::rule::{CellSeat, CellTable};
 use crate::{gate, word_index};
 use rate_types::Seconds;
 use std::marker::{Brand, PhantomData};
+
+mod close;
 
 /// The gates, the counts and the clock. Threads share them by a reference.
 #[derive(Drop)]

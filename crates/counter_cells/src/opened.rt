@@ -1,7 +1,8 @@
 ghost use Rattle.std.specs.Prelude.{◌≡◌, ℕ, ◌+◌, ◌-◌, ◌*◌, ◌≤◌, ◌<◌, ◌++◌, [], IfOk, vec_len, vec_capacity};
 ghost use Rattle.rate_types.specs.declared.limits.TheConstants.{LATEST_MOMENT, MOST_CELLS, MOST_PASSES};
 ghost use Rattle.counter_cells.specs.WordIndex.{words_of, first_words};
-ghost use Rattle.counter_cells.specs.Steps.{first_claimer, claimer_left, fresh_pass, new_passes};
+ghost use Rattle.counter_cells.specs.Steps.{claimer_left, fresh_pass, new_passes};
+ghost use Rattle.counter_cells.specs.InnerSteps.{first_claimer};
 
 use crate::cells::Cells;
 use crate::claimer::CellClaimer;

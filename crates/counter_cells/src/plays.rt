@@ -31,7 +31,7 @@ pub(crate) struct Pins<A>(PhantomData<A>);
 impl<A: Asked> Play<u8, CellView> for Pins<A> {
     ghost use Rattle.std.specs.Prelude.{◌≡◌};
     ghost use Rattle.counter_cells.specs.WordIndex.{gate_cell};
-    ghost use Rattle.counter_cells.specs.Steps.{pinned};
+    ghost use Rattle.counter_cells.specs.InnerSteps.{pinned};
 
     ghost then = { λ s v n w. (w.0 ≡ pinned A.claim (gate_cell s.word) n v.0) × (w.1 ≡ v.1) };
 }
@@ -53,7 +53,7 @@ pub(crate) struct UnpinsStray;
 impl Play<u8, CellView> for UnpinsStray {
     ghost use Rattle.std.specs.Prelude.{◌≡◌};
     ghost use Rattle.counter_cells.specs.WordIndex.{gate_cell};
-    ghost use Rattle.counter_cells.specs.Steps.{stray_unpinned};
+    ghost use Rattle.counter_cells.specs.InnerSteps.{stray_unpinned};
 
     ghost then = { λ s v n w. (w.0 ≡ stray_unpinned (gate_cell s.word) v.0) × (w.1 ≡ v.1) };
 }

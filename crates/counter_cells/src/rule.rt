@@ -15,7 +15,7 @@ pub struct Lawful;
 
 impl TableRule<u8, CellView, Setup> for Lawful {
     ghost use Rattle.counter_cells.specs.Lawful.{AreLawful};
-    ghost use Rattle.counter_cells.specs.Steps.{first_claimer};
+    ghost use Rattle.counter_cells.specs.InnerSteps.{first_claimer};
 
     ghost holds = { AreLawful };
 
@@ -26,7 +26,7 @@ impl TableRule<u8, CellView, Setup> for Lawful {
 pub(crate) struct Passes;
 
 impl Split<CellView> for Passes {
-    ghost use Rattle.counter_cells.specs.Steps.{one_less, new_pass};
+    ghost use Rattle.counter_cells.specs.InnerSteps.{one_less, new_pass};
 
     ghost left = { one_less };
 
@@ -34,7 +34,8 @@ impl Split<CellView> for Passes {
 }
 
 impl Join<CellView> for Passes {
-    ghost use Rattle.counter_cells.specs.Steps.{joined, empty_view};
+    ghost use Rattle.counter_cells.specs.Steps.{empty_view};
+    ghost use Rattle.counter_cells.specs.InnerSteps.{joined};
 
     ghost both = { joined };
 

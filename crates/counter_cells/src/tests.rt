@@ -1,5 +1,5 @@
 ghost use Rattle.std.specs.Prelude.{◌≡◌, ℕ, ◌+◌, ◌≤◌, ◌<◌, [], All, IfSome};
-ghost use Rattle.counter_cells.specs.Sums.{times};
+ghost use Rattle.rate_types.specs.Sums.{times};
 ghost use Rattle.counter_cells.specs.Opened.{table_of, setup_of};
 
 use super::*;

@@ -9,7 +9,7 @@ use mathlib.Core.Option.{some-ne-none, some-injective}
 use Rattle.rate_types.specs.declared.counter_key.CounterKey.{CounterKey}
 use Rattle.rate_types.specs.declared.counter_name.CounterName.{CounterName}
 use Rattle.window_keys.specs.Window.{window_start}
-use Rattle.counter_cells.specs.Sums.{one_if}
+use Rattle.rate_types.specs.Sums.{one_if}
 use Rattle.counter_cells.specs.Steps.{number_of, tick_of, ticked, last_moment}
 use Rattle.counter_cells.specs.declared.view.CellView.{CellView}
 use Rattle.counter_cells.specs.declared.view.Tick.{Tick}
@@ -17,8 +17,11 @@ use Rattle.counter_directory.specs.declared.acquired.Acquired.{Acquired}
 use Rattle.counter_directory.specs.declared.acquired.AcquireFault.{AcquireFault}
 use Rattle.counter_directory.specs.declared.acquired.AcquireFault.TheVariants.{OutOfMemory, ClaimsSpent, CountersFull}
 use Rattle.counter_directory.specs.Claims.{claims_of}
-use Rattle.counter_directory.specs.Keys.{keys_at, key_count, AreOf, Bound, Agree}
-use Rattle.counter_directory.specs.Acquired.{OffersNothing, HasTicked, PinsAfterMisses, Bounds, ClaimTableView, HasBound, AreFull, AreSpent, Binds, Acquires}
+use Rattle.counter_directory.specs.Keys.{keys_at, key_count}
+use Rattle.counter_directory.specs.Acquiring.{AreOf}
+use Rattle.counter_directory.specs.Spots.{Bound, Agree}
+use Rattle.counter_directory.specs.Acquired.{OffersNothing, HasTicked, PinsAfterMisses, Bounds, ClaimTableView, HasBound, AreFull, AreSpent, Acquires}
+use Rattle.counter_directory.specs.Acquiring.{Binds}
 use Rattle.counter_directory.proofs.Pinning.{pins_moment}
 
 pub are_of : (m : ℕ) (names : List CounterName) → AreOf m (keys_at m names)

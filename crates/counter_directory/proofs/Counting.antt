@@ -6,12 +6,13 @@ use Rattle.std.proofs.lemmas.Bool.Decides.{nat_tests}
 use Rattle.std.proofs.lemmas.Bool.{ne_eqb, lt-ltb, le-ltb}
 use mathlib.Core.Option.{some}
 use lib.ListN.{get_elem?}
-use Rattle.counter_cells.specs.Sums.{total, one_if, times}
+use Rattle.rate_types.specs.Sums.{total, one_if, times}
 use Rattle.counter_directory.specs.declared.claim.Claim.{Claim}
 use Rattle.counter_directory.specs.declared.ring.Ring.{Ring}
 use Rattle.counter_directory.specs.Claims.{last_end}
 use Rattle.counter_cells.specs.declared.answers.Spot.{Spot}
-use Rattle.counter_directory.specs.Pool.{IsLawfulPool, ring_times, reserved_on, live_below}
+use Rattle.counter_directory.specs.Pool.{IsLawfulPool, ring_times, reserved_on}
+use Rattle.counter_directory.specs.Claims.{live_below}
 use Rattle.counter_directory.specs.Windows.{ExpiredBelow}
 use Rattle.counter_directory.proofs.Lists.{at_within}
 use Rattle.counter_directory.proofs.Moves.{one_most}

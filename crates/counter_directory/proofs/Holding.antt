@@ -5,7 +5,7 @@ use mathlib.Core.Option.{some}
 use lib.ListN.{get_elem?}
 use Rattle.rate_types.specs.declared.counter_key.CounterKey.{CounterKey}
 use Rattle.rate_types.specs.declared.counter_name.CounterName.{CounterName}
-use Rattle.counter_cells.specs.Sums.{total, one_if}
+use Rattle.rate_types.specs.Sums.{total, one_if}
 use Rattle.counter_cells.specs.Views.{good_on}
 use Rattle.counter_cells.specs.Steps.{good_pin}
 use Rattle.counter_cells.specs.declared.view.CellView.{CellView}
@@ -14,7 +14,8 @@ use Rattle.counter_directory.specs.declared.acquired.Acquired.{Acquired}
 use Rattle.counter_directory.specs.declared.acquired.AcquireFault.{AcquireFault}
 use Rattle.counter_directory.specs.declared.acquired.AcquireFault.TheVariants.{OutOfMemory, ClaimsSpent, CountersFull}
 use Rattle.counter_directory.specs.Claims.{IsLawfulClaims}
-use Rattle.counter_directory.specs.Keys.{keys_at, pinned_on, spots_on}
+use Rattle.counter_directory.specs.Keys.{keys_at}
+use Rattle.counter_directory.specs.Spots.{pinned_on, spots_on}
 use Rattle.counter_directory.specs.Acquired.{Bounds, ClaimTableView, HasTicked, Acquires}
 use Rattle.counter_directory.proofs.Lists.{at_read}
 use Rattle.counter_directory.proofs.Pinning.{cell_bound}

@@ -4,15 +4,15 @@ use Rattle.std.specs.Prelude.{Option, Some, None, is_some}
 use Rattle.std.proofs.lemmas.Bool.{ne_eqb}
 use Rattle.rate_types.specs.declared.counter_key.CounterKey.{CounterKey}
 use Rattle.rate_types.specs.Counters.{same_counter}
-use Rattle.counter_cells.specs.Sums.{one_if}
+use Rattle.rate_types.specs.Sums.{one_if}
 use Rattle.counter_cells.specs.declared.answers.Spot.{Spot}
 use Rattle.counter_directory.specs.declared.claim.Claim.{Claim}
 use Rattle.counter_directory.specs.Claims.{claims_of, bindings_of}
 use Rattle.counter_directory.specs.Pool.{spot}
-use Rattle.counter_directory.specs.Gates.{Indexed}
+use Rattle.counter_directory.specs.TableFits.{Indexed}
 use Rattle.counter_directory.proofs.CounterKeys.{same_yes, same_no, key_discrete}
 use Rattle.counter_directory.proofs.Lists.{last_expired}
-use Rattle.counter_directory.proofs.Sums.{total_push}
+use Rattle.rate_types.proofs.Sums.{total_push}
 
 pub indexed_more : (look look' : CounterKey → Option Spot) (x : Claim) (s : Spot) (claims : List Claim) → claims_of x.key claims ≡ 0 → s.cell ≡ x.cell → s.claim ≡ x.claim
     → ((q : CounterKey) → look' q ≡ cond (same_counter x.key q) (Some s) (look q)) → Indexed look claims → Indexed look' (claims ++ x ∷ [])

@@ -10,14 +10,15 @@ use lib.ListN.{get_elem?}
 use Rattle.rate_types.specs.declared.counter_key.CounterKey.{CounterKey}
 use Rattle.rate_types.specs.Counters.{same_counter}
 use Rattle.window_keys.specs.Window.{window_start}
-use Rattle.counter_cells.specs.Sums.{one_if}
+use Rattle.rate_types.specs.Sums.{one_if}
 use Rattle.counter_directory.specs.declared.claim.Claim.{Claim}
 use Rattle.counter_directory.specs.Claims.{claims_of}
-use Rattle.counter_directory.specs.Keys.{key_count, AreOf, IsMissing, AddsMissing, AddsEach}
+use Rattle.counter_directory.specs.Keys.{key_count, IsMissing, AddsEach}
+use Rattle.counter_directory.specs.Acquiring.{AreOf, AddsMissing}
 use Rattle.counter_directory.specs.Acquired.{Grows}
 use Rattle.counter_directory.proofs.CounterKeys.{same_yes, same_no, key_discrete}
 use Rattle.counter_directory.proofs.Lists.{at_snoc, at_read}
-use Rattle.counter_directory.proofs.Sums.{total_push, total_append}
+use Rattle.rate_types.proofs.Sums.{total_push, total_append}
 
 cond_is : (a b : CounterKey) (x y : ℕ) → a ≡ b → cond (same_counter a b) x y ≡ x
 cond_is a b x y e = ap (λ t. cond t x y) (same_yes a b e)

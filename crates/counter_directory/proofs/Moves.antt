@@ -4,20 +4,21 @@ use Rattle.std.specs.Prelude.{ltb, vec_capacity}
 use native.Mathlib.Decide.{ℕ_discrete}
 use Rattle.std.proofs.Common.{inl, inr, ⊎_elim, eq-eqb}
 use Rattle.std.proofs.lemmas.Bool.{ne_eqb}
-use Rattle.counter_directory.proofs.Sums.{cond_yes, cond_no}
+use Rattle.rate_types.proofs.Sums.{cond_yes, cond_no}
 use mathlib.Core.Option.{some-ne-none, some-injective}
 use Rattle.counter_directory.proofs.Lists.{at_set, empty}
 use Rattle.std.proofs.lemmas.Bool.Decides.{nat_tests}
 use mathlib.Core.Option.{some}
 use lib.ListN.{get_elem?}
-use Rattle.counter_cells.specs.Sums.{one_if, times}
+use Rattle.rate_types.specs.Sums.{one_if, times}
 use Rattle.counter_directory.specs.declared.claim.Claim.{Claim}
 use Rattle.counter_directory.specs.declared.ring.Ring.{Ring}
 use Rattle.counter_directory.specs.Claims.{claims_of, Fits, IsLawfulClaims, last_end, end_of}
 use Rattle.counter_cells.specs.declared.answers.Spot.{Spot}
 use Rattle.counter_directory.specs.Pool.{IsLawfulPool, ring_times, spot, reserved_on}
 use Rattle.counter_directory.specs.Windows.{ExpiredBelow, KeepsFits, AreRoomy}
-use Rattle.counter_directory.proofs.Sums.{total_append, total_push, total_set, total_one, last_end_push, last_of_push}
+use Rattle.rate_types.proofs.Sums.{total_append, total_push, total_set, total_one}
+use Rattle.counter_directory.proofs.Sums.{last_end_push, last_of_push}
 
 pub one_most : (b : Bool) → one_if b ≤ 1
 one_most true = omega arith

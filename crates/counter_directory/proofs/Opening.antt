@@ -5,11 +5,11 @@ use Rattle.std.specs.Prelude.{ltb, Result, Ok, Err, IsOk, is_ok, OnOk}
 use native.Mathlib.Decide.{ℕ_discrete}
 use Rattle.std.proofs.lemmas.Bool.Decides.{nat_tests}
 use Rattle.std.proofs.lemmas.Bool.{ne_eqb, le-ltb}
-use Rattle.counter_directory.proofs.Sums.{cond_yes, cond_no}
+use Rattle.rate_types.proofs.Sums.{cond_yes, cond_no}
 use mathlib.Core.Option.{some, some-ne-none}
 use lib.ListN.{get_elem?}
 use Rattle.counter_directory.proofs.Lists.{at_snoc, at_last, at_longer, at_read, last_expired}
-use Rattle.counter_cells.specs.Sums.{total, one_if, times}
+use Rattle.rate_types.specs.Sums.{total, one_if, times}
 use Rattle.counter_cells.specs.Views.{cell_or, no_cell}
 use Rattle.counter_cells.specs.Steps.{taken_cell, claimed_by, held_by, reset_by, opened_by}
 use Rattle.counter_cells.specs.declared.view.CellView.{CellView}
@@ -19,8 +19,10 @@ use Rattle.counter_directory.specs.declared.ring.Ring.{Ring}
 use Rattle.counter_cells.specs.declared.answers.Spot.{Spot}
 use Rattle.counter_directory.specs.Claims.{Fits, IsLawfulClaims, last_end, end_of}
 use Rattle.counter_directory.specs.Pool.{IsLawfulPool, spot, reserved_on}
-use Rattle.counter_directory.specs.Gates.{GatesFit, IsOpenAs, HeldSince, held_on}
-use Rattle.counter_directory.proofs.Sums.{total_push, total_one, last_end_push}
+use Rattle.counter_directory.specs.Gates.{IsOpenAs, HeldSince, held_on}
+use Rattle.counter_directory.specs.TableFits.{GatesFit}
+use Rattle.rate_types.proofs.Sums.{total_push, total_one}
+use Rattle.counter_directory.proofs.Sums.{last_end_push}
 use Rattle.counter_directory.proofs.Moves.{one_most}
 use Rattle.std.proofs.lemmas.List.{append-nil}
 use Rattle.std.proofs.lemmas.Grind.{common_steps}

@@ -9,7 +9,7 @@ use lib.ListN.{get_elem?}
 use Rattle.rate_types.specs.declared.counter_key.CounterKey.{CounterKey}
 use Rattle.rate_types.specs.Counters.{same_counter}
 use Rattle.window_keys.specs.Counter.{window_end_of}
-use Rattle.counter_cells.specs.Sums.{one_if}
+use Rattle.rate_types.specs.Sums.{one_if}
 use Rattle.counter_cells.specs.Views.{cell_or}
 use Rattle.counter_cells.specs.Steps.{good_pin, missed}
 use Rattle.counter_cells.specs.declared.view.CellView.{CellView}
@@ -17,8 +17,9 @@ use Rattle.counter_cells.specs.declared.view.OtherGate.{OtherGate}
 use Rattle.counter_cells.specs.declared.answers.Spot.{Spot}
 use Rattle.counter_directory.specs.declared.claim.Claim.{Claim}
 use Rattle.counter_directory.specs.Claims.{bindings_of, IsLawfulClaims}
-use Rattle.counter_directory.specs.Gates.{GatesFit}
-use Rattle.counter_directory.specs.Keys.{AreOf, Bound, AreShown, Agree, pinned_on}
+use Rattle.counter_directory.specs.TableFits.{GatesFit}
+use Rattle.counter_directory.specs.Acquiring.{AreOf, AreShown}
+use Rattle.counter_directory.specs.Spots.{Bound, Agree, pinned_on}
 use Rattle.counter_directory.specs.Acquired.{PinsAfterMisses}
 use Rattle.counter_directory.proofs.CounterKeys.{same_is}
 use Rattle.counter_directory.proofs.Lists.{at_cut, at_within}

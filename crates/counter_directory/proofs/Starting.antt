@@ -5,7 +5,7 @@ use Rattle.std.proofs.lemmas.Bool.{le-ltb}
 use mathlib.Core.Option.{some, some-ne-none}
 use lib.ListN.{get_elem?}
 use Rattle.counter_directory.proofs.Lists.{at_snoc}
-use Rattle.counter_cells.specs.Sums.{one_if, times}
+use Rattle.rate_types.specs.Sums.{one_if, times}
 use Rattle.rate_types.specs.declared.counter_key.CounterKey.{CounterKey}
 use Rattle.counter_cells.specs.declared.view.CellView.{CellView}
 use Rattle.counter_directory.specs.declared.claim.Claim.{Claim}
@@ -13,7 +13,7 @@ use Rattle.counter_directory.specs.declared.ring.Ring.{Ring}
 use Rattle.counter_cells.specs.declared.answers.Spot.{Spot}
 use Rattle.counter_directory.specs.Claims.{IsLawfulClaims}
 use Rattle.counter_directory.specs.Pool.{IsLawfulPool, ring_times}
-use Rattle.counter_directory.specs.Gates.{GatesFit, Indexed}
+use Rattle.counter_directory.specs.TableFits.{GatesFit, Indexed}
 use Rattle.counter_directory.specs.Windows.{RingWindows, AreEmpty, AreRoomy, len_of}
 
 none_in : (k : ℕ) (rings : List Ring) → AreEmpty rings → ring_times k rings ≡ 0

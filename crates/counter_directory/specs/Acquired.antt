@@ -5,7 +5,7 @@ use mathlib.Core.Option.{some}
 use lib.ListN.{get_elem?}
 use Rattle.rate_types.specs.declared.counter_key.CounterKey.{CounterKey}
 use Rattle.rate_types.specs.declared.counter_name.CounterName.{CounterName}
-use Rattle.counter_cells.specs.Sums.{times}
+use Rattle.rate_types.specs.Sums.{times}
 use Rattle.counter_cells.specs.Steps.{number_of, last_moment}
 use Rattle.counter_cells.specs.declared.view.CellView.{CellView}
 use Rattle.counter_cells.specs.declared.view.Tick.{Tick}
@@ -16,9 +16,10 @@ use Rattle.counter_directory.specs.declared.acquired.Acquired.{Acquired}
 use Rattle.counter_directory.specs.declared.acquired.AcquireFault.{AcquireFault}
 use Rattle.counter_directory.specs.declared.acquired.AcquireFault.TheVariants.{OutOfMemory, ClaimsSpent, CountersFull}
 use Rattle.counter_directory.specs.Claims.{last_end}
-use Rattle.counter_directory.specs.Pool.{live_below}
+use Rattle.counter_directory.specs.Claims.{live_below}
 use Rattle.counter_directory.specs.Gates.{HeldSince}
-use Rattle.counter_directory.specs.Keys.{keys_at, IsMissing, AddsEach, Bound, pinned_on, Agree}
+use Rattle.counter_directory.specs.Keys.{keys_at, IsMissing, AddsEach}
+use Rattle.counter_directory.specs.Spots.{Bound, pinned_on, Agree}
 
 -- a tick of the pass that offered nothing
 abbrev pub OffersNothing : CellView → Tick → Type 0
@@ -88,13 +89,6 @@ pub record AreFull (b : Bounds) (keys : List CounterKey) (found left : ClaimTabl
   pub few : held ≤ b.held
   pub full : b.cells < live + held + wanted
   pub used : length left.claimer.used_claims < length found.claims + wanted
-
--- the counters were bound at the moment, or why not
-abbrev pub Binds : Bounds → ℕ → List CounterKey → ClaimTableView → Result (Unit {0}) AcquireFault → ClaimTableView → Type 0
-Binds b m keys found (Ok _) left = HasBound b m keys found left
-Binds b m keys found (Err OutOfMemory) left = left ≡ found
-Binds b m keys found (Err (ClaimsSpent claims wanted)) left = AreSpent b keys found left claims wanted
-Binds b m keys found (Err (CountersFull moment live held wanted)) left = (moment ≡ m) × AreFull b keys found left moment live held wanted
 
 -- the cell pass has one pin for each name, in order, under the claim of the name's counter at the answer's moment
 pub record HasPinned (names : List CounterName) (cell_pass cell_pass' : CellView) (a : Acquired) (left : ClaimTableView) : Type 0 where

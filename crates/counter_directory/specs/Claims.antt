@@ -1,11 +1,11 @@
 -- The list of claims, and its law.
-use Rattle.std.specs.Prelude.{◌≡◌, ℕ, ◌≤◌, ◌<◌, ◌==◌, ◌&&◌, List, [], ◌∷◌, take, if◌then◌else◌}
+use Rattle.std.specs.Prelude.{◌≡◌, ℕ, ◌≤◌, ◌<◌, ◌==◌, ◌&&◌, List, [], ◌∷◌, take, if◌then◌else◌, zero, suc, ◌+◌, nat_lt}
 use mathlib.Core.Option.{some}
 use lib.ListN.{get_elem?}
 use Rattle.rate_types.specs.declared.counter_key.CounterKey.{CounterKey}
 use Rattle.rate_types.specs.Counters.{same_counter}
 use Rattle.window_keys.specs.Counter.{window_end_of}
-use Rattle.counter_cells.specs.Sums.{total, one_if}
+use Rattle.rate_types.specs.Sums.{total, one_if}
 use Rattle.counter_directory.specs.declared.claim.Claim.{Claim}
 
 -- how many claims are of the counter
@@ -48,3 +48,8 @@ pub record Fits (cells most : ℕ) (before : List Claim) (x : Claim) : Type 0 wh
 -- each claim fits behind those before it
 abbrev pub IsLawfulClaims : ℕ → ℕ → List Claim → Type 0
 IsLawfulClaims cells most xs = (i : ℕ) (x : Claim) → get_elem? xs i ≡ some x → Fits cells most (take i xs) x
+
+-- how many of the first n cells have a last window that hasn't ended at the moment m
+abbrev pub live_below : ℕ → ℕ → List Claim → ℕ
+live_below zero m claims = 0
+live_below (suc n) m claims = one_if (nat_lt m (last_end 0 n claims)) + live_below n m claims

@@ -3,6 +3,9 @@ pub mod Windows
 pub mod Pool
 pub mod Keeps
 pub mod Gates
+pub mod TableFits
 pub mod Keys
+pub mod Acquiring
+pub mod Spots
 pub mod Acquired
 pub mod Turns

@@ -1,9 +1,9 @@
 -- Inside: the pool of cells, and in which list each cell is that was ever taken.
-use Rattle.std.specs.Prelude.{◌≡◌, ℕ, zero, suc, ◌+◌, ◌≤◌, ◌==◌, nat_lt, List, [], ◌∷◌, ◌++◌}
+use Rattle.std.specs.Prelude.{◌≡◌, ℕ, ◌+◌, ◌≤◌, ◌==◌, nat_lt, List, [], ◌∷◌, ◌++◌}
 use mathlib.Core.Option.{some}
 use lib.ListN.{get_elem?}
 use Rattle.rate_types.specs.declared.counter_key.CounterKey.{CounterKey}
-use Rattle.counter_cells.specs.Sums.{total, one_if, times}
+use Rattle.rate_types.specs.Sums.{total, one_if, times}
 use Rattle.counter_cells.specs.declared.answers.Spot.{Spot}
 use Rattle.counter_directory.specs.declared.claim.Claim.{Claim}
 use Rattle.counter_directory.specs.declared.ring.Ring.{Ring}
@@ -41,8 +41,3 @@ abbrev pub BindsLast : List Spot → List Spot → List Claim → List Claim →
 BindsLast reserved reserved' claims claims' key moment =
     (cell : ℕ) × (number : ℕ) × (reserved ≡ reserved' ++ spot cell number ∷ [])
     × (claims' ≡ claims ++ (record { key = key; cell = cell; claim = number; moment = moment }) ∷ [])
-
--- how many of the first n cells have a last window that hasn't ended at the moment m
-abbrev pub live_below : ℕ → ℕ → List Claim → ℕ
-live_below zero m claims = 0
-live_below (suc n) m claims = one_if (nat_lt m (last_end 0 n claims)) + live_below n m claims

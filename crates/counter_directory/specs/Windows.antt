@@ -1,4 +1,4 @@
--- Rings: the cells that were bound in one window of a unit. They stand in the order of the units.
+-- Inside: rings: the cells that were bound in one window of a unit. They stand in the order of the units.
 use Rattle.std.specs.Prelude.{◌≡◌, ℕ, zero, suc, ◌+◌, ◌-◌, ◌%◌, ◌≤◌, ◌<◌, ◌⊎◌, List, [], vec_capacity}
 use mathlib.Core.Option.{some}
 use lib.ListN.{get_elem?}

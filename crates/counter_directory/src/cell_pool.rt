@@ -5,7 +5,8 @@ ghost use Rattle.rate_types.specs.Units.{unit_rank};
 ghost use Rattle.window_keys.specs.Window.{window_start};
 ghost use Rattle.window_keys.specs.Counter.{window_end_of};
 ghost use Rattle.counter_directory.specs.Claims.{IsLawfulClaims, claims_of};
-ghost use Rattle.counter_directory.specs.Pool.{IsLawfulPool, BindsLast, live_below, spot};
+ghost use Rattle.counter_directory.specs.Pool.{IsLawfulPool, BindsLast, spot};
+ghost use Rattle.counter_directory.specs.Claims.{live_below};
 ghost use Rattle.counter_directory.specs.Windows.{RingWindows, ExpiredBelow, FitsRing, KeepsFits, AreRoomy};
 
 use crate::claim::Claim;

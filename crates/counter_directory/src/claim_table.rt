@@ -2,7 +2,7 @@
 ghost use Rattle.std.specs.Prelude.{◌≡◌, ℕ, ◌-◌, ◌<◌};
 ghost use Rattle.std.specs.HashMap.{get};
 ghost use Rattle.rate_types.specs.Counters.{same_counter};
-ghost use Rattle.counter_directory.specs.Gates.{GatesFit, Indexed};
+ghost use Rattle.counter_directory.specs.TableFits.{GatesFit, Indexed};
 
 use crate::cell_pool::CellPool;
 use crate::claim::Claim;

@@ -59,11 +59,12 @@ impl<N: CellNaming> Directory<N> {
     ghost use Rattle.std.specs.Prelude.{◌≡◌, ◌-◌, ◌*◌, ◌≤◌, ◌<◌, ◌^◌, ℕ, [], length, All, IfOk, OnErr, vec_len};
     ghost use Rattle.counter_cells.specs.Views.{good_on};
     ghost use mathlib.Core.List.{IsPrefix};
-    ghost use Rattle.told_list.specs.Lists.{total, times, IsOwnedOnce};
+    ghost use Rattle.rate_types.specs.Sums.{total, times};
+    ghost use Rattle.told_list.specs.Lists.{IsOwnedOnce};
     ghost use Rattle.told_list.specs.Tokens.{list_of, view, known, IsFresh};
     ghost use Rattle.counter_directory.specs.Claims.{IsLawfulClaims};
     ghost use Rattle.counter_directory.specs.Gates.{AreOpen};
-    ghost use Rattle.counter_directory.specs.Keys.{spots_on};
+    ghost use Rattle.counter_directory.specs.Spots.{spots_on};
     ghost use Rattle.counter_directory.specs.Turns.{Turned};
 
     /// No claims yet on the claimer's cells, at most `claims_max` of them, 1 to 2^40, and 1 to 1,024 passes. The claimer

@@ -3,7 +3,7 @@ ghost use Rattle.rate_types.specs.declared.limits.TheConstants.{MOST_CLAIM_NUMBE
 ghost use Rattle.counter_cells.specs.Views.{good_on};
 ghost use Rattle.counter_cells.specs.Opened.{table_of, setup_of};
 ghost use Rattle.told_list.specs.Tokens.{list_of};
-ghost use Rattle.counter_directory.specs.Keys.{spots_on};
+ghost use Rattle.counter_directory.specs.Spots.{spots_on};
 
 use super::*;
 use counter_cells::{CellNaming, CellPass, Cells, OpenedCells, Spot};

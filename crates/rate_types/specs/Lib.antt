@@ -7,3 +7,4 @@ pub mod Ledger
 pub mod Entries
 pub mod Requests
 pub mod Reading
+pub mod Sums

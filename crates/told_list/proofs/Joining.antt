@@ -8,10 +8,11 @@ use lib.ListN.{get_elem?}
 use Rattle.atomic_table.proofs.Lists.{at_map}
 use Rattle.told_list.specs.declared.rule.TokenView.{TokenView}
 use Rattle.told_list.specs.declared.seen.Seen.{Seen}
-use Rattle.told_list.specs.Lists.{times}
+use Rattle.rate_types.specs.Sums.{times}
 use Rattle.told_list.specs.Rule.{joined}
 use Rattle.told_list.specs.Tokens.{view, known, JoinsTokens}
-use Rattle.told_list.proofs.Sums.{total_append, times_append}
+use Rattle.rate_types.proofs.Sums.{total_append}
+use Rattle.told_list.proofs.Sums.{times_append}
 
 at_or : {A : Type 0} (l : List A) (k : ℕ) (d : A) → k < length l → get_elem? l k ≡ some (slice_index_or l k d)
 at_or [] k d h = absurd (omega arith)

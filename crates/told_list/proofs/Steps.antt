@@ -13,10 +13,12 @@ use Rattle.atomic_table.specs.Table.{State, Me, Allows, Enters, Splits, Joins, A
 use Rattle.atomic_table.proofs.Lists.{at_snoc, set_else}
 use Rattle.told_list.specs.declared.rule.Setup.{Setup}
 use Rattle.told_list.specs.declared.rule.TokenView.{TokenView}
-use Rattle.told_list.specs.Lists.{total, one_if, times, count_from, IsOwnedOnce}
+use Rattle.rate_types.specs.Sums.{total, one_if, times}
+use Rattle.told_list.specs.Lists.{count_from, IsOwnedOnce}
 use Rattle.told_list.specs.Rule.{first_view, loaded, Loaded, slot_taken, begun, added, ended, one_less, one_token, joined, empty_view, Fits, Began, ValueState, free, taken}
 use Rattle.told_list.specs.Rule.{awaited, IsLast, IsLawful, Justifies}
-use Rattle.told_list.proofs.Sums.{total_set, total_kept, total_append, total_one, total_two, total_all, prefix_self, prefix_more, prefix_length, each_set, each_snoc, one_true}
+use Rattle.rate_types.proofs.Sums.{total_set, total_same, total_append, total_one, total_two, total_all, each_set}
+use Rattle.told_list.proofs.Sums.{prefix_self, prefix_more, prefix_length, each_snoc, one_true}
 use Rattle.told_list.proofs.Sums.{true_one, false_none, times_from, times_append, owned_more}
 
 same_words : (ws : List ℕ) (i a b : ℕ) → i ≤ 1 → ws ≡ a ∷ b ∷ [] → slice_set ws i (slice_index ws i) ≡ ws
@@ -76,7 +78,7 @@ module _ {K T F : Type 0} (items : K → List T) (fixed : K → F) (most : ℕ) 
       → IsOwnedOnce (length (items o.kept)) (length log) p (total (λ u. times p u.own) (set vs id w))
   owned_same log vs id v w at e h p =
       subst (λ (n : ℕ). IsOwnedOnce (length (items o.kept)) (length log) p n)
-      (sym (total_kept (λ (u : TokenView T). times p u.own) vs id v w at (ap (λ (l : List ℕ). times p l) e))) (h p)
+      (sym (total_same (λ (u : TokenView T). times p u.own) vs id v w at (ap (λ (l : List ℕ). times p l) e))) (h p)
 
   -- a view changes, and neither the words nor the value
   unmoved : (s : State (Option K) (TokenView T)) (h : Law s) (id : ℕ) (v w : TokenView T) (ws : List ℕ) → get_elem? s.views id ≡ some v → Fits h.log w → w.holds ≡ v.holds
@@ -88,9 +90,9 @@ module _ {K T F : Type 0} (items : K → List T) (fixed : K → F) (most : ℕ) 
     few = h.few;
     begins = h.begins;
     each = each_set (Fits h.log) s.views id w (λ j u _ x. h.each j u x) fit;
-    place = place_same h.log h.lock _ _ _ _ s _ refl (total_kept (λ (u : TokenView T). one_if u.holds) s.views id v w at (ap one_if a))
-        (total_kept (λ (u : TokenView T). one_if u.unfilled) s.views id v w at (ap one_if b)) h.place;
-    tokens = total_kept (λ (u : TokenView T). u.tokens) s.views id v w at c ∙ h.tokens;
+    place = place_same h.log h.lock _ _ _ _ s _ refl (total_same (λ (u : TokenView T). one_if u.holds) s.views id v w at (ap one_if a))
+        (total_same (λ (u : TokenView T). one_if u.unfilled) s.views id v w at (ap one_if b)) h.place;
+    tokens = total_same (λ (u : TokenView T). u.tokens) s.views id v w at c ∙ h.tokens;
     places = owned_same h.log s.views id v w at d h.places;
   }
 
@@ -143,7 +145,7 @@ module _ {K T F : Type 0} (items : K → List T) (fixed : K → F) (most : ℕ) 
               });
           place = taken refl (omega (arith, total_set (λ (u : TokenView T). one_if u.holds) s.views id v w at))
               (omega (arith, total_set (λ (u : TokenView T). one_if u.unfilled) s.views id v w at));
-          tokens = total_kept (λ (u : TokenView T). u.tokens) s.views id v w at refl ∙ h.tokens;
+          tokens = total_same (λ (u : TokenView T). u.tokens) s.views id v w at refl ∙ h.tokens;
           places = owned_same h.log s.views id v w at refl h.places;
         },
         ap (λ (c : List (ℕ × Option K)). (w, (0, None) ∷ c)) bare,
@@ -183,7 +185,7 @@ module _ {K T F : Type 0} (items : K → List T) (fixed : K → F) (most : ℕ) 
                     });
                 place = taken refl (omega (arith, total_set (λ (u : TokenView T). one_if u.holds) s.views id v w at))
                     (omega (arith, total_set (λ (u : TokenView T). one_if u.unfilled) s.views id v w at));
-                tokens = total_kept (λ (u : TokenView T). u.tokens) s.views id v w at refl ∙ h.tokens;
+                tokens = total_same (λ (u : TokenView T). u.tokens) s.views id v w at refl ∙ h.tokens;
                 places = owned_same h.log s.views id v w at refl h.places;
               }),
           inl (
@@ -262,9 +264,9 @@ module _ {K T F : Type 0} (items : K → List T) (fixed : K → F) (most : ℕ) 
                 joined_lists = λ i ys y. prefix_more ys log xs (fit.joined_lists i ys y);
                 bare = λ none. absurd (not_both v.holds (fit.bare none).1 on);
               });
-          place = taken t.0 (total_kept (λ (u : TokenView T). one_if u.holds) s.views id v w at refl ∙ t.1)
-              (total_kept (λ (u : TokenView T). one_if u.unfilled) s.views id v w at refl ∙ t.2);
-          tokens = total_kept (λ (u : TokenView T). u.tokens) s.views id v w at refl ∙ h.tokens;
+          place = taken t.0 (total_same (λ (u : TokenView T). one_if u.holds) s.views id v w at refl ∙ t.1)
+              (total_same (λ (u : TokenView T). one_if u.unfilled) s.views id v w at refl ∙ t.2);
+          tokens = total_same (λ (u : TokenView T). u.tokens) s.views id v w at refl ∙ h.tokens;
           places = λ p.
               let new = times_from p (length v.known) (length xs) in
               let ts = total_set (λ (u : TokenView T). times p u.own) s.views id v w at in
@@ -302,9 +304,9 @@ module _ {K T F : Type 0} (items : K → List T) (fixed : K → F) (most : ℕ) 
                 bare = λ none. absurd (not_both v.holds (fit.bare none).1 on);
               });
           place = free refl (let ts = total_set (λ (u : TokenView T). one_if u.holds) s.views id v w at in omega arith)
-              (total_kept (λ (u : TokenView T). one_if u.unfilled) s.views id v w at refl ∙ t.2) k (ap (put_back s.homes) has ∙ one_home s.homes (some (Some k)) (here ∙ single))
+              (total_same (λ (u : TokenView T). one_if u.unfilled) s.views id v w at refl ∙ t.2) k (ap (put_back s.homes) has ∙ one_home s.homes (some (Some k)) (here ∙ single))
               (is ∙ fit.whole on) same;
-          tokens = total_kept (λ (u : TokenView T). u.tokens) s.views id v w at refl ∙ h.tokens;
+          tokens = total_same (λ (u : TokenView T). u.tokens) s.views id v w at refl ∙ h.tokens;
           places = owned_same h.log s.views id v w at refl h.places;
         },
         ap (λ (c : List (ℕ × Option K)). (w, carried_after c gives)) has,
@@ -337,12 +339,12 @@ module _ {K T F : Type 0} (items : K → List T) (fixed : K → F) (most : ℕ) 
             });
         place =
             place_same log h.lock _ _ _ _ s _ refl
-            (omega (arith, total_append (λ (u : TokenView T). one_if u.holds) mid (right ∷ []), total_kept (λ (u : TokenView T). one_if u.holds) s.views id v left at refl))
-            (omega (arith, total_append (λ (u : TokenView T). one_if u.unfilled) mid (right ∷ []), total_kept (λ (u : TokenView T). one_if u.unfilled) s.views id v left at refl))
+            (omega (arith, total_append (λ (u : TokenView T). one_if u.holds) mid (right ∷ []), total_same (λ (u : TokenView T). one_if u.holds) s.views id v left at refl))
+            (omega (arith, total_append (λ (u : TokenView T). one_if u.unfilled) mid (right ∷ []), total_same (λ (u : TokenView T). one_if u.unfilled) s.views id v left at refl))
             h.place;
         tokens = omega (arith, total_append (λ (u : TokenView T). u.tokens) mid (right ∷ []), total_set (λ (u : TokenView T). u.tokens) s.views id v left at, h.tokens);
         places = λ p. subst (λ (n : ℕ). IsOwnedOnce (length (items o.kept)) (length log) p n)
-            (omega (arith, total_append (λ (u : TokenView T). times p u.own) mid (right ∷ []), total_kept (λ (u : TokenView T). times p u.own) s.views id v left at refl))
+            (omega (arith, total_append (λ (u : TokenView T). times p u.own) mid (right ∷ []), total_same (λ (u : TokenView T). times p u.own) s.views id v left at refl))
             (h.places p);
       }
 
@@ -386,12 +388,12 @@ module _ {K T F : Type 0} (items : K → List T) (fixed : K → F) (most : ℕ) 
             place_same log h.lock _ _ _ _ s _ refl
             (omega (
               arith,
-              total_kept (λ (u : TokenView T). one_if u.holds) s.views id v both at refl,
+              total_same (λ (u : TokenView T). one_if u.holds) s.views id v both at refl,
               total_set (λ (u : TokenView T). one_if u.holds) mid other w empty_view there,
             ))
             (omega (
               arith,
-              total_kept (λ (u : TokenView T). one_if u.unfilled) s.views id v both at refl,
+              total_same (λ (u : TokenView T). one_if u.unfilled) s.views id v both at refl,
               total_set (λ (u : TokenView T). one_if u.unfilled) mid other w empty_view there,
             )) h.place;
         tokens = omega (arith, total_set (λ (u : TokenView T). u.tokens) s.views id v both at, total_set (λ (u : TokenView T). u.tokens) mid other w empty_view there, h.tokens);

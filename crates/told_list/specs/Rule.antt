@@ -9,7 +9,8 @@ use Rattle.atomic_table.specs.Seated.{TableId}
 use Rattle.atomic_table.specs.Table.{State, Me}
 use Rattle.told_list.specs.declared.rule.Setup.{Setup}
 use Rattle.told_list.specs.declared.rule.TokenView.{TokenView}
-use Rattle.told_list.specs.Lists.{total, one_if, count_from, times, IsOwnedOnce}
+use Rattle.rate_types.specs.Sums.{total, one_if, times}
+use Rattle.told_list.specs.Lists.{count_from, IsOwnedOnce}
 
 -- the seat is one of the table, which has two words and one slot
 abbrev pub IsSeatOf : TableId → TableId → Type 0

@@ -5,7 +5,8 @@ use Rattle.atomic_table.specs.Seated.{TableId}
 use Rattle.told_list.specs.declared.rule.TokenView.{TokenView}
 use Rattle.told_list.specs.declared.seen.Seen.{Seen}
 use Rattle.told_list.specs.declared.told.Told.{Told}
-use Rattle.told_list.specs.Lists.{total, times, count_from}
+use Rattle.rate_types.specs.Sums.{total, times}
+use Rattle.told_list.specs.Lists.{count_from}
 
 module _ {K T : Type 0} where
   -- which list it is

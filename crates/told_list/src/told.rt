@@ -28,7 +28,8 @@ pub struct Told<K: Kept + Drop> {
 
 impl<K: Kept + Drop> Told<K> {
     ghost use mathlib.Core.List.{IsPrefix};
-    ghost use Rattle.told_list.specs.Lists.{total, times, IsOwnedOnce};
+    ghost use Rattle.rate_types.specs.Sums.{total, times};
+    ghost use Rattle.told_list.specs.Lists.{IsOwnedOnce};
     ghost use Rattle.told_list.specs.Tokens.{list_id, first_value, tokens, list_of, view, known, IsFresh, HasLoaded, HasTurned};
 
     /// A list that begins with the items of `kept`, and so many tokens, 1 to 1,024, each of which knows these items.

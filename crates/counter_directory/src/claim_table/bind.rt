@@ -8,8 +8,10 @@ ghost use Rattle.window_keys.specs.Counter.{window_end_of};
 ghost use Rattle.counter_directory.specs.Claims.{claims_of};
 ghost use Rattle.counter_directory.specs.Pool.{BindsLast};
 ghost use Rattle.counter_directory.specs.Windows.{ExpiredBelow, FitsRing, KeepsFits, RingsFit};
-ghost use Rattle.counter_directory.specs.Keys.{AreOf, key_count, AddsEach};
-ghost use Rattle.counter_directory.specs.Acquired.{Binds, Grows};
+ghost use Rattle.counter_directory.specs.Keys.{key_count, AddsEach};
+ghost use Rattle.counter_directory.specs.Acquiring.{AreOf};
+ghost use Rattle.counter_directory.specs.Acquired.{Grows};
+ghost use Rattle.counter_directory.specs.Acquiring.{Binds};
 ghost use Rattle.rate_types.specs.declared.counter_key.CounterKey.{CounterKey};
 
 use crate::acquired::AcquireFault;

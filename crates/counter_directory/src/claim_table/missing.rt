@@ -1,7 +1,8 @@
 // The counters of a call that have no claim.
 ghost use Rattle.std.specs.Prelude.{◌≡◌, ℕ, ◌+◌, ◌≤◌, ◌<◌, ◌==◌, [], ◌∷◌, length, vec_len, vec_capacity, IfOk, OnOk};
 ghost use Rattle.counter_directory.specs.Claims.{claims_of};
-ghost use Rattle.counter_directory.specs.Keys.{AreOf, IsMissing, AddsMissing};
+ghost use Rattle.counter_directory.specs.Keys.{IsMissing};
+ghost use Rattle.counter_directory.specs.Acquiring.{AreOf, AddsMissing};
 
 use crate::claim_table::ClaimTable;
 use crate::counter::SharedCounter;

@@ -5,7 +5,9 @@ ghost use Rattle.rate_types.specs.declared.counter_key.CounterKey.{CounterKey};
 ghost use Rattle.window_keys.specs.Counter.{window_end_of};
 ghost use Rattle.counter_cells.specs.Views.{cell_or};
 ghost use Rattle.counter_directory.specs.Claims.{claims_of, bindings_of};
-ghost use Rattle.counter_directory.specs.Keys.{key_count, Bound, AreShown};
+ghost use Rattle.counter_directory.specs.Keys.{key_count};
+ghost use Rattle.counter_directory.specs.Acquiring.{AreShown};
+ghost use Rattle.counter_directory.specs.Spots.{Bound};
 ghost use Rattle.counter_directory.specs.Acquired.{PinsAfterMisses};
 
 use crate::claim_table::ClaimTable;

@@ -3,7 +3,7 @@ use Rattle.atomic_table.specs.Seated.{TableId}
 use Rattle.atomic_table.specs.Table.{Me}
 use Rattle.counter_cells.specs.declared.view.CellView.{CellView}
 use Rattle.counter_cells.specs.declared.setup.Setup.{Setup}
-use Rattle.counter_cells.specs.Steps.{one_less, new_pass}
+use Rattle.counter_cells.specs.InnerSteps.{one_less, new_pass}
 use Rattle.counter_cells.proofs.Regrouping.{splits_as}
 use Rattle.counter_cells.proofs.Splitting.{splits}
 use Rattle.counter_cells.proofs.opened.split.Goals as goal

@@ -1,5 +1,5 @@
 use Rattle.std.proofs.Common.{◌≡◌, ℕ, ◌≤◌}
-use Rattle.counter_cells.specs.Sums.{times}
+use Rattle.rate_types.specs.Sums.{times}
 use Rattle.counter_cells.proofs.tests.take_in_turns.Given as goal
 
 abbrev pub invariant-loop-round : goal.invariant-loop-round

@@ -2,7 +2,7 @@ use Rattle.std.proofs.Common.{◌≡◌, ◌+◌, take, get_or, sym, ap, ◌∙�
 use Rattle.std.proofs.lemmas.Bool.{lt-ltb}
 use Rattle.rate_types.specs.declared.counter_key.CounterKey.{CounterKey}
 use Rattle.rate_types.specs.Counters.{same_counter}
-use Rattle.counter_cells.specs.Sums.{one_if}
+use Rattle.rate_types.specs.Sums.{one_if}
 use Rattle.counter_directory.specs.Keys.{key_count}
 use Rattle.counter_directory.proofs.Missing.{key_count_more, key_count_at}
 use Rattle.counter_directory.proofs.new_counter.contains.Goals as goal

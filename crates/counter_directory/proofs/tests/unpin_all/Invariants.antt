@@ -1,6 +1,6 @@
 use Rattle.std.proofs.Common.{◌≡◌, ℕ, drop}
 use Rattle.counter_cells.specs.Views.{good_on}
-use Rattle.counter_directory.specs.Keys.{spots_on}
+use Rattle.counter_directory.specs.Spots.{spots_on}
 use Rattle.counter_directory.proofs.tests.unpin_all.Given as goal
 
 abbrev pub invariant-loop-spot : goal.invariant-loop-spot

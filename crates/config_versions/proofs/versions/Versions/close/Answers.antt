@@ -2,7 +2,7 @@ use Rattle.std.proofs.Common.{◌≡◌, ◌∙◌, All, map, subst, sym, ap, ar
 use Rattle.std.proofs.lemmas.List.{length-map}
 use Rattle.std.specs.Arc.{arc_value}
 use mathlib.Core.List.{IsPrefix}
-use Rattle.told_list.specs.Lists.{total, times}
+use Rattle.rate_types.specs.Sums.{total, times}
 use Rattle.told_list.specs.Tokens.{list_of, list_id, view, known}
 use Rattle.config_versions.proofs.Lists.{all_parts, all_of_parts, total_map, owned_as}
 use Rattle.config_versions.proofs.versions.Versions.close.Goals as goal

@@ -1,6 +1,6 @@
 use Rattle.std.proofs.Common.{arith, sym, ap, ◌∙◌}
 use Rattle.counter_cells.specs.declared.view.CellView.{CellView}
-use Rattle.counter_cells.specs.Sums.{times}
+use Rattle.rate_types.specs.Sums.{times}
 use Rattle.counter_cells.proofs.Passes.{bare_is}
 use Rattle.counter_cells.proofs.Tables.{peek_asks, reclaim_asks}
 use Rattle.counter_cells.proofs.cells.Cells.reclaim.Goals as goal

@@ -8,7 +8,7 @@ use Rattle.counter_directory.specs.declared.ring.Ring.{Ring}
 use Rattle.counter_directory.specs.declared.cell_pool.CellPool.{CellPool}
 use Rattle.counter_directory.specs.Windows.{end_at}
 use Rattle.counter_directory.proofs.Lists.{at_index}
-use Rattle.counter_directory.proofs.Sums.{total_one}
+use Rattle.rate_types.proofs.Sums.{total_one}
 use Rattle.counter_directory.proofs.Moves.{fits_kept, pool_more, lawful_bound, roomy_set}
 use Rattle.counter_directory.proofs.Counting.{counted}
 use Rattle.counter_directory.proofs.Ringing.{windows_new, end_rank, end_later, start_before}

@@ -1,7 +1,7 @@
 use Rattle.std.proofs.Common.{◌≡◌, ◌+◌, ◌<◌, ◌^◌, arith, rules}
 use Rattle.std.specs.Prelude.{vec_len}
 use Rattle.counter_directory.specs.declared.cell_pool.CellPool.{CellPool}
-use Rattle.counter_directory.specs.Pool.{live_below}
+use Rattle.counter_directory.specs.Claims.{live_below}
 use Rattle.counter_directory.specs.Windows.{ExpiredBelow}
 use Rattle.counter_directory.proofs.Counting.{counted, live_is, ring_lens}
 use Rattle.counter_directory.proofs.cell_pool.CellPool.live.Goals as goal

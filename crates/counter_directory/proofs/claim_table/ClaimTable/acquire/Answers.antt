@@ -1,6 +1,6 @@
 use Rattle.std.proofs.Common.{List, length, sym, ap, ◌∙◌, subst, refl, arith}
 use Rattle.rate_types.specs.declared.counter_key.CounterKey.{CounterKey}
-use Rattle.counter_directory.specs.Keys.{AreOf}
+use Rattle.counter_directory.specs.Acquiring.{AreOf}
 use Rattle.counter_directory.specs.Acquired.{Bounds, ClaimTableView, HasBound}
 use Rattle.counter_directory.proofs.Pinning.{agrees, pins_moment}
 use Rattle.counter_directory.proofs.Acquiring.{are_of, len_keys, acquires}

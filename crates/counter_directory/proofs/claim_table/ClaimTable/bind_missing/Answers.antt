@@ -1,6 +1,6 @@
 use Rattle.std.proofs.Common.{◌≡◌, sym, ap, ◌∙◌, subst}
 use Rattle.counter_directory.specs.Windows.{ExpiredBelow}
-use Rattle.counter_directory.specs.Keys.{AreOf}
+use Rattle.counter_directory.specs.Acquiring.{AreOf}
 use Rattle.counter_directory.proofs.Opening.{ok_told}
 use Rattle.counter_directory.proofs.Ringing.{rings_fit}
 use Rattle.counter_directory.proofs.claim_table.ClaimTable.bind_missing.Goals as goal

@@ -1,6 +1,6 @@
 use Rattle.std.proofs.Common.{[], ◌∷◌, sym, ◌∙◌, subst, arith}
 use Rattle.rate_types.specs.declared.counter_key.CounterKey.{CounterKey}
-use Rattle.counter_directory.specs.Keys.{AreOf, AddsMissing}
+use Rattle.counter_directory.specs.Acquiring.{AreOf, AddsMissing}
 use Rattle.counter_directory.proofs.Missing.{missing_more, of_one}
 use Rattle.counter_directory.proofs.claim_table.ClaimTable.missing.Goals as goal
 

@@ -1,6 +1,7 @@
 use Rattle.std.proofs.Common.{◌≡◌, ◌≤◌, ℕ, take}
 use Rattle.std.specs.Prelude.{vec_len, vec_capacity}
-use Rattle.counter_directory.specs.Keys.{IsMissing, AreOf}
+use Rattle.counter_directory.specs.Keys.{IsMissing}
+use Rattle.counter_directory.specs.Acquiring.{AreOf}
 use Rattle.counter_directory.proofs.claim_table.ClaimTable.missing.Given as goal
 
 abbrev pub invariant-loop-key : goal.invariant-loop-key

@@ -1,5 +1,6 @@
 use Rattle.std.proofs.Common.{◌≡◌, take, length}
-use Rattle.counter_directory.specs.Keys.{Bound, AreShown}
+use Rattle.counter_directory.specs.Acquiring.{AreShown}
+use Rattle.counter_directory.specs.Spots.{Bound}
 use Rattle.counter_directory.specs.Acquired.{PinsAfterMisses}
 use Rattle.counter_directory.proofs.claim_table.ClaimTable.pin_all.Given as goal
 

@@ -1,7 +1,8 @@
 use Rattle.std.proofs.Common.{◌≡◌, List, length, sym, ap, ◌∙◌, subst}
 use Rattle.std.specs.Prelude.{All}
 use mathlib.Core.List.{IsPrefix}
-use Rattle.told_list.specs.Lists.{total, times, IsOwnedOnce}
+use Rattle.rate_types.specs.Sums.{total, times}
+use Rattle.told_list.specs.Lists.{IsOwnedOnce}
 use Rattle.told_list.specs.Tokens.{known, view}
 use Rattle.counter_directory.specs.declared.claim.Claim.{Claim}
 use Rattle.counter_directory.specs.Claims.{IsLawfulClaims}

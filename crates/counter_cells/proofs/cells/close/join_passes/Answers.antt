@@ -2,14 +2,15 @@ use Rattle.std.proofs.Common.{◌≡◌, ℕ, [], ◌∷◌, ◌++◌, length, s
 use Rattle.atomic_table.specs.Seated.{TableId}
 use Rattle.atomic_table.specs.Table.{Me}
 use Rattle.counter_cells.specs.declared.view.CellView.{CellView}
-use Rattle.counter_cells.specs.Sums.{one_if}
-use Rattle.counter_cells.specs.Views.{pins_of}
-use Rattle.counter_cells.specs.Steps.{joined, empty_view}
+use Rattle.rate_types.specs.Sums.{one_if}
+use Rattle.counter_cells.specs.Counting.{pins_of}
+use Rattle.counter_cells.specs.Steps.{empty_view}
+use Rattle.counter_cells.specs.InnerSteps.{joined}
 use Rattle.counter_cells.proofs.Sums.{at_mid}
 use Rattle.counter_cells.proofs.Regrouping.{joins_as}
 use Rattle.counter_cells.proofs.Joining.{joins}
 use Rattle.counter_cells.proofs.Closing.{joined_snoc, joined_keeps}
-use Rattle.counter_cells.proofs.closed.join_passes.Goals as goal
+use Rattle.counter_cells.proofs.cells.close.join_passes.Goals as goal
 
 pub join_seat-requires : goal.join_seat-requires
 join_seat-requires g c =

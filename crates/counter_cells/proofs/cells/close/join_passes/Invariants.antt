@@ -1,7 +1,7 @@
 use Rattle.std.proofs.Common.{◌≡◌, ◌++◌, length}
 use Rattle.counter_cells.specs.Seats.{IsBareSeatOf}
-use Rattle.counter_cells.specs.Closing.{all_joined}
-use Rattle.counter_cells.proofs.closed.join_passes.Given as goal
+use Rattle.counter_cells.specs.InnerSteps.{all_joined}
+use Rattle.counter_cells.proofs.cells.close.join_passes.Given as goal
 
 abbrev pub invariant-loop-pass : goal.invariant-loop-pass
 invariant-loop-pass g l = record {

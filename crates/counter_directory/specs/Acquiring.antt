@@ -1,0 +1,41 @@
+-- Inside: what holds while a call is served.
+use Rattle.std.specs.Prelude.{◌≡◌, ℕ, ◌+◌, ◌<◌, ◌==◌, ◌&&◌, List, if◌then◌else◌, Result, Ok, Err}
+use mathlib.Core.Option.{some}
+use lib.ListN.{get_elem?}
+use Rattle.rate_types.specs.declared.counter_key.CounterKey.{CounterKey}
+use Rattle.rate_types.specs.Counters.{same_counter}
+use Rattle.window_keys.specs.Window.{window_start}
+use Rattle.window_keys.specs.Counter.{window_end_of}
+use Rattle.rate_types.specs.Sums.{one_if}
+use Rattle.counter_cells.specs.Views.{cell_or}
+use Rattle.counter_cells.specs.declared.view.CellView.{CellView}
+use Rattle.counter_cells.specs.declared.answers.Spot.{Spot}
+use Rattle.counter_directory.specs.declared.claim.Claim.{Claim}
+use Rattle.counter_directory.specs.Claims.{claims_of}
+use Rattle.counter_directory.specs.Keys.{key_count}
+use Rattle.counter_directory.specs.declared.acquired.AcquireFault.{AcquireFault}
+use Rattle.counter_directory.specs.declared.acquired.AcquireFault.TheVariants.{OutOfMemory, ClaimsSpent, CountersFull}
+use Rattle.counter_directory.specs.Acquired.{ClaimTableView, AreSpent, AreFull, HasBound, Bounds}
+
+-- the counters are those of windows of the moment
+abbrev pub AreOf : ℕ → List CounterKey → Type 0
+AreOf moment keys = (i : ℕ) (k : CounterKey) → get_elem? keys i ≡ some k → k.start ≡ window_start k.name.unit moment
+
+-- the counter came to the list where it has no claim and wasn't there
+abbrev pub AddsMissing : List Claim → CounterKey → List CounterKey → List CounterKey → Type 0
+AddsMissing claims k missing new =
+    (q : CounterKey) → key_count q new ≡ key_count q missing +
+    (if same_counter k q then one_if ((claims_of q claims == 0) && (key_count q missing == 0)) else 0)
+
+-- the claimer's view shows each spot's number on its cell, where the counter's window hasn't ended
+abbrev pub AreShown : CellView → ℕ → List CounterKey → List Spot → Type 0
+AreShown v last keys spots =
+    (i : ℕ) (k : CounterKey) (s : Spot) → get_elem? keys i ≡ some k → get_elem? spots i ≡ some s → last < window_end_of k
+    → (cell_or v.cells s.cell).claim ≡ s.claim
+
+-- the counters were bound at the moment, or why not
+abbrev pub Binds : Bounds → ℕ → List CounterKey → ClaimTableView → Result (Unit {0}) AcquireFault → ClaimTableView → Type 0
+Binds b m keys found (Ok _) left = HasBound b m keys found left
+Binds b m keys found (Err OutOfMemory) left = left ≡ found
+Binds b m keys found (Err (ClaimsSpent claims wanted)) left = AreSpent b keys found left claims wanted
+Binds b m keys found (Err (CountersFull moment live held wanted)) left = (moment ≡ m) × AreFull b keys found left moment live held wanted
