@@ -15,4 +15,3 @@ last_end_push d k (x ∷ xs) y = last_end_push (cond (x.cell == k) (end_of x) d)
 pub last_of_push : (d : ℕ) (xs : List Claim) (y : Claim) → last_of d (xs ++ y ∷ []) ≡ y.moment
 last_of_push d [] y = refl
 last_of_push d (x ∷ xs) y = last_of_push x.moment xs y
-
