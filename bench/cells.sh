@@ -19,7 +19,7 @@ cat > "$work/crates/cells_bench/src/main.rt" <<'RT'
 //! Times pins, looks, charges and unpins.
 #![tactic(auto)]
 ghost use Rattle.std.specs.Prelude.{◌≡◌, ℕ, ◌+◌, ◌≤◌, ◌<◌, [], IfSome};
-ghost use Rattle.counter_cells.specs.Sums.{times};
+ghost use Rattle.rate_types.specs.Sums.{times};
 ghost use Rattle.counter_cells.specs.Opened.{table_of, setup_of};
 
 use counter_cells::{CellClaimer, CellNaming, CellPass, Cells, OpenedCells, Pin, Reclaim, Spot};
@@ -53,8 +53,8 @@ fn rounds<N: CellNaming>(cells: &Cells<N>, mut pass: CellPass<N>, count: u32, ro
 
 fn open_one<N: CellNaming>(cells: &Cells<N>, claimer: &mut CellClaimer<N>, cell: u32)
     requires cell { cell < N.setup.cells }
-    requires undrawn { (c : ℕ) → cell ≤ c → times c claimer.old.drawn ≡ 0 }
-    ensures { (c : ℕ) → cell + 1 ≤ c → times c claimer.new.drawn ≡ 0 }
+    requires unused { (c : ℕ) → cell ≤ c → times c claimer.old.used_claims ≡ 0 }
+    ensures { (c : ℕ) → cell + 1 ≤ c → times c claimer.new.used_claims ≡ 0 }
 {
     match cells.reclaim(claimer, cell, u64::from(cell)) {
         Reclaim::Held { pins: _ } => {}
@@ -67,7 +67,7 @@ fn open_one<N: CellNaming>(cells: &Cells<N>, claimer: &mut CellClaimer<N>, cell:
 
 fn open_all<N: CellNaming>(cells: &Cells<N>, claimer: &mut CellClaimer<N>, count: u32)
     requires count { N.setup.cells ≡ count }
-    requires undrawn { claimer.old.drawn ≡ [] }
+    requires unused { claimer.old.used_claims ≡ [] }
 {
     for cell in 0..count {
         open_one(cells, claimer, cell);
@@ -84,7 +84,7 @@ fn timed<N: CellNaming + Send + Sync, R: Threads + Clock + Sync>(
     requires name { (table_of opened ≡ N.table) × (setup_of opened ≡ N.setup) }
     requires count { (N.setup.cells ≡ count) × (1 ≤ count) }
 {
-    let (cells, passes, mut claimer) = opened.named::<N>(alloc).ok()?;
+    let (cells, passes, mut claimer) = opened.with_name::<N>(alloc).ok()?;
     open_all(&cells, &mut claimer, count);
     let start = Instant::now(rt).ok()?;
     let sums = map_vec(
@@ -131,11 +131,11 @@ ghosts-timed g a = record { table = table_of a.opened; setup = setup_of a.opened
 PF
 cat > "$work/crates/cells_bench/proofs/open_all/Invariants.antt" <<'PF'
 use Rattle.std.proofs.Common.{◌≡◌, ℕ, ◌≤◌}
-use Rattle.counter_cells.specs.Sums.{times}
+use Rattle.rate_types.specs.Sums.{times}
 use Rattle.cells_bench.proofs.open_all.Given as goal
 
 abbrev pub invariant-loop-cell : goal.invariant-loop-cell
-invariant-loop-cell g l = (c : ℕ) → l.cell ≤ c → times c l.claimer.drawn ≡ 0
+invariant-loop-cell g l = (c : ℕ) → l.cell ≤ c → times c l.claimer.used_claims ≡ 0
 PF
 
 cat > "$work/bare.c" <<'C'

@@ -1,6 +1,6 @@
 #!/bin/bash
 # Nanoseconds a name that counter_directory takes to bind new names, one a call, to 1,024 up to 1,048,576 cells: at first
-# to cells that were never taken, and, when their windows are over, to the same cells again, each the least of three
+# to cells that were never taken, and, when their windows have ended, to the same cells again, each the least of three
 # tries. The third column is of 1,048,576 names in as many windows as that takes, so that as many claims are made whatever
 # the number of cells. The last line has the ratio of the largest to the smallest of each column.
 # Run it at the top of the repository: bench/directory.sh
@@ -19,7 +19,7 @@ rate_types:
 window_keys: rate_types arrayvec
 told_list: rate_types atomic_table
 counter_cells: rate_types atomic_table
-counter_directory: rate_types window_keys atomic_table told_list counter_cells arrayvec
+counter_directory: rate_types window_keys atomic_table told_list counter_cells arrayvec thiserror
 directory_bench: rate_types told_list counter_cells counter_directory arrayvec
 TXT
 bench="$work/crates/directory_bench"
@@ -32,7 +32,7 @@ ghost use Rattle.std.specs.Prelude.{◌≡◌, ℕ, ◌*◌, ◌≤◌, ◌<◌,
 ghost use Rattle.counter_cells.specs.Views.{good_on};
 ghost use Rattle.counter_cells.specs.Opened.{table_of, setup_of};
 ghost use Rattle.told_list.specs.Tokens.{list_of};
-ghost use Rattle.counter_directory.specs.Wants.{spots_on};
+ghost use Rattle.counter_directory.specs.Spots.{spots_on};
 
 use counter_cells::{CellNaming, CellPass, Cells, OpenedCells, Spot};
 use counter_directory::{Directory, DirectoryPass};
@@ -45,7 +45,7 @@ use std::time::{Clock, Instant};
 #[derive(Drop)]
 struct Worker<N: CellNaming> {
     pass: DirectoryPass<N>,
-    hand: CellPass<N>,
+    cell_pass: CellPass<N>,
 }
 
 fn name(alloc: Global, number: u32) -> Option<CounterName> {
@@ -73,13 +73,13 @@ fn names(alloc: Global, batch: u32) -> Option<Vec<CounterName>> {
     Some(names)
 }
 
-fn unpin_all<N: CellNaming>(cells: &Cells<N>, hand: &mut CellPass<N>, spots: &[Spot])
+fn unpin_all<N: CellNaming>(cells: &Cells<N>, cell_pass: &mut CellPass<N>, spots: &[Spot])
     requires cells { All (λ s. s.cell < N.setup.cells) spots.now }
-    requires pins { (cell : ℕ) → good_on cell hand.old ≡ spots_on cell spots.now }
-    ensures none { hand.new.good ≡ [] }
+    requires pins { (cell : ℕ) → good_on cell cell_pass.old ≡ spots_on cell spots.now }
+    ensures none { cell_pass.new.good ≡ [] }
 {
     for spot in spots {
-        cells.unpin(hand, spot.cell);
+        cells.unpin(cell_pass, spot.cell);
     }
 }
 
@@ -92,21 +92,21 @@ fn take_each<N: CellNaming, R: Wait>(
     names: &[CounterName],
 ) -> bool
     requires pass { list_of worker.old.pass ≡ directory.now.list_id }
-    requires hand { worker.old.hand.good ≡ [] }
+    requires cell_pass { worker.old.cell_pass.good ≡ [] }
     ensures pass { list_of worker.new.pass ≡ directory.now.list_id }
-    ensures hand { worker.new.hand.good ≡ [] }
+    ensures cell_pass { worker.new.cell_pass.good ≡ [] }
 {
     for place in 0..names.len() {
         let Ok(acquired) = directory.acquire(
             rt,
             &mut worker.pass,
             cells,
-            &mut worker.hand,
+            &mut worker.cell_pass,
             &names[place..place + 1],
         ) else {
             return false;
         };
-        unpin_all(cells, &mut worker.hand, acquired.spots.as_slice());
+        unpin_all(cells, &mut worker.cell_pass, acquired.spots.as_slice());
     }
     true
 }
@@ -120,9 +120,9 @@ fn timed<N: CellNaming, R: Wait + Clock>(
     names: &[CounterName],
 ) -> Option<u64>
     requires pass { list_of worker.old.pass ≡ directory.now.list_id }
-    requires hand { worker.old.hand.good ≡ [] }
+    requires cell_pass { worker.old.cell_pass.good ≡ [] }
     ensures pass { list_of worker.new.pass ≡ directory.now.list_id }
-    ensures hand { worker.new.hand.good ≡ [] }
+    ensures cell_pass { worker.new.cell_pass.good ≡ [] }
 {
     let start = Instant::now(rt).ok()?;
     let is_done = take_each(rt, cells, directory, worker, names);
@@ -143,9 +143,9 @@ fn fill<N: CellNaming, R: Wait + Clock>(
     batches: u32,
 ) -> Option<u64>
     requires pass { list_of worker.old.pass ≡ directory.now.list_id }
-    requires hand { worker.old.hand.good ≡ [] }
+    requires cell_pass { worker.old.cell_pass.good ≡ [] }
     ensures pass { list_of worker.new.pass ≡ directory.now.list_id }
-    ensures hand { worker.new.hand.good ≡ [] }
+    ensures cell_pass { worker.new.cell_pass.good ≡ [] }
 {
     let mut spent = 0u64;
     for batch in 0..batches {
@@ -156,11 +156,11 @@ fn fill<N: CellNaming, R: Wait + Clock>(
     Some(spent)
 }
 
-fn last_hand<N: CellNaming>(mut hands: Vec<CellPass<N>>) -> Option<CellPass<N>>
-    requires { All (λ h. h.good ≡ []) hands.items }
+fn last_cell_pass<N: CellNaming>(mut cell_passes: Vec<CellPass<N>>) -> Option<CellPass<N>>
+    requires { All (λ h. h.good ≡ []) cell_passes.items }
     ensures { IfSome result (λ h. h.good ≡ []) }
 {
-    hands.pop()
+    cell_passes.pop()
 }
 
 fn last_pass<N: CellNaming>(
@@ -180,13 +180,13 @@ fn open<N: CellNaming>(
 ) -> Option<(Cells<N>, Directory<N>, Worker<N>)>
     requires name { (table_of opened ≡ N.table) × (setup_of opened ≡ N.setup) }
     ensures pass { IfSome result (λ r. list_of r.2.pass ≡ r.1.list_id) }
-    ensures hand { IfSome result (λ r. r.2.hand.good ≡ []) }
+    ensures cell_pass { IfSome result (λ r. r.2.cell_pass.good ≡ []) }
 {
-    let (cells, hands, claimer) = opened.named::<N>(alloc).ok()?;
-    let hand = last_hand(hands)?;
+    let (cells, cell_passes, claimer) = opened.with_name::<N>(alloc).ok()?;
+    let cell_pass = last_cell_pass(cell_passes)?;
     let (directory, passes) = Directory::make(alloc, claimer, 4_194_304, 1).ok()?;
     let pass = last_pass(passes, &directory)?;
-    Some((cells, directory, Worker { pass, hand }))
+    Some((cells, directory, Worker { pass, cell_pass }))
 }
 
 // The nanoseconds of both fills.
@@ -200,7 +200,7 @@ fn both<N: CellNaming, R: Wait + Clock>(
 {
     let (cells, directory, mut worker) = open::<N>(alloc, opened)?;
     let first = fill(rt, alloc, &cells, &directory, &mut worker, batches)?;
-    cells.tick(&mut worker.hand, Seconds::capped(60));
+    cells.tick(&mut worker.cell_pass, Seconds::capped(60));
     let second = fill(rt, alloc, &cells, &directory, &mut worker, batches)?;
     Some((first, second))
 }
@@ -230,11 +230,11 @@ fn fill_often<N: CellNaming, R: Wait + Clock>(
     turns: u32,
 ) -> Option<u64>
     requires pass { list_of worker.old.pass ≡ directory.now.list_id }
-    requires hand { worker.old.hand.good ≡ [] }
+    requires cell_pass { worker.old.cell_pass.good ≡ [] }
 {
     let mut spent = 0u64;
     for turn in 0..turns {
-        cells.tick(&mut worker.hand, Seconds::capped(60 * u64::from(turn)));
+        cells.tick(&mut worker.cell_pass, Seconds::capped(60 * u64::from(turn)));
         let more = fill(rt, alloc, cells, directory, worker, batches)?;
         spent = spent.wrapping_add(more);
     }
@@ -287,7 +287,7 @@ use Rattle.directory_bench.proofs.take_each.Given as goal
 abbrev pub invariant-loop-place : goal.invariant-loop-place
 invariant-loop-place g l = record {
   pass : list_of l.worker.pass ≡ l.directory.list_id;
-  hand : l.worker.hand.good ≡ [];
+  cell_pass : l.worker.cell_pass.good ≡ [];
 }
 PF
 sed 's/take_each/fill/; s/loop-place/loop-batch/g' "$bench/proofs/take_each/Invariants.antt" > "$bench/proofs/fill/Invariants.antt"
