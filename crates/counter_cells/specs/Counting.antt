@@ -9,6 +9,7 @@ use Rattle.counter_cells.specs.Views.{good_on}
 abbrev pub is_pair : ℕ → ℕ → ℕ × ℕ → Bool
 is_pair cell claim p = (p.0 == cell) && (p.1 == claim)
 
+-- the good pins on a cell under a claim
 abbrev pub good_at : ℕ → ℕ → CellView → ℕ
 good_at cell claim v = total (λ p. one_if (is_pair cell claim p)) v.good
 
@@ -32,6 +33,7 @@ unused_on cell v = total (λ p. one_if (p.0 == cell)) v.unused
 abbrev pub pair_at : ℕ → ℕ → CellView → ℕ
 pair_at cell claim v = total (λ p. one_if (is_pair cell claim p)) v.pairs
 
+-- the pairs of a claim
 abbrev pub pair_of : ℕ → CellView → ℕ
 pair_of claim v = total (λ p. one_if (p.1 == claim)) v.pairs
 
@@ -39,5 +41,6 @@ pair_of claim v = total (λ p. one_if (p.1 == claim)) v.pairs
 abbrev pub charges_of : ℕ → CellView → ℕ
 charges_of claim v = total (λ (x : Charge). one_if (x.claim == claim)) v.charges
 
+-- how many looks it has under a claim
 abbrev pub looks_of : ℕ → CellView → ℕ
 looks_of claim v = total (λ p. one_if (p.0 == claim)) v.looks

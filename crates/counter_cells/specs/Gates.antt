@@ -6,13 +6,15 @@ use Rattle.std.specs.Prelude.{ℕ, ◌+◌, ◌*◌, ◌/◌, ◌%◌, ◌==◌,
 abbrev pub gate_word : ℕ → ℕ → ℕ → ℕ
 gate_word claim bit pins = (claim * 65536 + pins) * 2 + bit
 
--- what a word shows
+-- the claim that a word shows
 abbrev pub claim_shown : ℕ → ℕ
 claim_shown word = word / 131072
 
+-- its open bit
 abbrev pub bit_shown : ℕ → ℕ
 bit_shown word = word % 2
 
+-- its number of pins
 abbrev pub pins_shown : ℕ → ℕ
 pins_shown word = word / 2 % 65536
 

@@ -10,10 +10,11 @@ use Rattle.counter_cells.specs.Views.{no_cell}
 abbrev pub first_claimer : Setup → CellView
 first_claimer a = record empty_view { claimer = true; unmade = a.passes; moment = a.start; cells = replicate a.cells no_cell }
 
--- the claimer after one pass was split off, and that pass, which takes the next number downwards
+-- the claimer after one pass was split off, which takes the next number downwards
 abbrev pub one_less : CellView → CellView
 one_less v = record v { unmade = v.unmade - 1 }
 
+-- the pass that was split off
 abbrev pub new_pass : CellView → CellView
 new_pass v = fresh_pass (v.unmade - 1) v.moment
 
@@ -25,6 +26,7 @@ stray_pin cell word v = record (missed cell (claim_shown word) (bit_shown word =
 abbrev pub pinned : ℕ → ℕ → ℕ → CellView → CellView
 pinned claim cell word v = if shows claim word then good_pin cell claim v else stray_pin cell word v
 
+-- without the newest stray pin on the cell
 abbrev pub drop_stray : ℕ → List ℕ → List ℕ
 drop_stray cell [] = []
 drop_stray cell (j ∷ js) = if j == cell then js else j ∷ drop_stray cell js

@@ -27,23 +27,27 @@ pub record Register : Type 0 where
   pub cells : List Cell
   pub used_claims : List ℕ
 
+-- what holds of each cell of a register
 abbrev pub EachCell : Register → (ℕ → Cell → Type 0) → Type 0
 EachCell r P = (k : ℕ) (c : Cell) → get_elem? r.cells k ≡ some c → P k c
 
+-- what holds of each view
 abbrev pub EachView : List CellView → (CellView → Type 0) → Type 0
 EachView views P = (j : ℕ) (v : CellView) → get_elem? views j ≡ some v → P v
 
--- the cell is open under the claim; and it was taken at some time
+-- the cell is open under the claim
 abbrev pub IsOpenUnder : Register → ℕ → ℕ → Type 0
 IsOpenUnder r k claim = (c : Cell) × (get_elem? r.cells k ≡ some c) × (c.is_open ≡ true) × (c.claim ≡ claim)
 
+-- the cell was taken at some time
 abbrev pub WasTaken : Register → ℕ → Type 0
 WasTaken r k = (c : Cell) × (get_elem? r.cells k ≡ some c) × (c.ever ≡ true)
 
--- how often a moment was offered in a view, and there by other passes than the one with the number
+-- how often a moment was offered in a view
 abbrev pub offers : ℕ → CellView → ℕ
 offers m v = total (offered m) v.ticks
 
+-- how often it was offered there by other passes than the one with the number
 abbrev pub other_offers : ℕ → ℕ → CellView → ℕ
 other_offers number m v = total (λ (x : Tick). if x.number == number then 0 else offered m x) v.ticks
 

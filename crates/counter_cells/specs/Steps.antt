@@ -40,13 +40,15 @@ new_passes (suc n) start = fresh_pass n start ∷ new_passes n start
 abbrev pub claimer_left : Setup → ℕ → CellView
 claimer_left a n = record empty_view { claimer = true; unmade = n; moment = a.start; cells = replicate a.cells no_cell }
 
--- A tick that answered the moment: the pass's offer is what it asked for, where that was later than its own moment
+-- the number of a pass
 abbrev pub number_of : CellView → ℕ
 number_of v = slice_index_or v.numbers 0 0
 
+-- the tick that answered the moment: the pass's offer is what it asked for, where that was later than its own moment
 abbrev pub tick_of : ℕ → ℕ → CellView → Tick
 tick_of moment now v = record { number = number_of v; moment = moment; offer = if nat_lt v.moment now then Some now else None }
 
+-- the pass after a tick that asked for `now` and answered the moment
 abbrev pub ticked : ℕ → ℕ → CellView → CellView
 ticked moment now v = record v { moment = moment; ticks = v.ticks ++ tick_of moment now v ∷ [] }
 
@@ -97,6 +99,7 @@ charged cell before hits v =
 abbrev pub taken_cell : ℕ → Cell
 taken_cell claim = record { ever = true; is_open = false; reset = false; claim = claim }
 
+-- a cell taken under the claim by a reclaim
 abbrev pub claimed_by : ℕ → ℕ → CellView → CellView
 claimed_by cell claim v = record v { cells = slice_set v.cells cell (taken_cell claim); used_claims = claim ∷ v.used_claims }
 
@@ -104,9 +107,11 @@ claimed_by cell claim v = record v { cells = slice_set v.cells cell (taken_cell 
 abbrev pub held_by : ℕ → ℕ → CellView → CellView
 held_by cell pins v = record v { held = v.held ++ (cell, pins) ∷ [] }
 
+-- a cell whose count was set to 0
 abbrev pub reset_by : ℕ → CellView → CellView
 reset_by cell v = record v { cells = slice_set v.cells cell (record (cell_or v.cells cell) { reset = true }) }
 
+-- a cell that was opened
 abbrev pub opened_by : ℕ → CellView → CellView
 opened_by cell v = record v { cells = slice_set v.cells cell (record (cell_or v.cells cell) { is_open = true }) }
 

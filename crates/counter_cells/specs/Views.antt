@@ -17,6 +17,7 @@ most_hits = MOST_HITS
 abbrev pub good_on : ℕ → CellView → ℕ
 good_on cell v = total (λ p. one_if (p.0 == cell)) v.good
 
+-- the unused looks on a cell that were at most the most hits
 abbrev pub small_on : ℕ → CellView → ℕ
 small_on cell v = total (λ p. if p.0 == cell then one_if (nat_lt p.1 (MOST_HITS + 1)) else 0) v.unused
 
@@ -30,17 +31,19 @@ pub record Capped (claim count : ℕ) (v : CellView) : Type 0 where
   pub charges : AllByRecursion (λ (x : Charge). x.claim ≡ claim → x.before + x.hits ≤ count) v.charges
   pub looks : AllByRecursion (λ (p : ℕ × ℕ). p.0 ≡ claim → p.1 ≤ count) v.looks
 
--- what the claimer knows of a cell
+-- a cell that was never taken
 abbrev pub no_cell : Cell
 no_cell = record { ever = false; is_open = false; reset = false; claim = 0 }
 
+-- what the claimer knows of the cell k
 abbrev pub cell_or : List Cell → ℕ → Cell
 cell_or cells k = slice_index_or cells k no_cell
 
--- 1 where the tick offered the moment to the clock
+-- 1 where the offer is the moment
 abbrev pub offer_is : ℕ → Option ℕ → ℕ
 offer_is moment None = 0
 offer_is moment (Some offer) = one_if (offer == moment)
 
+-- 1 where the tick offered the moment to the clock
 abbrev pub offered : ℕ → Tick → ℕ
 offered moment x = offer_is moment x.offer

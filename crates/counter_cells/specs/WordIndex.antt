@@ -1,29 +1,35 @@
 -- Inside: the index of each word in the table: first the clock, then of each cell its gate and its count.
 use Rattle.std.specs.Prelude.{ℕ, ◌+◌, ◌-◌, ◌*◌, ◌/◌, List, ◌∷◌, replicate, slice_index}
 
+-- how many words a table of so many cells has
 abbrev pub words_of : ℕ → ℕ
 words_of cells = 2 * cells + 1
 
+-- the index of a cell's gate
 abbrev pub gate_at : ℕ → ℕ
 gate_at cell = 2 * cell + 1
 
+-- the index of a cell's count
 abbrev pub count_at : ℕ → ℕ
 count_at cell = 2 * cell + 2
 
--- the cell of a gate's index, and of a count's
+-- the cell of a gate's index
 abbrev pub gate_cell : ℕ → ℕ
 gate_cell index = index / 2
 
+-- the cell of a count's index
 abbrev pub count_cell : ℕ → ℕ
 count_cell index = index / 2 - 1
 
--- the words of a table
+-- the clock among the words of a table
 abbrev pub clock_of : List ℕ → ℕ
 clock_of words = slice_index words 0
 
+-- a cell's gate there
 abbrev pub gate_of : List ℕ → ℕ → ℕ
 gate_of words cell = slice_index words (gate_at cell)
 
+-- a cell's count there
 abbrev pub count_of : List ℕ → ℕ → ℕ
 count_of words cell = slice_index words (count_at cell)
 

@@ -17,10 +17,11 @@ spot cell number = record { cell = cell; claim = number }
 abbrev pub ring_times : ℕ → List Ring → ℕ
 ring_times cell rings = total (λ (r : Ring). times cell r.cells.items) rings
 
--- how often the cell, and how often the number, stands among the reserved cells
+-- how often the cell stands among the reserved ones
 abbrev pub reserved_on : ℕ → List Spot → ℕ
 reserved_on cell reserved = total (λ (p : Spot). one_if (p.cell == cell)) reserved
 
+-- how often the number stands among the reserved cells
 abbrev pub reserved_as : ℕ → List Spot → ℕ
 reserved_as number reserved = total (λ (p : Spot). one_if (p.claim == number)) reserved
 

@@ -11,10 +11,11 @@ len_of (suc zero) = 60
 len_of (suc (suc zero)) = 3600
 len_of (suc (suc (suc n))) = 86400
 
--- the start and the end of the unit's window of a moment
+-- the start of the unit's window of a moment
 abbrev pub start_at : ℕ → ℕ → ℕ
 start_at u t = t - t % len_of u
 
+-- the end of that window
 abbrev pub end_at : ℕ → ℕ → ℕ
 end_at u t = start_at u t + len_of u
 

@@ -260,7 +260,7 @@ fn take_beside_a_pin<N: CellNaming, R: Abort + Wait>(
     cells.tick(&mut other.cell_pass, Seconds::capped(60));
     let refused = take_one(rt, alloc, directory, cells, other, "b");
     unpin_all(cells, &mut one.cell_pass, held.spots.as_slice());
-    let reserved = take_one(rt, alloc, directory, cells, other, "b");
+    let second = take_one(rt, alloc, directory, cells, other, "b");
     assert_eq!(rt;
         refused,
         Err(AcquireFault::CountersFull {
@@ -270,7 +270,7 @@ fn take_beside_a_pin<N: CellNaming, R: Abort + Wait>(
             wanted: 1
         })
     );
-    assert_eq!(rt; reserved, Ok((60, Spot { cell: 0, claim: 1 })));
+    assert_eq!(rt; second, Ok((60, Spot { cell: 0, claim: 1 })));
     Ok(())
 }
 
