@@ -10,7 +10,7 @@ use crate::report::{Report, Reports};
 use crate::slot::Bucket;
 use crate::table::Table;
 use bucket_history::{BucketRules, Running, Strategy, Usage};
-use past_log::Log;
+use http_server::Log;
 use quota_settings::{Attributes, BucketId, Settings};
 use rate_types::{Millis, OutOfMemory};
 use std::alloc::Global;
