@@ -16,7 +16,7 @@ top=$(cd "$(dirname "$0")/.." && pwd)
 work=$(mktemp -d)
 trap 'rm -rf "$work"' EXIT
 mkdir -p "$work/crates/quota_bench/src"
-for crate in rate_types proto_json agenda bucket_history quota_settings quota_buckets; do
+for crate in rate_types proto_json agenda quota_bucket quota_settings quota_buckets; do
     mkdir -p "$work/crates/$crate"
     for part in src specs proofs; do
         if [ -d "$top/crates/$crate/$part" ]; then cp -r "$top/crates/$crate/$part" "$work/crates/$crate/"; fi

@@ -3,5 +3,5 @@ pub mod Naming
 pub mod Shelving
 pub mod Steps
 pub mod Tabling
-pub mod Turning
+pub mod Advancing
 pub mod Holding

@@ -6,66 +6,66 @@ use Rattle.std.proofs.lemmas.Bool.{cases_eq, true≢false}
 use Rattle.std.proofs.lemmas.List.{get_or-set_same, get_or-set_other}
 use Rattle.quota_settings.specs.declared.pair.Pair.{Pair}
 use Rattle.quota_settings.specs.Pairs.{pairs_cmp}
-use Rattle.bucket_history.specs.History.{is_gone}
-use Rattle.quota_buckets.specs.Tables.{Kept, slot_at, slot_id, slot_named}
+use Rattle.quota_bucket.specs.History.{is_gone}
+use Rattle.quota_buckets.specs.Tables.{Stored, slot_at, slot_id, slot_named}
 use Rattle.quota_buckets.specs.Shelves.{IsShelf, IsPlaceOf, HasNoPlace}
 use Rattle.quota_buckets.proofs.Naming.{same_by_cmp, cmp_of_same, same_by_eq, eq_of_same}
 
 -- a slot that isn't empty is within the list
-at_within : (slots : List (Option Kept)) (place : ℕ) (kept : Kept) → slot_at slots place ≡ Some kept → place < length slots
-at_within [] place kept is = absurd (cc)
-at_within (s ∷ slots) zero kept is = omega arith
-at_within (s ∷ slots) (suc place) kept is = let rest = at_within slots place kept is in omega arith
+at_within : (slots : List (Option Stored)) (place : ℕ) (stored : Stored) → slot_at slots place ≡ Some stored → place < length slots
+at_within [] place stored is = absurd (cc)
+at_within (s ∷ slots) zero stored is = omega arith
+at_within (s ∷ slots) (suc place) stored is = let rest = at_within slots place stored is in omega arith
 
 -- a slot with a name has a bucket of it
-record HasBucket (id : List Pair) (slot : Option Kept) : Type 0 where
-  pub kept : Kept
-  pub is : slot ≡ Some kept
-  pub name : kept.id ≡ id
+record HasBucket (id : List Pair) (slot : Option Stored) : Type 0 where
+  pub stored : Stored
+  pub is : slot ≡ Some stored
+  pub name : stored.id ≡ id
 
-bucket_by_id : (id : List Pair) (slot : Option Kept) → slot_id slot ≡ Some id → HasBucket id slot
+bucket_by_id : (id : List Pair) (slot : Option Stored) → slot_id slot ≡ Some id → HasBucket id slot
 bucket_by_id id None is = absurd (cc)
-bucket_by_id id (Some kept) is = record { kept = kept; is = refl; name = cc }
+bucket_by_id id (Some stored) is = record { stored = stored; is = refl; name = cc }
 
-bucket_by_name : (id : List Pair) (slot : Option Kept) → slot_named id slot ≡ true → HasBucket id slot
+bucket_by_name : (id : List Pair) (slot : Option Stored) → slot_named id slot ≡ true → HasBucket id slot
 bucket_by_name id None is = absurd (cc)
-bucket_by_name id (Some kept) is = record { kept = kept; is = refl; name = same_by_eq kept.id id is }
+bucket_by_name id (Some stored) is = record { stored = stored; is = refl; name = same_by_eq stored.id id is }
 
-named_by_id : (id : List Pair) (slot : Option Kept) → slot_id slot ≡ Some id → slot_named id slot ≡ true
+named_by_id : (id : List Pair) (slot : Option Stored) → slot_id slot ≡ Some id → slot_named id slot ≡ true
 named_by_id id None is = absurd (cc)
-named_by_id id (Some kept) is = eq_of_same kept.id id (cc)
+named_by_id id (Some stored) is = eq_of_same stored.id id (cc)
 
 -- the index has each place that is named
-place_by_name : (index : List Pair → Option ℕ) (slots : List (Option Kept)) (id : List Pair) (place : ℕ) → IsShelf index slots
+place_by_name : (index : List Pair → Option ℕ) (slots : List (Option Stored)) (id : List Pair) (place : ℕ) → IsShelf index slots
     → slot_named id (slot_at slots place) ≡ true → index id ≡ Some place
 place_by_name index slots id place shelf is =
     let bucket = bucket_by_name id (slot_at slots place) is in
-    ap index (sym bucket.name) ∙ shelf.placed place bucket.kept bucket.is
+    ap index (sym bucket.name) ∙ shelf.placed place bucket.stored bucket.is
 
 not_named : (b : Bool) → (b ≡ true → ⊥) → b ≡ false
 not_named true never = absurd (never refl)
 not_named false never = refl
 
 -- what the index has is the place of a name
-pub found_place : (index : List Pair → Option ℕ) (slots : List (Option Kept)) (id : List Pair) (place : ℕ) → IsShelf index slots
+pub found_place : (index : List Pair → Option ℕ) (slots : List (Option Stored)) (id : List Pair) (place : ℕ) → IsShelf index slots
     → index id ≡ Some place → IsPlaceOf id place slots
 found_place index slots id place shelf is =
     let bucket = bucket_by_id id (slot_at slots place) (shelf.named id place is) in
     record {
-      within = at_within slots place bucket.kept bucket.is;
+      within = at_within slots place bucket.stored bucket.is;
       here = named_by_id id (slot_at slots place) (shelf.named id place is);
       first = λ before lt. not_named (slot_named id (slot_at slots before)) (λ h.
           let same : before ≡ place = cc (place_by_name index slots id before shelf h, is) in
           omega arith);
     }
 
-pub found_none : (index : List Pair → Option ℕ) (slots : List (Option Kept)) (id : List Pair) → IsShelf index slots
+pub found_none : (index : List Pair → Option ℕ) (slots : List (Option Stored)) (id : List Pair) → IsShelf index slots
     → index id ≡ None → HasNoPlace id slots
 found_none index slots id shelf is = λ place. not_named (slot_named id (slot_at slots place)) (λ h.
     let other = place_by_name index slots id place shelf h in cc)
 
 -- a name without a place isn't in the index
-pub no_place : (index : List Pair → Option ℕ) (slots : List (Option Kept)) (id : List Pair) → IsShelf index slots
+pub no_place : (index : List Pair → Option ℕ) (slots : List (Option Stored)) (id : List Pair) → IsShelf index slots
     → HasNoPlace id slots → (o : Option ℕ) → index id ≡ o → index id ≡ None
 no_place index slots id shelf none None is = is
 no_place index slots id shelf none (Some place) is =
@@ -73,32 +73,32 @@ no_place index slots id shelf none (Some place) is =
     let other = none place in
     absurd (cc)
 
-at_same : (slots : List (Option Kept)) (place k : ℕ) (slot : Option Kept) → place < length slots → k ≡ place
+at_same : (slots : List (Option Stored)) (place k : ℕ) (slot : Option Stored) → place < length slots → k ≡ place
     → slot_at (set slots place slot) k ≡ slot
 at_same slots place k slot within is = rw is (get_or-set_same slots place slot None within)
 
-at_other : (slots : List (Option Kept)) (place k : ℕ) (slot : Option Kept) → (k ≡ place → ⊥)
+at_other : (slots : List (Option Stored)) (place k : ℕ) (slot : Option Stored) → (k ≡ place → ⊥)
     → slot_at (set slots place slot) k ≡ slot_at slots k
 at_other slots place k slot apart = get_or-set_other slots place k slot None apart
 
 -- a bucket that changes but keeps its name
-pub changed_shelf : (index : List Pair → Option ℕ) (slots : List (Option Kept)) (place : ℕ) (kept later : Kept) → IsShelf index slots
-    → slot_at slots place ≡ Some kept → later.id ≡ kept.id → is_gone later.running.standing ≡ false
+pub changed_shelf : (index : List Pair → Option ℕ) (slots : List (Option Stored)) (place : ℕ) (stored later : Stored) → IsShelf index slots
+    → slot_at slots place ≡ Some stored → later.id ≡ stored.id → is_gone later.state.phase ≡ false
     → IsShelf index (set slots place (Some later))
-changed_shelf index slots place kept later shelf is name there = record {
+changed_shelf index slots place stored later shelf is name there = record {
   placed = λ k other at. placed_at k other at (cases_eq k place);
   named = λ id k found. named_at id k found (cases_eq k place);
   there = λ k other at. there_at k other at (cases_eq k place);
 }
   where
     within : place < length slots
-    within = at_within slots place kept is
+    within = at_within slots place stored is
 
-    placed_at : (k : ℕ) (other : Kept) → slot_at (set slots place (Some later)) k ≡ Some other → (k ≡ place) ⊎ (k ≡ place → ⊥)
+    placed_at : (k : ℕ) (other : Stored) → slot_at (set slots place (Some later)) k ≡ Some other → (k ≡ place) ⊎ (k ≡ place → ⊥)
         → index other.id ≡ Some k
     placed_at k other at (inl e) =
         let same : later ≡ other = cc (at, at_same slots place k (Some later) within e) in
-        rw (← same, name, e) (shelf.placed place kept is)
+        rw (← same, name, e) (shelf.placed place stored is)
     placed_at k other at (inr ne) = shelf.placed k other (sym (at_other slots place k (Some later) ne) ∙ at)
 
     named_at : (id : List Pair) (k : ℕ) → index id ≡ Some k → (k ≡ place) ⊎ (k ≡ place → ⊥)
@@ -108,8 +108,8 @@ changed_shelf index slots place kept later shelf is name there = record {
         rw (at_same slots place k (Some later) within e, name) (rw is at before)
     named_at id k found (inr ne) = rw (at_other slots place k (Some later) ne) (shelf.named id k found)
 
-    there_at : (k : ℕ) (other : Kept) → slot_at (set slots place (Some later)) k ≡ Some other → (k ≡ place) ⊎ (k ≡ place → ⊥)
-        → is_gone other.running.standing ≡ false
+    there_at : (k : ℕ) (other : Stored) → slot_at (set slots place (Some later)) k ≡ Some other → (k ≡ place) ⊎ (k ≡ place → ⊥)
+        → is_gone other.state.phase ≡ false
     there_at k other at (inl e) =
         let same : later ≡ other = cc (at, at_same slots place k (Some later) within e) in rw (← same) there
     there_at k other at (inr ne) = shelf.there k other (sym (at_other slots place k (Some later) ne) ∙ at)
@@ -128,46 +128,46 @@ cases_names a b = over (is_eq (pairs_cmp a b)) refl
     over false is = inr (λ e. true≢false (sym (same_names a b e) ∙ is))
 
 -- a bucket that is erased
-pub erased_shelf : (index less : List Pair → Option ℕ) (slots : List (Option Kept)) (place : ℕ) (kept : Kept) → IsShelf index slots
-    → slot_at slots place ≡ Some kept → ((q : List Pair) → less q ≡ cond (is_eq (pairs_cmp kept.id q)) None (index q))
+pub erased_shelf : (index less : List Pair → Option ℕ) (slots : List (Option Stored)) (place : ℕ) (stored : Stored) → IsShelf index slots
+    → slot_at slots place ≡ Some stored → ((q : List Pair) → less q ≡ cond (is_eq (pairs_cmp stored.id q)) None (index q))
     → IsShelf less (set slots place None)
-erased_shelf index less slots place kept shelf is removed = record {
+erased_shelf index less slots place stored shelf is removed = record {
   placed = λ k other at. placed_at k other at (cases_eq k place);
-  named = λ id k found. named_at id k found (cases_names kept.id id);
+  named = λ id k found. named_at id k found (cases_names stored.id id);
   there = λ k other at. there_at k other at (cases_eq k place);
 }
   where
     within : place < length slots
-    within = at_within slots place kept is
+    within = at_within slots place stored is
 
-    placed_at : (k : ℕ) (other : Kept) → slot_at (set slots place None) k ≡ Some other → (k ≡ place) ⊎ (k ≡ place → ⊥)
+    placed_at : (k : ℕ) (other : Stored) → slot_at (set slots place None) k ≡ Some other → (k ≡ place) ⊎ (k ≡ place → ⊥)
         → less other.id ≡ Some k
     placed_at k other at (inl e) = absurd (let gone = at_same slots place k None within e in cc)
     placed_at k other at (inr ne) =
         let before : index other.id ≡ Some k = shelf.placed k other (sym (at_other slots place k None ne) ∙ at) in
-        let apart : kept.id ≡ other.id → ⊥ = λ e. ne (let here : index kept.id ≡ Some place = shelf.placed place kept is in cc (ap index e, here, before)) in
-        rw (removed other.id, apart_names kept.id other.id apart) before
+        let apart : stored.id ≡ other.id → ⊥ = λ e. ne (let here : index stored.id ≡ Some place = shelf.placed place stored is in cc (ap index e, here, before)) in
+        rw (removed other.id, apart_names stored.id other.id apart) before
 
-    named_at : (id : List Pair) (k : ℕ) → less id ≡ Some k → (kept.id ≡ id) ⊎ (kept.id ≡ id → ⊥)
+    named_at : (id : List Pair) (k : ℕ) → less id ≡ Some k → (stored.id ≡ id) ⊎ (stored.id ≡ id → ⊥)
         → slot_id (slot_at (set slots place None) k) ≡ Some id
-    named_at id k found (inl e) = absurd (let gone = rw (same_names kept.id id e) at (removed id) in cc)
+    named_at id k found (inl e) = absurd (let gone = rw (same_names stored.id id e) at (removed id) in cc)
     named_at id k found (inr ne) =
-        let before : index id ≡ Some k = sym (rw (apart_names kept.id id ne) at (removed id)) ∙ found in
+        let before : index id ≡ Some k = sym (rw (apart_names stored.id id ne) at (removed id)) ∙ found in
         let named : slot_id (slot_at slots k) ≡ Some id = shelf.named id k before in
         let apart : k ≡ place → ⊥ = λ e. ne (let here : slot_id (slot_at slots place) ≡ Some id = rw (← e) named in
-        let there : slot_id (slot_at slots place) ≡ Some kept.id = rw is refl in cc (here, there)) in
+        let there : slot_id (slot_at slots place) ≡ Some stored.id = rw is refl in cc (here, there)) in
         rw (at_other slots place k None apart) named
 
-    there_at : (k : ℕ) (other : Kept) → slot_at (set slots place None) k ≡ Some other → (k ≡ place) ⊎ (k ≡ place → ⊥)
-        → is_gone other.running.standing ≡ false
+    there_at : (k : ℕ) (other : Stored) → slot_at (set slots place None) k ≡ Some other → (k ≡ place) ⊎ (k ≡ place → ⊥)
+        → is_gone other.state.phase ≡ false
     there_at k other at (inl e) = absurd (let gone = at_same slots place k None within e in cc)
     there_at k other at (inr ne) = shelf.there k other (sym (at_other slots place k None ne) ∙ at)
 
-push_last : (slots : List (Option Kept)) (slot : Option Kept) → slot_at (slots ++ slot ∷ []) (length slots) ≡ slot
+push_last : (slots : List (Option Stored)) (slot : Option Stored) → slot_at (slots ++ slot ∷ []) (length slots) ≡ slot
 push_last [] slot = refl
 push_last (s ∷ slots) slot = push_last slots slot
 
-pub push_other : (slots : List (Option Kept)) (slot : Option Kept) (k : ℕ) → (k ≡ length slots → ⊥)
+pub push_other : (slots : List (Option Stored)) (slot : Option Stored) (k : ℕ) → (k ≡ length slots → ⊥)
     → slot_at (slots ++ slot ∷ []) k ≡ slot_at slots k
 push_other [] slot zero apart = absurd (apart refl)
 push_other [] slot (suc k) apart = refl
@@ -175,49 +175,49 @@ push_other (s ∷ slots) slot zero apart = refl
 push_other (s ∷ slots) slot (suc k) apart = push_other slots slot k (λ e. apart (omega arith))
 
 -- a bucket that is added
-pub added_shelf : (index more : List Pair → Option ℕ) (slots : List (Option Kept)) (kept : Kept) → IsShelf index slots
-    → index kept.id ≡ None → ((q : List Pair) → more q ≡ cond (is_eq (pairs_cmp kept.id q)) (Some (length slots)) (index q))
-    → is_gone kept.running.standing ≡ false → IsShelf more (slots ++ Some kept ∷ [])
-added_shelf index more slots kept shelf new added there = record {
+pub added_shelf : (index more : List Pair → Option ℕ) (slots : List (Option Stored)) (stored : Stored) → IsShelf index slots
+    → index stored.id ≡ None → ((q : List Pair) → more q ≡ cond (is_eq (pairs_cmp stored.id q)) (Some (length slots)) (index q))
+    → is_gone stored.state.phase ≡ false → IsShelf more (slots ++ Some stored ∷ [])
+added_shelf index more slots stored shelf new added there = record {
   placed = λ k other at. placed_at k other at (cases_eq k (length slots));
-  named = λ id k found. named_at id k found (cases_names kept.id id);
+  named = λ id k found. named_at id k found (cases_names stored.id id);
   there = λ k other at. there_at k other at (cases_eq k (length slots));
 }
   where
-    placed_at : (k : ℕ) (other : Kept) → slot_at (slots ++ Some kept ∷ []) k ≡ Some other → (k ≡ length slots) ⊎ (k ≡ length slots → ⊥)
+    placed_at : (k : ℕ) (other : Stored) → slot_at (slots ++ Some stored ∷ []) k ≡ Some other → (k ≡ length slots) ⊎ (k ≡ length slots → ⊥)
         → more other.id ≡ Some k
     placed_at k other at (inl e) =
-        let here : slot_at (slots ++ Some kept ∷ []) k ≡ Some kept = rw e (push_last slots (Some kept)) in
-        let same : kept ≡ other = cc (here, at) in
-        rw (added other.id, same_names kept.id other.id (ap (λ (x : Kept). x.id) same), e) refl
+        let here : slot_at (slots ++ Some stored ∷ []) k ≡ Some stored = rw e (push_last slots (Some stored)) in
+        let same : stored ≡ other = cc (here, at) in
+        rw (added other.id, same_names stored.id other.id (ap (λ (x : Stored). x.id) same), e) refl
     placed_at k other at (inr ne) =
-        let before : index other.id ≡ Some k = shelf.placed k other (sym (push_other slots (Some kept) k ne) ∙ at) in
-        let apart : kept.id ≡ other.id → ⊥ = λ e. (let same = ap index e in cc) in
-        rw (added other.id, apart_names kept.id other.id apart) before
+        let before : index other.id ≡ Some k = shelf.placed k other (sym (push_other slots (Some stored) k ne) ∙ at) in
+        let apart : stored.id ≡ other.id → ⊥ = λ e. (let same = ap index e in cc) in
+        rw (added other.id, apart_names stored.id other.id apart) before
 
-    named_at : (id : List Pair) (k : ℕ) → more id ≡ Some k → (kept.id ≡ id) ⊎ (kept.id ≡ id → ⊥)
-        → slot_id (slot_at (slots ++ Some kept ∷ []) k) ≡ Some id
+    named_at : (id : List Pair) (k : ℕ) → more id ≡ Some k → (stored.id ≡ id) ⊎ (stored.id ≡ id → ⊥)
+        → slot_id (slot_at (slots ++ Some stored ∷ []) k) ≡ Some id
     named_at id k found (inl e) =
-        let last : Some (length slots) ≡ Some k = sym (rw (same_names kept.id id e) at (added id)) ∙ found in
+        let last : Some (length slots) ≡ Some k = sym (rw (same_names stored.id id e) at (added id)) ∙ found in
         let is : k ≡ length slots = cc in
-        rw (is, push_last slots (Some kept), e) refl
+        rw (is, push_last slots (Some stored), e) refl
     named_at id k found (inr ne) =
-        let before : index id ≡ Some k = sym (rw (apart_names kept.id id ne) at (added id)) ∙ found in
+        let before : index id ≡ Some k = sym (rw (apart_names stored.id id ne) at (added id)) ∙ found in
         let named : slot_id (slot_at slots k) ≡ Some id = shelf.named id k before in
         let bucket = bucket_by_id id (slot_at slots k) named in
-        let within : k < length slots = at_within slots k bucket.kept bucket.is in
-        rw (push_other slots (Some kept) k (λ e. omega arith)) named
+        let within : k < length slots = at_within slots k bucket.stored bucket.is in
+        rw (push_other slots (Some stored) k (λ e. omega arith)) named
 
-    there_at : (k : ℕ) (other : Kept) → slot_at (slots ++ Some kept ∷ []) k ≡ Some other → (k ≡ length slots) ⊎ (k ≡ length slots → ⊥)
-        → is_gone other.running.standing ≡ false
+    there_at : (k : ℕ) (other : Stored) → slot_at (slots ++ Some stored ∷ []) k ≡ Some other → (k ≡ length slots) ⊎ (k ≡ length slots → ⊥)
+        → is_gone other.state.phase ≡ false
     there_at k other at (inl e) =
-        let here : slot_at (slots ++ Some kept ∷ []) k ≡ Some kept = rw e (push_last slots (Some kept)) in
-        let same : kept ≡ other = cc (here, at) in rw (← same) there
-    there_at k other at (inr ne) = shelf.there k other (sym (push_other slots (Some kept) k ne) ∙ at)
+        let here : slot_at (slots ++ Some stored ∷ []) k ≡ Some stored = rw e (push_last slots (Some stored)) in
+        let same : stored ≡ other = cc (here, at) in rw (← same) there
+    there_at k other at (inr ne) = shelf.there k other (sym (push_other slots (Some stored) k ne) ∙ at)
 
 pub empty_shelf : (index : List Pair → Option ℕ) → ((q : List Pair) → index q ≡ None) → IsShelf index []
 empty_shelf index none = record {
-  placed = λ place kept is. absurd (cc);
+  placed = λ place stored is. absurd (cc);
   named = λ id place is. absurd (let no = none id in cc);
-  there = λ place kept is. absurd (cc);
+  there = λ place stored is. absurd (cc);
 }

@@ -2,13 +2,13 @@
 use Rattle.std.specs.Prelude.{List, [], ◌∷◌}
 use Rattle.quota_settings.specs.Covering.{AllSettings}
 use Rattle.quota_settings.specs.declared.pair.Pair.{Pair}
-use Rattle.quota_buckets.specs.Streams.{Stream, new_stream, turned_to, connected, asked_again, requested, assigned_in, abandoned_in}
+use Rattle.quota_buckets.specs.Streams.{Stream, new_stream, advanced_to, connected, asked_again, requested, assigned_in, abandoned_in}
 use Rattle.quota_buckets.specs.declared.call.Call.{Call}
 use Rattle.quota_buckets.specs.declared.call.Call.TheVariants.{Advance, SetUp, Request, Decide, Assign, Abandon}
 
 -- the stream after a call, which has attributes or the name of a bucket
 abbrev pub after_call : Call → List Pair → Stream → Stream
-after_call (Advance at) pairs s = turned_to at s
+after_call (Advance at) pairs s = advanced_to at s
 after_call (SetUp up) pairs s = connected up s
 after_call Request pairs s = requested pairs s
 after_call Decide pairs s = asked_again pairs s

@@ -1,11 +1,11 @@
--- What is kept of a stream is that of its history.
+-- What is stored of a stream is that of its history.
 use Rattle.std.specs.Prelude.{◌≡◌, ℕ, Bool, true, List, [], ◌∷◌, ⊤, map}
 use Rattle.quota_settings.specs.Covering.{AllSettings}
-use Rattle.bucket_history.specs.Reports.{present}
-use Rattle.bucket_history.specs.Orders.{IsInOrder}
+use Rattle.quota_bucket.specs.Reports.{present}
+use Rattle.quota_bucket.specs.TimeOrder.{IsInOrder}
 use Rattle.quota_buckets.specs.Pasts.{Past, is_there}
 use Rattle.quota_buckets.specs.Streams.{Stream}
-use Rattle.quota_buckets.specs.Tables.{Table, kept_of}
+use Rattle.quota_buckets.specs.Tables.{Table, stored_of}
 
 -- a bucket's history is in order and reaches the present, and the bucket is there
 pub record IsOnTime (time : ℕ) (past : Past) : Type 0 where
@@ -22,5 +22,5 @@ pub record IsHeld (settings : AllSettings) (up : Bool) (table : Table) (s : Stre
   pub settings_are : s.settings ≡ settings
   pub is_up : s.up ≡ up
   pub time_is : s.time ≡ table.time
-  pub kept_are : table.kept ≡ map kept_of s.buckets
+  pub stored_are : table.stored ≡ map stored_of s.buckets
   pub on_time : AllOnTime s.time s.buckets

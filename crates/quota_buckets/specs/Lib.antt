@@ -1,4 +1,4 @@
-pub mod Orders
+pub mod FirstMatch
 pub mod Sending
 pub mod Pasts
 pub mod Phases

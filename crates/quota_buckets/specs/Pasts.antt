@@ -2,8 +2,8 @@
 use Rattle.std.specs.Prelude.{List, ◌∷◌, Bool, not}
 use Rattle.quota_settings.specs.Pairs.{same_pairs}
 use Rattle.quota_settings.specs.declared.pair.Pair.{Pair}
-use Rattle.bucket_history.specs.History.{Event, standing_of, is_gone}
-use Rattle.bucket_history.specs.declared.rules.BucketRules.{BucketRules}
+use Rattle.quota_bucket.specs.History.{Event, phase_after, is_gone}
+use Rattle.quota_bucket.specs.declared.rules.BucketRules.{BucketRules}
 
 -- a bucket: its name, the rules by which it was made, and what happened to it, the latest first
 pub record Past : Type 0 where
@@ -17,7 +17,7 @@ happened event past = record past { history = event ∷ past.history }
 
 -- whether it wasn't erased
 abbrev pub is_there : Past → Bool
-is_there past = not (is_gone (standing_of past.rules past.history))
+is_there past = not (is_gone (phase_after past.rules past.history))
 
 -- whether it has this name
 abbrev pub is_named : List Pair → Past → Bool

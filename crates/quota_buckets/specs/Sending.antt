@@ -1,7 +1,7 @@
 -- Reports and their order.
 use Rattle.std.specs.Prelude.{List, [], ◌∷◌, Option, Some, None, nat_le, if◌then◌else◌}
 use Rattle.quota_settings.specs.declared.pair.Pair.{Pair}
-use Rattle.bucket_history.specs.declared.running.Usage.{Usage}
+use Rattle.quota_bucket.specs.declared.bucket_state.Usage.{Usage}
 use Rattle.quota_buckets.specs.declared.report.Report.{Report}
 
 -- a report of a bucket

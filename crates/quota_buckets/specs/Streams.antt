@@ -1,16 +1,17 @@
 -- A stream so far: its time, whether it is up, and each bucket that is there with its history, in order of making.
-use Rattle.std.specs.Prelude.{ℕ, List, [], ◌∷◌, ◌++◌, Option, Some, None, Result, Ok, Err, Bool, true, false, map, filter, find, option_map, unwrap_or, All}
+use Rattle.std.specs.Prelude.{ℕ, List, [], ◌∷◌, ◌++◌, Option, Some, None, Result, Ok, Err, Bool, true, false, map, filter, find}
+use Rattle.std.specs.Prelude.{option_map, unwrap_or, All}
 use Rattle.std.specs.List.{flat_map}
 use Rattle.quota_settings.specs.Covering.{AllSettings, OneSettings, covering, id_of}
 use Rattle.quota_settings.specs.declared.pair.Pair.{Pair}
-use Rattle.bucket_history.specs.History.{Turn, Request, Assignment, standing_of, is_allowed, begins_by_assignment}
-use Rattle.bucket_history.specs.Reports.{report_of_turn, report_of_request}
-use Rattle.bucket_history.specs.Allowance.{KeepsAllowance}
-use Rattle.bucket_history.specs.declared.rules.BucketRules.{BucketRules}
-use Rattle.bucket_history.specs.declared.strategy.Strategy.{Strategy}
+use Rattle.quota_bucket.specs.History.{Advance, Request, Assignment, phase_after, is_allowed, begins_by_assignment}
+use Rattle.quota_bucket.specs.Reports.{report_of_advance, report_of_request}
+use Rattle.quota_bucket.specs.Allowance.{KeepsAllowance}
+use Rattle.quota_bucket.specs.declared.rules.BucketRules.{BucketRules}
+use Rattle.quota_bucket.specs.declared.strategy.Strategy.{Strategy}
 use Rattle.quota_buckets.specs.Pasts.{Past, happened, is_there, is_named}
 use Rattle.quota_buckets.specs.Sending.{report_from, reports_from, by_moment}
-use Rattle.quota_buckets.specs.Orders.{at_first, without_first}
+use Rattle.quota_buckets.specs.FirstMatch.{at_first, without_first}
 use Rattle.quota_buckets.specs.Phases.{phase_of}
 use Rattle.quota_buckets.specs.declared.phase.Phase.{Phase}
 use Rattle.quota_buckets.specs.declared.phase.Phase.TheVariants.{None as NoPhase}
@@ -34,15 +35,15 @@ new_stream settings = record { settings = settings; time = 0; up = true; buckets
 abbrev pub bucket_of : List Pair → Stream → Option Past
 bucket_of id s = find (is_named id) s.buckets
 
--- after a turn: each bucket has it, and the erased ones are gone
-abbrev pub turned_to : ℕ → Stream → Stream
-turned_to at s = record s { time = at; buckets = filter is_there (map (happened (Turn at s.up)) s.buckets) }
+-- after an advance: each bucket has it, and the erased ones are gone
+abbrev pub advanced_to : ℕ → Stream → Stream
+advanced_to at s = record s { time = at; buckets = filter is_there (map (happened (Advance at s.up)) s.buckets) }
 
--- the report that a turn sends of a bucket
+-- the report that an advance sends of a bucket
 abbrev pub past_reports : ℕ → Bool → Past → List Report
-past_reports at up past = reports_from past.id (report_of_turn past.rules past.history at up)
+past_reports at up past = reports_from past.id (report_of_advance past.rules past.history at up)
 
--- the reports that fall due at a turn, in order of their moments, those of one moment by age of bucket
+-- the reports that fall due at an advance, in order of their moments, those of one moment by age of bucket
 abbrev pub reports_due : ℕ → Stream → List Report
 reports_due at s = by_moment (flat_map (past_reports at s.up) s.buckets)
 
@@ -75,7 +76,7 @@ or_no_bucket None = Err (record {})
 
 abbrev pub assignment_result : List Pair → Strategy → Stream → Result Assigned NoBucket
 assignment_result id strategy s =
-    or_no_bucket (option_map (λ p. assigned_as (begins_by_assignment (standing_of p.rules p.history) strategy)) (bucket_of id s))
+    or_no_bucket (option_map (λ p. assigned_as (begins_by_assignment (phase_after p.rules p.history) strategy)) (bucket_of id s))
 
 -- after an abandonment
 abbrev pub abandoned_in : List Pair → Stream → Stream
@@ -83,7 +84,7 @@ abandoned_in id s = record s { buckets = without_first (is_named id) s.buckets }
 
 -- the phase of a name
 abbrev pub phase_in : List Pair → Stream → Phase
-phase_in id s = unwrap_or (option_map (λ p. phase_of (standing_of p.rules p.history)) (bucket_of id s)) NoPhase
+phase_in id s = unwrap_or (option_map (λ p. phase_of (phase_after p.rules p.history)) (bucket_of id s)) NoPhase
 
 -- a bucket that a request makes now
 abbrev pub made_now : List Pair → BucketRules → Stream → Past

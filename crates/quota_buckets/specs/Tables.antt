@@ -1,16 +1,17 @@
--- What is kept of a stream's buckets: the running values of each, in order of making.
-use Rattle.std.specs.Prelude.{ℕ, List, [], ◌∷◌, ◌++◌, Option, Some, None, Bool, false, not, option_map, slice_index_or, slice_set, ◌<◌, All, map, filter, if◌then◌else◌}
+-- What is stored of a stream's buckets: the state of each, in order of making.
+use Rattle.std.specs.Prelude.{ℕ, List, [], ◌∷◌, ◌++◌, Option, Some, None, Bool, false, not, option_map, slice_index_or, slice_set}
+use Rattle.std.specs.Prelude.{◌<◌, All, map, filter, if◌then◌else◌}
 use Rattle.std.specs.List.{flat_map}
 use Rattle.quota_settings.specs.Pairs.{same_pairs}
 use Rattle.quota_settings.specs.declared.pair.Pair.{Pair}
-use Rattle.bucket_history.specs.History.{is_gone}
-use Rattle.bucket_history.specs.Kept.{running_of}
-use Rattle.bucket_history.specs.Machine.{turned, turn_report, asked, assigned_kept, nothing_kept}
-use Rattle.bucket_history.specs.Due.{due, never}
-use Rattle.bucket_history.specs.declared.rules.BucketRules.{BucketRules}
-use Rattle.bucket_history.specs.declared.running.Running.{Running}
-use Rattle.bucket_history.specs.declared.running.Turn.{Turn}
-use Rattle.bucket_history.specs.declared.strategy.Strategy.{Strategy}
+use Rattle.quota_bucket.specs.History.{is_gone}
+use Rattle.quota_bucket.specs.State.{state_after}
+use Rattle.quota_bucket.specs.Machine.{advanced, advance_report, asked, assigned, new_state}
+use Rattle.quota_bucket.specs.Due.{due, never}
+use Rattle.quota_bucket.specs.declared.rules.BucketRules.{BucketRules}
+use Rattle.quota_bucket.specs.declared.bucket_state.BucketState.{BucketState}
+use Rattle.quota_bucket.specs.declared.bucket_state.Advance.{Advance}
+use Rattle.quota_bucket.specs.declared.strategy.Strategy.{Strategy}
 use Rattle.quota_buckets.specs.Pasts.{Past}
 use Rattle.quota_buckets.specs.Phases.{phase_of}
 use Rattle.quota_buckets.specs.Sending.{reports_from, by_moment}
@@ -18,110 +19,110 @@ use Rattle.quota_buckets.specs.declared.phase.Phase.{Phase}
 use Rattle.quota_buckets.specs.declared.phase.Phase.TheVariants.{None as NoPhase}
 use Rattle.quota_buckets.specs.declared.report.Report.{Report}
 
--- a bucket by its running values
-pub record Kept : Type 0 where
+-- a bucket by its state
+pub record Stored : Type 0 where
   pub id : List Pair
   pub rules : BucketRules
-  pub running : Running
+  pub state : BucketState
 
--- what is kept of a bucket with its history
-abbrev pub kept_of : Past → Kept
-kept_of past = record { id = past.id; rules = past.rules; running = running_of past.rules past.history }
+-- what is stored of a bucket with its history
+abbrev pub stored_of : Past → Stored
+stored_of past = record { id = past.id; rules = past.rules; state = state_after past.rules past.history }
 
-abbrev pub is_kept_as : List Pair → Kept → Bool
-is_kept_as id kept = same_pairs kept.id id
+abbrev pub is_stored_as : List Pair → Stored → Bool
+is_stored_as id stored = same_pairs stored.id id
 
-abbrev pub kept_there : Kept → Bool
-kept_there kept = not (is_gone kept.running.standing)
+abbrev pub stored_there : Stored → Bool
+stored_there stored = not (is_gone stored.state.phase)
 
--- after a turn
-abbrev pub kept_turned : Turn → Kept → Kept
-kept_turned turn kept = record kept { running = turned kept.rules turn kept.running }
+-- after an advance
+abbrev pub stored_advanced : Advance → Stored → Stored
+stored_advanced advance stored = record stored { state = advanced stored.rules advance stored.state }
 
-abbrev pub kept_reports : Turn → Kept → List Report
-kept_reports turn kept = reports_from kept.id (turn_report kept.rules turn kept.running)
+abbrev pub stored_reports : Advance → Stored → List Report
+stored_reports advance stored = reports_from stored.id (advance_report stored.rules advance stored.state)
 
 -- after a request
-abbrev pub kept_asked : ℕ → Bool → Kept → Kept
-kept_asked at up kept = record kept { running = (asked kept.rules at up kept.running).running }
+abbrev pub stored_asked : ℕ → Bool → Stored → Stored
+stored_asked at up stored = record stored { state = (asked stored.rules at up stored.state).state }
 
-abbrev pub kept_answer : ℕ → Bool → Kept → Bool
-kept_answer at up kept = (asked kept.rules at up kept.running).allowed
+abbrev pub stored_answer : ℕ → Bool → Stored → Bool
+stored_answer at up stored = (asked stored.rules at up stored.state).allowed
 
 -- a bucket by its first request
-abbrev pub first_kept : List Pair → BucketRules → ℕ → Bool → Kept
-first_kept id rules at up = record { id = id; rules = rules; running = (asked rules at up (nothing_kept at)).running }
+abbrev pub first_stored : List Pair → BucketRules → ℕ → Bool → Stored
+first_stored id rules at up = record { id = id; rules = rules; state = (asked rules at up (new_state at)).state }
 
 -- after an assignment
-abbrev pub kept_assigned : ℕ → Option ℕ → Strategy → Kept → Kept
-kept_assigned at lifetime strategy kept = record kept { running = assigned_kept at lifetime strategy kept.running }
+abbrev pub stored_assigned : ℕ → Option ℕ → Strategy → Stored → Stored
+stored_assigned at lifetime strategy stored = record stored { state = assigned at lifetime strategy stored.state }
 
 -- the buckets of slots, in order
-abbrev pub slot_list : Option Kept → List Kept
+abbrev pub slot_list : Option Stored → List Stored
 slot_list None = []
-slot_list (Some kept) = kept ∷ []
+slot_list (Some stored) = stored ∷ []
 
-abbrev pub held : List (Option Kept) → List Kept
+abbrev pub held : List (Option Stored) → List Stored
 held [] = []
 held (slot ∷ slots) = slot_list slot ++ held slots
 
 -- the slot of a place; beyond the last one it is empty
-abbrev pub slot_at : List (Option Kept) → ℕ → Option Kept
+abbrev pub slot_at : List (Option Stored) → ℕ → Option Stored
 slot_at slots place = slice_index_or slots place None
 
-abbrev pub slot_named : List Pair → Option Kept → Bool
+abbrev pub slot_named : List Pair → Option Stored → Bool
 slot_named id None = false
-slot_named id (Some kept) = is_kept_as id kept
+slot_named id (Some stored) = is_stored_as id stored
 
-abbrev pub slot_id : Option Kept → Option (List Pair)
-slot_id slot = option_map (λ kept. kept.id) slot
+abbrev pub slot_id : Option Stored → Option (List Pair)
+slot_id slot = option_map (λ stored. stored.id) slot
 
 -- the phase of a slot's bucket
-abbrev pub slot_phase : Option Kept → Phase
+abbrev pub slot_phase : Option Stored → Phase
 slot_phase None = NoPhase
-slot_phase (Some kept) = phase_of kept.running.standing
+slot_phase (Some stored) = phase_of stored.state.phase
 
 -- the next moment at which a slot wants work
-abbrev pub slot_due : ℕ → Option Kept → ℕ
+abbrev pub slot_due : ℕ → Option Stored → ℕ
 slot_due time None = never
-slot_due time (Some kept) = due kept.rules kept.running time
+slot_due time (Some stored) = due stored.rules stored.state time
 
--- a slot after a turn, which may erase its bucket
-abbrev pub there_or_none : Kept → Option Kept
-there_or_none kept = if kept_there kept then Some kept else None
+-- a slot after an advance, which may erase its bucket
+abbrev pub there_or_none : Stored → Option Stored
+there_or_none stored = if stored_there stored then Some stored else None
 
-abbrev pub slot_turned : Turn → Option Kept → Option Kept
-slot_turned turn None = None
-slot_turned turn (Some kept) = there_or_none (kept_turned turn kept)
+abbrev pub slot_advanced : Advance → Option Stored → Option Stored
+slot_advanced advance None = None
+slot_advanced advance (Some stored) = there_or_none (stored_advanced advance stored)
 
--- the name of a bucket that a turn erases
-abbrev pub id_if_gone : List Pair → Kept → Option (List Pair)
-id_if_gone id kept = if kept_there kept then None else Some id
+-- the name of a bucket that an advance erases
+abbrev pub id_if_gone : List Pair → Stored → Option (List Pair)
+id_if_gone id stored = if stored_there stored then None else Some id
 
-abbrev pub erased_id : Turn → Option Kept → Option (List Pair)
-erased_id turn None = None
-erased_id turn (Some kept) = id_if_gone kept.id (kept_turned turn kept)
+abbrev pub erased_id : Advance → Option Stored → Option (List Pair)
+erased_id advance None = None
+erased_id advance (Some stored) = id_if_gone stored.id (stored_advanced advance stored)
 
-abbrev pub slot_reports : Turn → Option Kept → List Report
-slot_reports turn None = []
-slot_reports turn (Some kept) = kept_reports turn kept
+abbrev pub slot_reports : Advance → Option Stored → List Report
+slot_reports advance None = []
+slot_reports advance (Some stored) = stored_reports advance stored
 
--- what is kept of a stream: its time, and its buckets in order of making
+-- what is stored of a stream: its time, and its buckets in order of making
 pub record Table : Type 0 where
   pub time : ℕ
-  pub kept : List Kept
+  pub stored : List Stored
 
--- a turn from a table's time
-abbrev pub turn_of : Table → ℕ → Bool → Turn
-turn_of table to up = record { from = table.time; to = to; up = up }
+-- an advance from a table's time
+abbrev pub advance_of : Table → ℕ → Bool → Advance
+advance_of table to up = record { from = table.time; to = to; up = up }
 
--- a table after a turn: each bucket has it, and the erased ones are gone
-abbrev pub table_turned : Turn → Table → Table
-table_turned turn table = record { time = turn.to; kept = filter kept_there (map (kept_turned turn) table.kept) }
+-- a table after an advance: each bucket has it, and the erased ones are gone
+abbrev pub table_advanced : Advance → Table → Table
+table_advanced advance table = record { time = advance.to; stored = filter stored_there (map (stored_advanced advance) table.stored) }
 
--- the reports that a turn sends, in order
-abbrev pub table_reports : Turn → Table → List Report
-table_reports turn table = by_moment (flat_map (kept_reports turn) table.kept)
+-- the reports that an advance sends, in order
+abbrev pub table_reports : Advance → Table → List Report
+table_reports advance table = by_moment (flat_map (stored_reports advance) table.stored)
 
 -- a list in which some places are set, one after the other, each by what it has
 abbrev pub each_set : {X : Type 0} → (ℕ → X → X) → X → List X → List ℕ → List X
@@ -130,8 +131,8 @@ each_set change default xs (place ∷ places) =
     each_set change default (slice_set xs place (change place (slice_index_or xs place default))) places
 
 -- the reports of the buckets at some places
-abbrev pub reports_at : Turn → List (Option Kept) → List ℕ → List Report
-reports_at turn slots places = flat_map (λ place. slot_reports turn (slot_at slots place)) places
+abbrev pub reports_at : Advance → List (Option Stored) → List ℕ → List Report
+reports_at advance slots places = flat_map (λ place. slot_reports advance (slot_at slots place)) places
 
 -- all places are within a list of this length
 abbrev pub AllWithin : ℕ → List ℕ → Type 0

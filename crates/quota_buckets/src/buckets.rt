@@ -1,7 +1,7 @@
 ghost use Rattle.std.specs.Prelude.{◌≡◌, ◌<◌, ◌↔◌, ◌++◌, ◌∷◌, [], ℕ, Err, None, IfOk, OnOk, OnErr, false, find, option_map};
-ghost use Rattle.bucket_history.specs.Machine.{asked, nothing_kept};
+ghost use Rattle.quota_bucket.specs.Machine.{asked, new_state};
 ghost use Rattle.quota_buckets.specs.Sending.{report_from};
-ghost use Rattle.quota_buckets.specs.Tables.{is_kept_as, first_kept};
+ghost use Rattle.quota_buckets.specs.Tables.{is_stored_as, first_stored};
 
 use crate::answers::{AdvanceFault, Assigned, Decided, NoBucket};
 use crate::call::Call;
@@ -9,8 +9,8 @@ use crate::phase::Phase;
 use crate::report::{Report, Reports};
 use crate::slot::Bucket;
 use crate::table::Table;
-use bucket_history::{BucketRules, Running, Strategy, Usage};
 use http_server::Log;
+use quota_bucket::{BucketRules, BucketState, Strategy, Usage};
 use quota_settings::{Attributes, BucketId, Settings};
 use rate_types::{Millis, OutOfMemory};
 use std::alloc::Global;
@@ -41,7 +41,9 @@ impl Model for Buckets {
 }
 
 impl Buckets {
-    ghost use Rattle.quota_buckets.specs.Streams.{new_stream, turned_to, reports_due, connected, asked_again, answer, assigned_in, assignment_result, abandoned_in, requested, decision, found_id, phase_in, KeepAllowance};
+    ghost use Rattle.quota_buckets.specs.Streams.{new_stream, advanced_to, reports_due, connected, asked_again, answer};
+    ghost use Rattle.quota_buckets.specs.Streams.{assigned_in, assignment_result, abandoned_in, requested, decision, found_id};
+    ghost use Rattle.quota_buckets.specs.Streams.{phase_in, KeepAllowance};
     ghost use Rattle.quota_buckets.specs.declared.phase.Phase.TheVariants.{None as NoPhase};
 
     /// No bucket, time 0, the stream up. It takes no memory.
@@ -62,7 +64,7 @@ impl Buckets {
     pub fn advance(&mut self, at: Millis) -> Result<Reports, AdvanceFault>
         ensures time_back { (last : ℕ) → (result ≡ Err (AdvanceFault.TimeBack last)) ↔ ((at < self.old.time) × (last ≡ self.old.time)) }
         ensures err { OnErr result (self.new ≡ self.old) }
-        ensures turned { OnOk result (self.new ≡ turned_to at self.old) }
+        ensures advanced { OnOk result (self.new ≡ advanced_to at self.old) }
         ensures reports { IfOk result (λ sent. sent ≡ reports_due at self.old) }
     {
         let last = self.table.time();
@@ -72,8 +74,8 @@ impl Buckets {
         let Ok(reports) = self.table.advance(self.alloc, at, self.up) else {
             return Err(AdvanceFault::OutOfMemory);
         };
-        let nobody = Attributes::sorted(Vec::new(self.alloc));
-        self.calls = self.calls.and(&Call::Advance(at), &nobody);
+        let no_pairs = Attributes::sorted(Vec::new(self.alloc));
+        self.calls = self.calls.and(&Call::Advance(at), &no_pairs);
         Ok(reports)
     }
 
@@ -82,8 +84,8 @@ impl Buckets {
         ensures { self.new ≡ connected up self.old }
     {
         self.up = up;
-        let nobody = Attributes::sorted(Vec::new(self.alloc));
-        self.calls = self.calls.and(&Call::SetUp(up), &nobody);
+        let no_pairs = Attributes::sorted(Vec::new(self.alloc));
+        self.calls = self.calls.and(&Call::SetUp(up), &no_pairs);
     }
 
     /// The name of the bucket of a request; None exactly where no settings fit its attributes.
@@ -195,17 +197,17 @@ fn ask_first(
     rules: &BucketRules,
     up: bool,
 ) -> Result<First, OutOfMemory>
-    requires { find (is_kept_as id.now) table.old.kept ≡ None }
-    ensures made { OnOk result (table.new ≡ record table.old { kept = table.old.kept ++ first_kept id.now rules.now table.old.time up ∷ [] }) }
-    ensures allowed { IfOk result (λ first. first.allowed ≡ (asked rules.now table.old.time up (nothing_kept table.old.time)).allowed) }
+    requires { find (is_stored_as id.now) table.old.stored ≡ None }
+    ensures made { OnOk result (table.new ≡ record table.old { stored = table.old.stored ++ first_stored id.now rules.now table.old.time up ∷ [] }) }
+    ensures allowed { IfOk result (λ first. first.allowed ≡ (asked rules.now table.old.time up (new_state table.old.time)).allowed) }
     ensures report { IfOk result (λ first. first.report
-        ≡ option_map (report_from id.now) (asked rules.now table.old.time up (nothing_kept table.old.time)).report) }
+        ≡ option_map (report_from id.now) (asked rules.now table.old.time up (new_state table.old.time)).report) }
     ensures err { OnErr result (table.new ≡ table.old) }
 {
     let at = table.time();
-    let asked = Running::new(at).asked(rules, at, up);
+    let asked = BucketState::new(at).asked(rules, at, up);
     let report = report_of(alloc, id, asked.report)?;
-    let bucket = Bucket::of(id.copy(alloc)?, *rules, asked.running);
+    let bucket = Bucket::of(id.copy(alloc)?, *rules, asked.state);
     table.add(alloc, id.copy(alloc)?, bucket)?;
     Ok(First {
         allowed: asked.allowed,

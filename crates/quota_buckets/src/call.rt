@@ -1,6 +1,6 @@
 ghost use Rattle.std.specs.Prelude.{◌≡◌};
 
-use bucket_history::Strategy;
+use quota_bucket::Strategy;
 use rate_types::Millis;
 
 /// A call on the buckets, as their history tells it. Requests stand there with their attributes, and what is done to one

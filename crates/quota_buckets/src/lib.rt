@@ -4,11 +4,11 @@
 //! for the bucket's next report. Contracts see `Buckets` as the stream so far: its time, whether it is up, and each
 //! bucket that is there with all that happened to it (`specs/Streams.antt`). The promise: each call changes this history
 //! by its one event and answers what the history says; decisions, phases and reports are recounted from the whole
-//! history in `bucket_history`, and the code keeps running values that are proved to be those of it. No effect of a
+//! history in `quota_bucket`, and the code keeps state that are proved to be those of it. No effect of a
 //! bucket ever allows more than its strategy's number, whatever else happens (`KeepAllowance`).
 //!
 //! `advance` costs as much as falls due, times a logarithm; `find`, `decide` and `request` look a bucket up by its name.
-//! `decide`, `assign`, `abandon`, `set_up` and `phase` take no memory. The slot of an erased bucket is kept.
+//! `decide`, `assign`, `abandon`, `set_up` and `phase` take no memory. The slot of an erased bucket is stored.
 #![tactic(auto)]
 
 mod answers;
@@ -21,9 +21,9 @@ mod slot;
 mod table;
 
 pub use answers::{AdvanceFault, Assigned, Decided, NoBucket};
-pub use bucket_history::{AtExpiry, BucketRules, Strategy};
 pub use buckets::Buckets;
 pub use phase::Phase;
+pub use quota_bucket::{AtExpiry, BucketRules, Strategy};
 pub use quota_settings::{
     Attributes, BucketId, BucketSettings, Pair, Part, PartSource, Parts, Settings, read_settings,
     read_strategy,

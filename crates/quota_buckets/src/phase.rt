@@ -1,6 +1,6 @@
 ghost use Rattle.std.specs.Prelude.{◌≡◌};
 
-use bucket_history::{Standing, Strategy};
+use quota_bucket::{Strategy, TimedPhase};
 use rate_types::Millis;
 
 /// The phase of a bucket. `effect` is the moment from which its strategy counts.
@@ -20,13 +20,13 @@ impl Phase {
     ghost use Rattle.quota_buckets.specs.Phases.{phase_of};
 
     /// The phase as callers see it: without its expiry.
-    pub fn of(standing: &Standing) -> Phase
-        ensures { result ≡ phase_of standing.now }
+    pub fn of(phase: &TimedPhase) -> Phase
+        ensures { result ≡ phase_of phase.now }
     {
-        match standing {
-            Standing::Gone => Phase::None,
-            Standing::Unassigned { .. } => Phase::NoAssignment,
-            Standing::Live {
+        match phase {
+            TimedPhase::Gone => Phase::None,
+            TimedPhase::Unassigned { .. } => Phase::NoAssignment,
+            TimedPhase::Live {
                 strategy,
                 effect,
                 ..
@@ -34,7 +34,7 @@ impl Phase {
                 strategy: *strategy,
                 effect: *effect,
             },
-            Standing::Expired {
+            TimedPhase::Expired {
                 strategy,
                 effect,
                 ..

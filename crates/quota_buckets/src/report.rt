@@ -1,7 +1,7 @@
 ghost use Rattle.std.specs.Prelude.{◌≡◌, OnOk};
 ghost use Rattle.quota_buckets.specs.Sending.{by_moment};
 
-use bucket_history::Usage;
+use quota_bucket::Usage;
 use quota_settings::BucketId;
 use rate_types::{Millis, OutOfMemory};
 use std::marker::Model;

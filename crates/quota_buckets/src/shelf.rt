@@ -1,11 +1,11 @@
 ghost use Rattle.std.specs.Prelude.{◌≡◌, ◌<◌, ◌++◌, ◌∷◌, [], Some, None, OnOk, OnErr, IfSome, IfNone, option_map, length, slice_set, false};
-ghost use Rattle.bucket_history.specs.History.{is_gone, begins_by_assignment};
+ghost use Rattle.quota_bucket.specs.History.{is_gone, begins_by_assignment};
 
 use crate::answers::Assigned;
 use crate::phase::Phase;
 use crate::report::Report;
 use crate::slot::{Bucket, Slot};
-use bucket_history::{Strategy, Turn};
+use quota_bucket::{Advance, Strategy};
 use quota_settings::BucketId;
 use rate_types::{Millis, OutOfMemory};
 use std::alloc::Global;
@@ -23,10 +23,10 @@ impl Model for Shelf {
     ghost use Rattle.std.specs.Prelude.{List, Option};
     ghost use Rattle.std.specs.BTreeMap.{get};
     ghost use Rattle.quota_settings.specs.Pairs.{pairs_cmp};
-    ghost use Rattle.quota_buckets.specs.Tables.{Kept};
+    ghost use Rattle.quota_buckets.specs.Tables.{Stored};
     ghost use Rattle.quota_buckets.specs.Shelves.{IsShelf};
 
-    ghost Value = { List (Option Kept) };
+    ghost Value = { List (Option Stored) };
 
     ghost view = { λ s. s.slots.items };
 
@@ -35,7 +35,8 @@ impl Model for Shelf {
 
 impl Shelf {
     ghost use Rattle.quota_buckets.specs.Streams.{assigned_as};
-    ghost use Rattle.quota_buckets.specs.Tables.{slot_at, slot_due, slot_phase, slot_turned, slot_reports, kept_asked, kept_answer, kept_assigned};
+    ghost use Rattle.quota_buckets.specs.Tables.{slot_at, slot_due, slot_phase, slot_advanced, slot_reports, stored_asked};
+    ghost use Rattle.quota_buckets.specs.Tables.{stored_answer, stored_assigned};
     ghost use Rattle.quota_buckets.specs.Shelves.{IsPlaceOf, HasNoPlace, AllThere};
 
     /// An empty shelf. It takes no memory.
@@ -73,18 +74,18 @@ impl Shelf {
         self.slots[place].phase()
     }
 
-    /// Adds the report that a turn sends of the bucket of a place, if it sends one.
+    /// Adds the report that an advance sends of the bucket of a place, if it sends one.
     pub fn report(
         &self,
         place: usize,
         alloc: Global,
         reports: &mut Vec<Report>,
-        turn: &Turn,
+        advance: &Advance,
     ) -> Result<(), OutOfMemory>
         requires { place < length self.now }
-        ensures { OnOk result (reports.new.items ≡ reports.old.items ++ slot_reports turn.now (slot_at self.now place)) }
+        ensures { OnOk result (reports.new.items ≡ reports.old.items ++ slot_reports advance.now (slot_at self.now place)) }
     {
-        self.slots[place].report(alloc, reports, turn)
+        self.slots[place].report(alloc, reports, advance)
     }
 
     /// The place of a name.
@@ -95,13 +96,13 @@ impl Shelf {
         self.index.get(id).copied()
     }
 
-    /// Brings the slot of a place to the moment of a turn.
-    pub fn turn(&mut self, place: usize, turn: &Turn)
+    /// Brings the slot of a place to the moment of an advance.
+    pub fn advance(&mut self, place: usize, advance: &Advance)
         requires { place < length self.old }
-        ensures { self.new ≡ slice_set self.old place (slot_turned turn.now (slot_at self.old place)) }
+        ensures { self.new ≡ slice_set self.old place (slot_advanced advance.now (slot_at self.old place)) }
     {
         let slot = &mut self.slots[place];
-        if let Some(erased) = slot.turn(turn) {
+        if let Some(erased) = slot.advance(advance) {
             self.index.remove(erased.id());
         }
     }
@@ -120,8 +121,8 @@ impl Shelf {
     /// Decides and counts a request of the bucket of a place.
     pub fn ask(&mut self, place: usize, at: Millis, up: bool) -> Option<bool>
         requires { place < length self.old }
-        ensures kept { self.new ≡ slice_set self.old place (option_map (kept_asked at up) (slot_at self.old place)) }
-        ensures answer { result ≡ option_map (kept_answer at up) (slot_at self.old place) }
+        ensures stored { self.new ≡ slice_set self.old place (option_map (stored_asked at up) (slot_at self.old place)) }
+        ensures answer { result ≡ option_map (stored_answer at up) (slot_at self.old place) }
     {
         let slot = &mut self.slots[place];
         slot.ask(at, up)
@@ -136,8 +137,8 @@ impl Shelf {
         strategy: Strategy,
     ) -> Option<Assigned>
         requires { place < length self.old }
-        ensures kept { self.new ≡ slice_set self.old place (option_map (kept_assigned at lifetime strategy) (slot_at self.old place)) }
-        ensures answer { result ≡ option_map (λ kept. assigned_as (begins_by_assignment kept.running.standing strategy)) (slot_at self.old place) }
+        ensures stored { self.new ≡ slice_set self.old place (option_map (stored_assigned at lifetime strategy) (slot_at self.old place)) }
+        ensures answer { result ≡ option_map (λ stored. assigned_as (begins_by_assignment stored.state.phase strategy)) (slot_at self.old place) }
     {
         let slot = &mut self.slots[place];
         slot.assign(at, lifetime, strategy)
@@ -147,7 +148,7 @@ impl Shelf {
     pub fn add(&mut self, id: BucketId, bucket: Bucket) -> Result<(), OutOfMemory>
         requires name { id ≡ bucket.id }
         requires new { HasNoPlace bucket.id self.old }
-        requires there { is_gone bucket.running.standing ≡ false }
+        requires there { is_gone bucket.state.phase ≡ false }
         ensures added { OnOk result (self.new ≡ self.old ++ Some bucket ∷ []) }
         ensures err { OnErr result (self.new ≡ self.old) }
     {

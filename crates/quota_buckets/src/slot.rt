@@ -4,40 +4,41 @@ ghost use Rattle.std.specs.Option.{option_copied};
 use crate::answers::Assigned;
 use crate::phase::Phase;
 use crate::report::Report;
-use bucket_history::{BucketRules, Running, Strategy, Turn};
+use quota_bucket::{Advance, BucketRules, BucketState, Strategy};
 use quota_settings::BucketId;
 use rate_types::{Millis, OutOfMemory};
 use std::alloc::Global;
 use std::marker::Model;
 
-/// A bucket that is there, with the running values of its history.
+/// A bucket that is there, with the state of its history.
 #[derive(Drop)]
 pub struct Bucket {
     id: BucketId,
     rules: BucketRules,
-    running: Running,
+    state: BucketState,
 }
 
 impl Model for Bucket {
-    ghost use Rattle.quota_buckets.specs.Tables.{Kept};
+    ghost use Rattle.quota_buckets.specs.Tables.{Stored};
 
-    ghost Value = { Kept };
+    ghost Value = { Stored };
 
-    ghost view = { λ b. record { id = b.id; rules = b.rules; running = b.running } };
+    ghost view = { λ b. record { id = b.id; rules = b.rules; state = b.state } };
 }
 
 impl Bucket {
-    ghost use Rattle.bucket_history.specs.History.{begins_by_assignment};
-    ghost use Rattle.bucket_history.specs.Due.{due};
+    ghost use Rattle.quota_bucket.specs.History.{begins_by_assignment};
+    ghost use Rattle.quota_bucket.specs.Due.{due};
     ghost use Rattle.quota_buckets.specs.Phases.{phase_of};
     ghost use Rattle.quota_buckets.specs.Streams.{assigned_as};
-    ghost use Rattle.quota_buckets.specs.Tables.{kept_there, kept_turned, kept_reports, kept_asked, kept_answer, kept_assigned};
+    ghost use Rattle.quota_buckets.specs.Tables.{stored_there, stored_advanced, stored_reports, stored_asked, stored_answer};
+    ghost use Rattle.quota_buckets.specs.Tables.{stored_assigned};
 
-    /// A bucket with these running values. It takes no memory.
-    pub fn of(id: BucketId, rules: BucketRules, running: Running) -> Bucket
-        ensures { result ≡ record { id = id; rules = rules; running = running } }
+    /// A bucket with this state. It takes no memory.
+    pub fn of(id: BucketId, rules: BucketRules, state: BucketState) -> Bucket
+        ensures { result ≡ record { id = id; rules = rules; state = state } }
     {
-        Bucket { id, rules, running }
+        Bucket { id, rules, state }
     }
 
     /// Its name.
@@ -49,65 +50,65 @@ impl Bucket {
 
     /// Whether it wasn't erased.
     fn is_there(&self) -> bool
-        ensures { result ≡ kept_there self.now }
+        ensures { result ≡ stored_there self.now }
     {
-        !self.running.standing.is_gone()
+        !self.state.phase.is_gone()
     }
 
     /// The next moment after `time` at which it wants work.
     fn due(&self, time: Millis) -> u64
-        ensures { result ≡ due self.now.rules self.now.running time }
+        ensures { result ≡ due self.now.rules self.now.state time }
     {
-        self.running.due(&self.rules, time)
+        self.state.due(&self.rules, time)
     }
 
     /// Its phase.
     fn phase(&self) -> Phase
-        ensures { result ≡ phase_of self.now.running.standing }
+        ensures { result ≡ phase_of self.now.state.phase }
     {
-        Phase::of(&self.running.standing)
+        Phase::of(&self.state.phase)
     }
 
-    /// Adds the report that a turn sends of it, if it sends one.
+    /// Adds the report that an advance sends of it, if it sends one.
     fn report(
         &self,
         alloc: Global,
         reports: &mut Vec<Report>,
-        turn: &Turn,
+        advance: &Advance,
     ) -> Result<(), OutOfMemory>
-        ensures { OnOk result (reports.new.items ≡ reports.old.items ++ kept_reports turn.now self.now) }
+        ensures { OnOk result (reports.new.items ≡ reports.old.items ++ stored_reports advance.now self.now) }
     {
-        if let Some(usage) = self.running.turn_report(&self.rules, turn) {
+        if let Some(usage) = self.state.advance_report(&self.rules, advance) {
             let id = self.id.copy(alloc)?;
             reports.push(Report::of(id, usage))?;
         }
         Ok(())
     }
 
-    /// Brings it to the moment of a turn.
-    fn turn(&mut self, turn: &Turn)
-        ensures { self.new ≡ kept_turned turn.now self.old }
+    /// Brings it to the moment of an advance.
+    fn advance(&mut self, advance: &Advance)
+        ensures { self.new ≡ stored_advanced advance.now self.old }
     {
-        self.running = self.running.turned(&self.rules, turn);
+        self.state = self.state.advanced(&self.rules, advance);
     }
 
     /// Decides and counts a request.
     fn ask(&mut self, at: Millis, up: bool) -> bool
-        ensures kept { self.new ≡ kept_asked at up self.old }
-        ensures answer { result ≡ kept_answer at up self.old }
+        ensures stored { self.new ≡ stored_asked at up self.old }
+        ensures answer { result ≡ stored_answer at up self.old }
     {
-        let asked = self.running.asked(&self.rules, at, up);
-        self.running = asked.running;
+        let asked = self.state.asked(&self.rules, at, up);
+        self.state = asked.state;
         asked.allowed
     }
 
     /// Gives it an assignment.
     fn assign(&mut self, at: Millis, lifetime: Option<Millis>, strategy: Strategy) -> Assigned
-        ensures kept { self.new ≡ kept_assigned at lifetime strategy self.old }
-        ensures answer { result ≡ assigned_as (begins_by_assignment self.old.running.standing strategy) }
+        ensures stored { self.new ≡ stored_assigned at lifetime strategy self.old }
+        ensures answer { result ≡ assigned_as (begins_by_assignment self.old.state.phase strategy) }
     {
-        let begins = self.running.standing.begins_by_assignment(&strategy);
-        self.running = self.running.assigned(at, lifetime, strategy);
+        let begins = self.state.phase.begins_by_assignment(&strategy);
+        self.state = self.state.assigned(at, lifetime, strategy);
         if begins {
             Assigned::New
         } else {
@@ -124,18 +125,19 @@ pub struct Slot {
 
 impl Model for Slot {
     ghost use Rattle.std.specs.Prelude.{Option};
-    ghost use Rattle.quota_buckets.specs.Tables.{Kept};
+    ghost use Rattle.quota_buckets.specs.Tables.{Stored};
 
-    ghost Value = { Option Kept };
+    ghost Value = { Option Stored };
 
     ghost view = { λ s. s.bucket };
 }
 
 impl Slot {
     ghost use Rattle.std.specs.Prelude.{Some, None};
-    ghost use Rattle.bucket_history.specs.History.{begins_by_assignment};
+    ghost use Rattle.quota_bucket.specs.History.{begins_by_assignment};
     ghost use Rattle.quota_buckets.specs.Streams.{assigned_as};
-    ghost use Rattle.quota_buckets.specs.Tables.{slot_due, slot_phase, slot_turned, erased_id, slot_reports, kept_asked, kept_answer, kept_assigned};
+    ghost use Rattle.quota_buckets.specs.Tables.{slot_due, slot_phase, slot_advanced, erased_id, slot_reports, stored_asked};
+    ghost use Rattle.quota_buckets.specs.Tables.{stored_answer, stored_assigned};
 
     /// The slot of this bucket. It takes no memory.
     pub fn of(bucket: Bucket) -> Slot
@@ -180,29 +182,29 @@ impl Slot {
         }
     }
 
-    /// Adds the report that a turn sends of its bucket, if it sends one.
+    /// Adds the report that an advance sends of its bucket, if it sends one.
     pub fn report(
         &self,
         alloc: Global,
         reports: &mut Vec<Report>,
-        turn: &Turn,
+        advance: &Advance,
     ) -> Result<(), OutOfMemory>
-        ensures { OnOk result (reports.new.items ≡ reports.old.items ++ slot_reports turn.now self.now) }
+        ensures { OnOk result (reports.new.items ≡ reports.old.items ++ slot_reports advance.now self.now) }
     {
         match &self.bucket {
-            Some(bucket) => bucket.report(alloc, reports, turn),
+            Some(bucket) => bucket.report(alloc, reports, advance),
             None => Ok(()),
         }
     }
 
-    /// Brings its bucket to the moment of a turn, and takes it out where it is erased.
-    pub fn turn(&mut self, turn: &Turn) -> Option<Bucket>
-        ensures kept { self.new ≡ slot_turned turn.now self.old }
-        ensures erased { option_map (λ kept. kept.id) result ≡ erased_id turn.now self.old }
+    /// Brings its bucket to the moment of an advance, and takes it out where it is erased.
+    pub fn advance(&mut self, advance: &Advance) -> Option<Bucket>
+        ensures stored { self.new ≡ slot_advanced advance.now self.old }
+        ensures erased { option_map (λ stored. stored.id) result ≡ erased_id advance.now self.old }
     {
         let is_erased = match &mut self.bucket {
             Some(bucket) => {
-                bucket.turn(turn);
+                bucket.advance(advance);
                 !bucket.is_there()
             }
             None => false,
@@ -220,8 +222,8 @@ impl Slot {
 
     /// Decides and counts a request of its bucket.
     pub fn ask(&mut self, at: Millis, up: bool) -> Option<bool>
-        ensures kept { self.new ≡ option_map (kept_asked at up) self.old }
-        ensures answer { result ≡ option_map (kept_answer at up) self.old }
+        ensures stored { self.new ≡ option_map (stored_asked at up) self.old }
+        ensures answer { result ≡ option_map (stored_answer at up) self.old }
     {
         match &mut self.bucket {
             Some(bucket) => Some(bucket.ask(at, up)),
@@ -236,8 +238,8 @@ impl Slot {
         lifetime: Option<Millis>,
         strategy: Strategy,
     ) -> Option<Assigned>
-        ensures kept { self.new ≡ option_map (kept_assigned at lifetime strategy) self.old }
-        ensures answer { result ≡ option_map (λ kept. assigned_as (begins_by_assignment kept.running.standing strategy)) self.old }
+        ensures stored { self.new ≡ option_map (stored_assigned at lifetime strategy) self.old }
+        ensures answer { result ≡ option_map (λ stored. assigned_as (begins_by_assignment stored.state.phase strategy)) self.old }
     {
         match &mut self.bucket {
             Some(bucket) => Some(bucket.assign(at, lifetime, strategy)),

@@ -1,8 +1,9 @@
-ghost use Rattle.std.specs.Prelude.{◌≡◌, ◌≤◌, ◌<◌, ◌++◌, ◌∷◌, [], None, OnOk, OnErr, IfOk, option_map, find, is_some, length, map, replicate, false};
-ghost use Rattle.bucket_history.specs.Due.{never};
-ghost use Rattle.bucket_history.specs.History.{is_gone, begins_by_assignment};
+ghost use Rattle.std.specs.Prelude.{◌≡◌, ◌≤◌, ◌<◌, ◌++◌, ◌∷◌, [], None, OnOk, OnErr, IfOk, option_map, find, is_some, length};
+ghost use Rattle.std.specs.Prelude.{map, replicate, false};
+ghost use Rattle.quota_bucket.specs.Due.{never};
+ghost use Rattle.quota_bucket.specs.History.{is_gone, begins_by_assignment};
 ghost use Rattle.quota_buckets.specs.Shelves.{IsAgenda, AllThere};
-ghost use Rattle.quota_buckets.specs.Tables.{slot_at, slot_due, slot_turned, each_set, reports_at, AllWithin};
+ghost use Rattle.quota_buckets.specs.Tables.{slot_at, slot_due, slot_advanced, each_set, reports_at, AllWithin};
 
 use crate::answers::Assigned;
 use crate::phase::Phase;
@@ -10,7 +11,7 @@ use crate::report::{Report, Reports, order};
 use crate::shelf::Shelf;
 use crate::slot::Bucket;
 use agenda::Agenda;
-use bucket_history::{Strategy, Turn};
+use quota_bucket::{Advance, Strategy};
 use quota_settings::BucketId;
 use rate_types::{Millis, OutOfMemory};
 use std::alloc::Global;
@@ -25,24 +26,25 @@ pub struct Table {
 }
 
 impl Model for Table {
-    ghost use Rattle.quota_buckets.specs.Tables.{Table as Kept, held};
+    ghost use Rattle.quota_buckets.specs.Tables.{Table as Stored, held};
     ghost use Rattle.quota_buckets.specs.Shelves.{IsAgenda};
 
-    ghost Value = { Kept };
+    ghost Value = { Stored };
 
-    ghost view = { λ t. record { time = t.time; kept = held t.shelf } };
+    ghost view = { λ t. record { time = t.time; stored = held t.shelf } };
 
     ghost invariant = { λ t. IsAgenda t.time t.agenda t.shelf };
 }
 
 impl Table {
-    ghost use Rattle.quota_buckets.specs.Orders.{at_first, without_first};
+    ghost use Rattle.quota_buckets.specs.FirstMatch.{at_first, without_first};
     ghost use Rattle.quota_buckets.specs.Streams.{assigned_as};
-    ghost use Rattle.quota_buckets.specs.Tables.{is_kept_as, kept_asked, kept_answer, kept_assigned, slot_phase, turn_of, table_turned, table_reports};
+    ghost use Rattle.quota_buckets.specs.Tables.{is_stored_as, stored_asked, stored_answer, stored_assigned, slot_phase};
+    ghost use Rattle.quota_buckets.specs.Tables.{advance_of, table_advanced, table_reports};
 
     /// No bucket, at this time. It takes no memory.
     pub fn new(alloc: Global, time: Millis) -> Table
-        ensures { result ≡ record { time = time; kept = [] } }
+        ensures { result ≡ record { time = time; stored = [] } }
     {
         Table {
             shelf: Shelf::new(alloc),
@@ -60,7 +62,7 @@ impl Table {
 
     /// The phase of a name.
     pub fn phase(&self, id: &BucketId) -> Phase
-        ensures { result ≡ slot_phase (find (is_kept_as id.now) self.now.kept) }
+        ensures { result ≡ slot_phase (find (is_stored_as id.now) self.now.stored) }
     {
         match self.shelf.place_of(id) {
             Some(place) => self.shelf.phase(place),
@@ -70,8 +72,8 @@ impl Table {
 
     /// Decides and counts a request of a bucket, if it is there.
     pub fn ask(&mut self, id: &BucketId, up: bool) -> Option<bool>
-        ensures kept { self.new ≡ record self.old { kept = at_first (is_kept_as id.now) (kept_asked self.old.time up) self.old.kept } }
-        ensures answer { result ≡ option_map (kept_answer self.old.time up) (find (is_kept_as id.now) self.old.kept) }
+        ensures stored { self.new ≡ record self.old { stored = at_first (is_stored_as id.now) (stored_asked self.old.time up) self.old.stored } }
+        ensures answer { result ≡ option_map (stored_answer self.old.time up) (find (is_stored_as id.now) self.old.stored) }
     {
         let place = self.shelf.place_of(id)?;
         let answer = self.shelf.ask(place, self.time, up);
@@ -86,8 +88,8 @@ impl Table {
         lifetime: Option<Millis>,
         strategy: Strategy,
     ) -> Option<Assigned>
-        ensures kept { self.new ≡ record self.old { kept = at_first (is_kept_as id.now) (kept_assigned self.old.time lifetime strategy) self.old.kept } }
-        ensures answer { result ≡ option_map (λ kept. assigned_as (begins_by_assignment kept.running.standing strategy)) (find (is_kept_as id.now) self.old.kept) }
+        ensures stored { self.new ≡ record self.old { stored = at_first (is_stored_as id.now) (stored_assigned self.old.time lifetime strategy) self.old.stored } }
+        ensures answer { result ≡ option_map (λ stored. assigned_as (begins_by_assignment stored.state.phase strategy)) (find (is_stored_as id.now) self.old.stored) }
     {
         let place = self.shelf.place_of(id)?;
         let assigned = self.shelf.assign(place, self.time, lifetime, strategy);
@@ -97,8 +99,8 @@ impl Table {
 
     /// Erases a bucket, and tells whether it was there.
     pub fn abandon(&mut self, id: &BucketId) -> bool
-        ensures kept { self.new ≡ record self.old { kept = without_first (is_kept_as id.now) self.old.kept } }
-        ensures answer { result ≡ is_some (find (is_kept_as id.now) self.old.kept) }
+        ensures stored { self.new ≡ record self.old { stored = without_first (is_stored_as id.now) self.old.stored } }
+        ensures answer { result ≡ is_some (find (is_stored_as id.now) self.old.stored) }
     {
         let Some(place) = self.shelf.place_of(id) else {
             return false;
@@ -111,9 +113,9 @@ impl Table {
     /// Adds a bucket behind the others, under a copy of its name.
     pub fn add(&mut self, alloc: Global, id: BucketId, bucket: Bucket) -> Result<(), OutOfMemory>
         requires name { id ≡ bucket.id }
-        requires new { find (is_kept_as bucket.id) self.old.kept ≡ None }
-        requires there { is_gone bucket.running.standing ≡ false }
-        ensures added { OnOk result (self.new ≡ record self.old { kept = self.old.kept ++ bucket ∷ [] }) }
+        requires new { find (is_stored_as bucket.id) self.old.stored ≡ None }
+        requires there { is_gone bucket.state.phase ≡ false }
+        ensures added { OnOk result (self.new ≡ record self.old { stored = self.old.stored ++ bucket ∷ [] }) }
         ensures err { OnErr result (self.new ≡ self.old) }
     {
         let place = self.shelf.len();
@@ -126,19 +128,19 @@ impl Table {
     /// Brings the buckets to a later moment, and gives the reports that are sent on the way.
     pub fn advance(&mut self, alloc: Global, to: Millis, up: bool) -> Result<Reports, OutOfMemory>
         requires { self.old.time ≤ to }
-        ensures turned { OnOk result (self.new ≡ table_turned (turn_of self.old to up) self.old) }
-        ensures reports { IfOk result (λ sent. sent ≡ table_reports (turn_of self.old to up) self.old) }
+        ensures advanced { OnOk result (self.new ≡ table_advanced (advance_of self.old to up) self.old) }
+        ensures reports { IfOk result (λ sent. sent ≡ table_reports (advance_of self.old to up) self.old) }
         ensures err { OnErr result (self.new ≡ self.old) }
     {
-        let turn = Turn {
+        let advance = Advance {
             from: self.time,
             to,
             up,
         };
         let places = self.agenda.reached(alloc, to.get())?;
-        let mut reports = reports_of(alloc, &self.shelf, &places, &turn)?;
+        let mut reports = reports_of(alloc, &self.shelf, &places, &advance)?;
         order(&mut reports)?;
-        turn_each(&mut self.shelf, &places, &turn);
+        advance_each(&mut self.shelf, &places, &advance);
         plan_each(&mut self.agenda, &self.shelf, &places, to);
         self.time = to;
         Ok(Reports::of(reports))
@@ -187,7 +189,7 @@ fn moments_of(alloc: Global, shelf: &Shelf, time: Millis) -> Result<Vec<u64>, Ou
 }
 
 /// Adds places that want no work.
-#[tactic(auto, using(crate::proofs::Turning::free_more))]
+#[tactic(auto, using(crate::proofs::Advancing::free_more))]
 fn add_free(moments: &mut Vec<u64>, count: usize) -> Result<(), OutOfMemory>
     ensures { OnOk result (moments.new.items ≡ moments.old.items ++ replicate count never) }
 {
@@ -197,32 +199,32 @@ fn add_free(moments: &mut Vec<u64>, count: usize) -> Result<(), OutOfMemory>
     Ok(())
 }
 
-/// The reports that a turn sends of the buckets at some places.
+/// The reports that an advance sends of the buckets at some places.
 fn reports_of(
     alloc: Global,
     shelf: &Shelf,
     places: &[usize],
-    turn: &Turn,
+    advance: &Advance,
 ) -> Result<Vec<Report>, OutOfMemory>
     requires { AllWithin (length shelf.now) places.now }
-    ensures reports { IfOk result (λ reports. reports.items ≡ reports_at turn.now shelf.now places.now) }
+    ensures reports { IfOk result (λ reports. reports.items ≡ reports_at advance.now shelf.now places.now) }
     ensures there { IfOk result (λ _. AllThere shelf.now) }
 {
     let most = places.len().min(shelf.len());
     let mut reports = Vec::with_capacity(alloc, most)?;
     for place in places {
-        shelf.report(*place, alloc, &mut reports, turn)?;
+        shelf.report(*place, alloc, &mut reports, advance)?;
     }
     Ok(reports)
 }
 
-/// Brings the buckets at some places to the moment of a turn.
-fn turn_each(shelf: &mut Shelf, places: &[usize], turn: &Turn)
+/// Brings the buckets at some places to the moment of an advance.
+fn advance_each(shelf: &mut Shelf, places: &[usize], advance: &Advance)
     requires { AllWithin (length shelf.old) places.now }
-    ensures { shelf.new ≡ each_set (λ place. slot_turned turn.now) None shelf.old places.now }
+    ensures { shelf.new ≡ each_set (λ place. slot_advanced advance.now) None shelf.old places.now }
 {
     for place in places {
-        shelf.turn(*place, turn);
+        shelf.advance(*place, advance);
     }
 }
 

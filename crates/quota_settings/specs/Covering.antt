@@ -1,7 +1,7 @@
 -- Which settings a request has, and the bucket's name that they give.
 use Rattle.std.specs.Prelude.{ℕ, ◌&&◌, Bool, List, find, Option}
 use Rattle.std.specs.List.{list_all}
-use Rattle.bucket_history.specs.declared.rules.BucketRules.{BucketRules}
+use Rattle.quota_bucket.specs.declared.rules.BucketRules.{BucketRules}
 use Rattle.quota_settings.specs.Pairs.{has_pair}
 use Rattle.quota_settings.specs.Parts.{NamePart, all_given, pairs_of}
 use Rattle.quota_settings.specs.declared.pair.Pair.{Pair}

@@ -4,10 +4,10 @@ use Rattle.serde_json.specs.Data.{Data}
 use Rattle.proto_json.specs.Said.{Said, says, refuses, ◌>>=◌}
 use Rattle.proto_json.specs.Fields.{Object, take, ends}
 use Rattle.proto_json.specs.Kinds as kinds
-use Rattle.bucket_history.specs.declared.strategy.Strategy.{Strategy}
-use Rattle.bucket_history.specs.declared.strategy.Strategy.TheVariants.{AllowAll}
-use Rattle.bucket_history.specs.declared.rules.AtExpiry.{AtExpiry}
-use Rattle.bucket_history.specs.declared.rules.AtExpiry.TheVariants.{Abandon, Fallback, Reuse}
+use Rattle.quota_bucket.specs.declared.strategy.Strategy.{Strategy}
+use Rattle.quota_bucket.specs.declared.strategy.Strategy.TheVariants.{AllowAll}
+use Rattle.quota_bucket.specs.declared.rules.AtExpiry.{AtExpiry}
+use Rattle.quota_bucket.specs.declared.rules.AtExpiry.TheVariants.{Abandon, Fallback, Reuse}
 use Rattle.quota_settings.specs.FieldNames as names
 use Rattle.quota_settings.specs.ReadStrategy.{strategy}
 use Rattle.quota_settings.specs.declared.expiry.Expiry.{Expiry}

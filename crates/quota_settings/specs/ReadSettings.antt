@@ -8,9 +8,9 @@ use Rattle.proto_json.specs.Fields.{Object, take, ends}
 use Rattle.proto_json.specs.Kinds as kinds
 use Rattle.proto_json.specs.Lists.{each_item}
 use Rattle.proto_json.specs.Document.{document}
-use Rattle.bucket_history.specs.declared.strategy.Strategy.{Strategy}
-use Rattle.bucket_history.specs.declared.strategy.Strategy.TheVariants.{AllowAll}
-use Rattle.bucket_history.specs.declared.rules.AtExpiry.TheVariants.{Abandon}
+use Rattle.quota_bucket.specs.declared.strategy.Strategy.{Strategy}
+use Rattle.quota_bucket.specs.declared.strategy.Strategy.TheVariants.{AllowAll}
+use Rattle.quota_bucket.specs.declared.rules.AtExpiry.TheVariants.{Abandon}
 use Rattle.quota_settings.specs.FieldNames as names
 use Rattle.quota_settings.specs.Covering.{OneSettings, AllSettings}
 use Rattle.quota_settings.specs.Parts.{NamePart}

@@ -6,8 +6,8 @@ use Rattle.serde_json.specs.Data.{Data}
 use Rattle.proto_json.specs.Said.{Said, says, refuses, ◌>>=◌}
 use Rattle.proto_json.specs.Fields.{Object, take, ends}
 use Rattle.proto_json.specs.Kinds as kinds
-use Rattle.bucket_history.specs.declared.strategy.Strategy.{Strategy}
-use Rattle.bucket_history.specs.declared.strategy.Strategy.TheVariants.{AllowAll, DenyAll, PerUnit, TokenBucket}
+use Rattle.quota_bucket.specs.declared.strategy.Strategy.{Strategy}
+use Rattle.quota_bucket.specs.declared.strategy.Strategy.TheVariants.{AllowAll, DenyAll, PerUnit, TokenBucket}
 use Rattle.quota_settings.specs.FieldNames as names
 
 -- a number that isn't 0, else this refusal

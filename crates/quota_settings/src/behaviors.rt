@@ -8,7 +8,7 @@ ghost use Rattle.quota_settings.specs.ReadBehaviors as reading;
 use crate::expiry::Expiry;
 use crate::fields::{take_expiry_fields, take_reuse_fields, take_timeout, take_unassigned_fields};
 use crate::strategies::take_fallback;
-use bucket_history::{AtExpiry, Strategy};
+use quota_bucket::{AtExpiry, Strategy};
 use proto_json::{Fields, FormFault};
 use rate_types::{Millis, Place, Refused};
 

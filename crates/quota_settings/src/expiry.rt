@@ -1,4 +1,4 @@
-use bucket_history::AtExpiry;
+use quota_bucket::AtExpiry;
 use rate_types::Millis;
 
 /// What a bucket does after its assignment expired, and how long, if that ends by itself.

@@ -13,7 +13,7 @@ use crate::part_list::PartList;
 use crate::read_attributes::take_match;
 use crate::read_parts::take_builder;
 use crate::settings::BucketSettings;
-use bucket_history::{AtExpiry, BucketRules, Strategy};
+use quota_bucket::{AtExpiry, BucketRules, Strategy};
 use proto_json::{Fields, FormFault};
 use rate_types::{Millis, Place, Refused};
 use serde_json::Value;

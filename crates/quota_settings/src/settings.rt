@@ -4,7 +4,7 @@ ghost use Rattle.std.specs.Option.{option_copied};
 use crate::attributes::Attributes;
 use crate::bucket_id::BucketId;
 use crate::part::Parts;
-use bucket_history::BucketRules;
+use quota_bucket::BucketRules;
 use rate_types::{OutOfMemory, Text};
 use std::alloc::Global;
 use std::marker::Model;

@@ -11,7 +11,7 @@ use crate::fields::{
     take_count, take_fallback_fields, take_fill_interval, take_max_tokens, take_per_unit_fields,
     take_rule_name, take_time_unit, take_token_fields, take_tokens_per_fill,
 };
-use bucket_history::Strategy;
+use quota_bucket::Strategy;
 use proto_json::{Fields, FormFault};
 use rate_types::{Millis, OutOfMemory, Place, Refused, Unit};
 use serde_json::Value;

@@ -3,7 +3,7 @@ mod meanings;
 mod refusals;
 
 use crate::{read_settings, read_strategy};
-use bucket_history::Strategy;
+use quota_bucket::Strategy;
 use proto_json::{FormFault, parse};
 use rate_types::{Place, Unit};
 use std::alloc::Global;

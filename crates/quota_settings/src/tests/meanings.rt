@@ -1,6 +1,6 @@
 use crate::tests::{strategy_said, strategy_text};
 use crate::{Attributes, BucketId, Settings, read_settings};
-use bucket_history::{AtExpiry, BucketRules};
+use quota_bucket::{AtExpiry, BucketRules};
 use proto_json::{FormFault, parse};
 use rate_types::{Millis, Place};
 use std::alloc::Global;

@@ -1,5 +1,5 @@
 use Rattle.std.proofs.Common.{◌≡◌, ◌++◌, replicate}
-use Rattle.bucket_history.specs.Due.{never}
+use Rattle.quota_bucket.specs.Due.{never}
 use Rattle.quota_buckets.proofs.table.add_free.Given as goal
 
 abbrev pub invariant-loop : goal.invariant-loop

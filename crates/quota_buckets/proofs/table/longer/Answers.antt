@@ -1,7 +1,7 @@
 use Rattle.std.proofs.Common.{◌≡◌, ◌∙◌, ◌++◌, replicate, map, lit<, refl}
-use Rattle.bucket_history.specs.Due.{never}
+use Rattle.quota_bucket.specs.Due.{never}
 use Rattle.quota_buckets.specs.Tables.{slot_due}
-use Rattle.quota_buckets.proofs.Turning.{longer_agenda, longer_room}
+use Rattle.quota_buckets.proofs.Advancing.{longer_agenda, longer_room}
 use Rattle.quota_buckets.proofs.table.longer.Goals as goal
 
 pub returns-clause-agenda : goal.returns-clause-agenda

@@ -2,7 +2,7 @@ use Rattle.std.proofs.Common.{arith, ◌∙◌, length, refl, ap}
 use Rattle.std.proofs.Common.{get_or}
 use Rattle.std.proofs.Math.ListN.{set}
 use Rattle.quota_buckets.specs.Tables.{slot_due, slot_at}
-use Rattle.quota_buckets.proofs.Turning.{each_step, each_within}
+use Rattle.quota_buckets.proofs.Advancing.{each_step, each_within}
 use Rattle.quota_buckets.proofs.table.plan_each.Goals as goal
 
 pub set-requires : goal.set-requires

@@ -3,4 +3,4 @@ use Rattle.quota_buckets.specs.Tables.{reports_at}
 use Rattle.quota_buckets.proofs.table.reports_of.Given as goal
 
 abbrev pub invariant-loop-place : goal.invariant-loop-place
-invariant-loop-place l = l.reports.items ≡ reports_at l.turn l.shelf (take l.place-index l.places)
+invariant-loop-place l = l.reports.items ≡ reports_at l.advance l.shelf (take l.place-index l.places)

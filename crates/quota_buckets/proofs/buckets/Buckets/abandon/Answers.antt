@@ -10,7 +10,7 @@ invariant_of-self c =
     let s = stream_of c.self.inside.settings c.self.inside.calls.items in
     rw (c.and-self-inside.ensures, call_more (new_stream c.self.inside.settings) c.self.inside.calls.items Abandon c.pairs.result.now, c.pairs.ensures)
     (abandon_held c.self.inside.settings c.self.inside.up c.self.inside.table c.abandon-was_there.new.self s c.args.id.now c.self.invariant
-    c.abandon-was_there.ensures.kept)
+    c.abandon-was_there.ensures.stored)
 
 pub returns-clause-abandoned : goal.returns-clause-abandoned
 returns-clause-abandoned c =

@@ -1,5 +1,5 @@
 use Rattle.std.proofs.Common.{◌≡◌, ◌∙◌, ap, refl, option_map}
-use Rattle.bucket_history.specs.History.{standing_of, begins_by_assignment}
+use Rattle.quota_bucket.specs.History.{phase_after, begins_by_assignment}
 use Rattle.quota_buckets.specs.Streams.{new_stream, assigned_as, or_no_bucket, bucket_of}
 use Rattle.quota_buckets.specs.Calls.{stream_of}
 use Rattle.quota_buckets.proofs.Holding.{call_more, assign_held, assign_told, ok_or_no_bucket, no_bucket_exactly}
@@ -10,7 +10,7 @@ invariant_of-self c =
     let s = stream_of c.self.inside.settings c.self.inside.calls.items in
     rw (c.and-self-inside.ensures, call_more (new_stream c.self.inside.settings) c.self.inside.calls.items c.assign-call.result c.pairs.result.now, c.pairs.ensures, c.assign-call.ensures)
     (assign_held c.self.inside.settings c.self.inside.up c.self.inside.table c.assign-assigned.new.self s c.args.id.now c.args.lifetime c.args.strategy
-    c.self.invariant c.assign-assigned.ensures.kept)
+    c.self.invariant c.assign-assigned.ensures.stored)
 
 pub returns-clause-assigned : goal.returns-clause-assigned
 returns-clause-assigned c =
@@ -26,8 +26,8 @@ returns-clause-answer c =
 pub returns-clause-none : goal.returns-clause-none
 returns-clause-none c =
     let s = stream_of c.self.inside.settings c.self.inside.calls.items in
-    let told : c.ok_or.result ≡ or_no_bucket (option_map (λ p. assigned_as (begins_by_assignment (standing_of p.rules p.history) c.args.strategy)) (bucket_of c.args.id.now s)) =
+    let told : c.ok_or.result ≡ or_no_bucket (option_map (λ p. assigned_as (begins_by_assignment (phase_after p.rules p.history) c.args.strategy)) (bucket_of c.args.id.now s)) =
     c.ok_or.ensures.value ∙ ok_or_no_bucket c.assign-assigned.result ∙ ap or_no_bucket (c.assign-assigned.ensures.answer
     ∙ assign_told c.self.inside.settings c.self.inside.up c.self.inside.table s c.args.id.now c.args.strategy c.self.invariant) in
-    rw (← c.self.view_is, told) (no_bucket_exactly (λ p. assigned_as (begins_by_assignment (standing_of p.rules p.history) c.args.strategy))
+    rw (← c.self.view_is, told) (no_bucket_exactly (λ p. assigned_as (begins_by_assignment (phase_after p.rules p.history) c.args.strategy))
     c.self.inside.settings c.self.inside.up c.self.inside.table s c.args.id.now c.self.invariant)

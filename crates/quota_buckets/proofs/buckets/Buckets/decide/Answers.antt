@@ -1,5 +1,5 @@
 use Rattle.std.proofs.Common.{◌≡◌, ◌∙◌, ap, refl}
-use Rattle.bucket_history.specs.History.{is_allowed}
+use Rattle.quota_bucket.specs.History.{is_allowed}
 use Rattle.quota_buckets.specs.Streams.{new_stream, answer}
 use Rattle.quota_buckets.specs.Calls.{stream_of}
 use Rattle.quota_buckets.specs.declared.call.Call.TheVariants.{Decide}
@@ -10,7 +10,7 @@ pub invariant_of-self : goal.invariant_of-self
 invariant_of-self c =
     let s = stream_of c.self.inside.settings c.self.inside.calls.items in
     rw (c.and-self-inside.ensures, call_more (new_stream c.self.inside.settings) c.self.inside.calls.items Decide c.pairs.result.now, c.pairs.ensures)
-    (ask_held c.self.inside.settings c.self.inside.up c.self.inside.table c.ask-allowed.new.self s c.args.id.now c.self.invariant c.ask-allowed.ensures.kept)
+    (ask_held c.self.inside.settings c.self.inside.up c.self.inside.table c.ask-allowed.new.self s c.args.id.now c.self.invariant c.ask-allowed.ensures.stored)
 
 pub returns-clause-counted : goal.returns-clause-counted
 returns-clause-counted c =

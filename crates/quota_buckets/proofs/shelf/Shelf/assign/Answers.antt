@@ -7,4 +7,4 @@ pub invariant_of-self : goal.invariant_of-self
 invariant_of-self c =
     assigned_shelf (get pairs_cmp c.self.inside.index) c.self.inside.slots.items c.args.place c.args.at c.args.lifetime c.args.strategy
     c.index_mut-slot.result.now c.assign.new.self c.self.invariant (rw (← c.self.view_is) at c.requires) c.index_mut-slot.ensures.value
-    c.assign.ensures.kept
+    c.assign.ensures.stored

@@ -1,6 +1,6 @@
 use Rattle.std.proofs.Common.{◌≡◌, List, ap, length}
-use Rattle.quota_buckets.specs.Tables.{Kept, Table}
-use Rattle.quota_buckets.proofs.Turning.{agenda_push, held_push}
+use Rattle.quota_buckets.specs.Tables.{Stored, Table}
+use Rattle.quota_buckets.proofs.Advancing.{agenda_push, held_push}
 use Rattle.quota_buckets.proofs.Tabling.{not_found}
 use Rattle.quota_buckets.proofs.table.Table.add.Goals as goal
 
@@ -15,5 +15,5 @@ invariant_of-self-2 c =
 
 pub returns-clause-added : goal.returns-clause-added
 returns-clause-added c =
-    let make : List Kept → Table = λ kept. record { time = c.self.inside.time; kept = kept } in
+    let make : List Stored → Table = λ stored. record { time = c.self.inside.time; stored = stored } in
     rw (← c.self.view_is) (ap make (held_push c.self.inside.shelf c.add.new.self c.args.bucket c.in_ok-add.ensures.added))

@@ -1,0 +1,9 @@
+pub mod Strategies
+pub mod History
+pub mod Reports
+pub mod Meters
+pub mod State
+pub mod TimeOrder
+pub mod Machine
+pub mod Allowance
+pub mod Due

@@ -1,0 +1,40 @@
+-- Inside: the state that is kept of a history.
+use Rattle.std.specs.Prelude.{◌==◌, ℕ, ◌+◌, ◌-◌, ◌*◌, ◌/◌, ◌&&◌, Bool, true, false, not, List, [], ◌∷◌, min, nat_lt, nat_le}
+use Rattle.std.specs.Prelude.{if◌then◌else◌, count_by}
+use Rattle.quota_bucket.specs.Strategies.{Decision, allows, allowed_in, interval_at, fills_at, tokens_left, tokens_before, millis_of}
+use Rattle.quota_bucket.specs.History.{Event, phase_after, decided, strategy_in, effect_in}
+use Rattle.quota_bucket.specs.Reports.{unreported, first_at, last_report, shown}
+use Rattle.quota_bucket.specs.declared.rules.BucketRules.{BucketRules}
+use Rattle.quota_bucket.specs.declared.timed_phase.TimedPhase.{TimedPhase}
+use Rattle.quota_bucket.specs.declared.bucket_state.BucketState.{BucketState}
+use Rattle.quota_bucket.specs.declared.strategy.Strategy.{Strategy}
+use Rattle.quota_bucket.specs.declared.strategy.Strategy.TheVariants.{AllowAll, DenyAll, PerUnit, TokenBucket}
+use Rattle.quota_bucket.specs.declared.meter.Meter.{Meter}
+use Rattle.quota_bucket.specs.declared.meter.Verdict.{Verdict}
+use Rattle.quota_bucket.specs.declared.meter.Meter.TheVariants.{Fresh, Counted, Filled}
+
+-- the meter after these requests, the latest first
+abbrev pub meter_of : Strategy → ℕ → List Decision → Meter
+meter_of (PerUnit count unit) effect (d ∷ ds) =
+    Counted (interval_at (millis_of unit) effect d.at)
+    (allowed_in (millis_of unit) effect (interval_at (millis_of unit) effect d.at) (d ∷ ds))
+meter_of (TokenBucket max per_fill interval) effect (d ∷ ds) =
+    Filled (fills_at interval effect d.at) (tokens_left (tokens_before max per_fill interval effect d.at ds) d.allowed)
+meter_of _ effect _ = Fresh
+
+-- the state of a bucket, by its phase, the requests since its effect began and those since its last report
+abbrev pub state_from : BucketRules → TimedPhase → List Decision → List Decision → ℕ → ℕ → BucketState
+state_from rules phase requests waiting first reported = record {
+  first = first;
+  reported = reported;
+  phase = phase;
+  meter = meter_of (strategy_in rules phase) (effect_in phase) requests;
+  allowed = shown (count_by (λ d. d.allowed) waiting);
+  denied = shown (count_by (λ d. not d.allowed) waiting);
+}
+
+-- the state after a history
+abbrev pub state_after : BucketRules → List Event → BucketState
+state_after rules history =
+    state_from rules (phase_after rules history) (decided rules history) (unreported rules history)
+    (first_at rules history) (last_report rules history)

@@ -1,0 +1,205 @@
+ghost use Rattle.std.specs.Prelude.{◌≡◌, ◌+◌, option_map};
+ghost use Rattle.quota_bucket.specs.Reports.{outlives, erasure};
+
+use crate::meter::Meter;
+use crate::moments::{next_report, reached, span};
+use crate::rules::BucketRules;
+use crate::strategy::Strategy;
+use crate::timed_phase::TimedPhase;
+use rate_types::Millis;
+
+/// What a report says besides the bucket: its moment, the time since the last one, and what was decided since.
+#[derive(Clone, Copy, Debug, PartialEq, Eq)]
+pub struct Usage {
+    pub at: Millis,
+    pub elapsed: Millis,
+    pub allowed: u64,
+    pub denied: u64,
+}
+
+/// What is kept of a bucket's history.
+#[derive(Clone, Copy, Debug, PartialEq, Eq)]
+pub struct BucketState {
+    /// The moment of the request that made the bucket.
+    pub first: Millis,
+    /// The moment of the last report, before the first one that of the first request.
+    pub reported: Millis,
+    pub phase: TimedPhase,
+    pub meter: Meter,
+    /// Requests allowed since the last report. The two counts stop at the greatest u64.
+    pub allowed: u64,
+    /// Requests denied since the last report.
+    pub denied: u64,
+}
+
+/// The answer to a request, the report that follows at once, and what is kept then.
+#[derive(Clone, Copy)]
+pub struct Asked {
+    pub allowed: bool,
+    pub report: Option<Usage>,
+    pub state: BucketState,
+}
+
+/// An advance of a stream, from its time to the moment of a line.
+#[derive(Clone, Copy)]
+pub struct Advance {
+    pub from: Millis,
+    pub to: Millis,
+    /// Whether the stream is up.
+    pub up: bool,
+}
+
+/// Whether the bucket is still there at a moment, if nothing else happens to it.
+fn outlives(rules: &BucketRules, phase: &TimedPhase, moment: Millis) -> bool
+    ensures { result ≡ outlives (erasure rules.now phase.now) moment }
+{
+    match phase {
+        TimedPhase::Live {
+            expiry: Some(expiry),
+            ..
+        } => {
+            moment.get() < *expiry || (!rules.expired.erases() && is_within(*expiry, rules, moment))
+        }
+        TimedPhase::Expired { since, .. } => is_within(since.get(), rules, moment),
+        _ => true,
+    }
+}
+
+/// Whether a moment comes before the end of a timeout.
+fn is_within(since: u64, rules: &BucketRules, moment: Millis) -> bool
+    ensures { result ≡ outlives (option_map (λ n. since + n) rules.now.timeout) moment }
+{
+    match rules.timeout {
+        Some(length) => moment.get() < since.saturating_add(length.get()),
+        None => true,
+    }
+}
+
+impl BucketState {
+    ghost use Rattle.quota_bucket.specs.Machine.{new_state, is_waiting, advanced, advance_report, asked, assigned};
+
+    /// What is kept before the request at `at` that makes the bucket.
+    pub fn new(at: Millis) -> BucketState
+        ensures { result ≡ new_state at }
+    {
+        BucketState {
+            first: at,
+            reported: at,
+            phase: TimedPhase::Gone,
+            meter: Meter::Fresh,
+            allowed: 0,
+            denied: 0,
+        }
+    }
+
+    /// Whether a request was decided since the last report.
+    pub fn waits(&self) -> bool
+        ensures { result ≡ is_waiting self.now }
+    {
+        self.allowed > 0 || self.denied > 0
+    }
+
+    /// The report that an advance sends.
+    pub fn advance_report(&self, rules: &BucketRules, advance: &Advance) -> Option<Usage>
+        ensures { result ≡ advance_report rules.now advance.now self.now }
+    {
+        let moment = reached(
+            next_report(self.first, rules.reporting.get(), advance.from),
+            advance.to,
+        )?;
+        if advance.up && self.waits() && outlives(rules, &self.phase, moment) {
+            Some(Usage {
+                at: moment,
+                elapsed: span(self.reported, moment),
+                allowed: self.allowed,
+                denied: self.denied,
+            })
+        } else {
+            None
+        }
+    }
+
+    /// What is kept after an advance.
+    pub fn advanced(&self, rules: &BucketRules, advance: &Advance) -> BucketState
+        ensures { result ≡ advanced rules.now advance.now self.now }
+    {
+        let phase = self.phase.after_advance(rules, advance.to);
+        let begins = self.phase.begins_by_expiry(rules, advance.to) || phase.is_gone();
+        let meter = if begins { Meter::Fresh } else { self.meter };
+        match self.advance_report(rules, advance) {
+            Some(usage) => BucketState {
+                first: self.first,
+                reported: usage.at,
+                phase,
+                meter,
+                allowed: 0,
+                denied: 0,
+            },
+            None => BucketState {
+                first: self.first,
+                reported: self.reported,
+                phase,
+                meter,
+                allowed: self.allowed,
+                denied: self.denied,
+            },
+        }
+    }
+
+    /// Decides and counts a request.
+    pub fn asked(&self, rules: &BucketRules, at: Millis, up: bool) -> Asked
+        ensures { result ≡ asked rules.now at up self.now }
+    {
+        let phase = self.phase.after_request(at);
+        let elapsed = at.get().saturating_sub(phase.effect());
+        let verdict = phase.strategy(rules).judge(self.meter, elapsed);
+        let (one, other) = if verdict.allowed { (1, 0) } else { (0, 1) };
+        if self.phase.is_gone() {
+            let usage = Usage {
+                at,
+                elapsed: span(at, at),
+                allowed: one,
+                denied: other,
+            };
+            return Asked {
+                allowed: verdict.allowed,
+                report: if up { Some(usage) } else { None },
+                state: BucketState {
+                    first: at,
+                    reported: at,
+                    phase,
+                    meter: verdict.meter,
+                    allowed: if up { 0 } else { one },
+                    denied: if up { 0 } else { other },
+                },
+            };
+        }
+        Asked {
+            allowed: verdict.allowed,
+            report: None,
+            state: BucketState {
+                first: self.first,
+                reported: self.reported,
+                phase,
+                meter: verdict.meter,
+                allowed: self.allowed.saturating_add(one),
+                denied: self.denied.saturating_add(other),
+            },
+        }
+    }
+
+    /// What is kept after an assignment at `at`, which lasts for its lifetime or for ever.
+    pub fn assigned(&self, at: Millis, lifetime: Option<Millis>, strategy: Strategy) -> BucketState
+        ensures { result ≡ assigned at lifetime strategy self.now }
+    {
+        let begins = self.phase.begins_by_assignment(&strategy);
+        BucketState {
+            first: self.first,
+            reported: self.reported,
+            phase: self.phase.after_assignment(at, lifetime, strategy),
+            meter: if begins { Meter::Fresh } else { self.meter },
+            allowed: self.allowed,
+            denied: self.denied,
+        }
+    }
+}
