@@ -1,4 +1,4 @@
--- What the levels over a list of moments know.
+-- What the rows over a list of moments know.
 use Rattle.std.proofs.Common.{◌≡◌, ℕ, ◌+◌, ◌-◌, ◌*◌, ◌/◌, ◌<◌, ◌≤◌, List, [], ◌∷◌, ◌++◌, refl, arith, ap, sym, ◌∙◌, min, suc, zero, length, get_or, take}
 use Rattle.std.proofs.Math.ListN.{set, length-set}
 use Rattle.std.proofs.lemmas.List.{take_all, take_more}
@@ -10,7 +10,7 @@ double_suc i = omega arith
 half_suc : (i : ℕ) → suc (suc i) / 2 ≡ suc (i / 2)
 half_suc i = omega arith
 
--- a level has the least of two moments below
+-- a row has the least of two moments below
 pub half_both : (ms : List ℕ) (i : ℕ) → 2 * i + 1 < length ms
     → get_or (halves ms) i 0 ≡ min (get_or ms (2 * i) 0) (get_or ms (2 * i + 1) 0)
 half_both [] i lt = absurd (omega arith)
@@ -45,12 +45,12 @@ halves-set (a ∷ b ∷ ms) (suc zero) v lt = refl
 halves-set (a ∷ b ∷ ms) (suc (suc p)) v lt =
     rw (half_suc p) (ap (λ ns. min a b ∷ ns) (halves-set ms p v (omega arith)))
 
--- after a moment was set the levels are right but over it
+-- after a moment was set the rows are right but over it
 pub tower_set : (ms : List ℕ) (p v : ℕ) (above : List (List ℕ)) → p < length ms → IsTower ms above → IsTowerButOver p (set ms p v) above
 tower_set ms p v [] lt tower = tt
-tower_set ms p v (level ∷ above) lt tower = (rw tower.0 (halves-set ms p v lt), tower.1)
+tower_set ms p v (row ∷ above) lt tower = (rw tower.0 (halves-set ms p v lt), tower.1)
 
--- the least of the pair of a place
+-- the least of the pair of an index
 pub least_both : (ms : List ℕ) (p x y : ℕ) → 2 * (p / 2) + 1 < length ms → x ≡ get_or ms (2 * (p / 2)) 0 → y ≡ get_or ms (2 * (p / 2) + 1) 0
     → min x y ≡ get_or (halves ms) (p / 2) 0
 least_both ms p x y lt a b = rw (half_both ms (p / 2) lt, a, b) refl
@@ -59,36 +59,36 @@ pub least_last : (ms : List ℕ) (p x : ℕ) → p < length ms → length ms ≤
     → x ≡ get_or (halves ms) (p / 2) 0
 least_last ms p x lt le a = rw (half_last ms (p / 2) (omega arith)) a
 
--- one more of a level
-pub level_more : (ms : List ℕ) (i x : ℕ) (level : List ℕ) → level ≡ take i (halves ms) → i < length ms - length ms / 2
-    → x ≡ get_or (halves ms) (2 * i / 2) 0 → level ++ x ∷ [] ≡ take (i + 1) (halves ms)
-level_more ms i x level is lt here =
+-- one more of a row
+pub row_more : (ms : List ℕ) (i x : ℕ) (row : List ℕ) → row ≡ take i (halves ms) → i < length ms - length ms / 2
+    → x ≡ get_or (halves ms) (2 * i / 2) 0 → row ++ x ∷ [] ≡ take (i + 1) (halves ms)
+row_more ms i x row is lt here =
     let half : 2 * i / 2 ≡ i = omega arith in
     let within : i < length (halves ms) = omega (arith, length-halves ms) in
     rw (is, here, half) (sym (take_more (halves ms) i 0 within))
 
-pub level_all : (ms level : List ℕ) (n : ℕ) → level ≡ take n (halves ms) → n ≡ length ms - length ms / 2 → level ≡ halves ms
-level_all ms level n is all = is ∙ take_all n (halves ms) (omega (arith, length-halves ms))
+pub row_all : (ms row : List ℕ) (n : ℕ) → row ≡ take n (halves ms) → n ≡ length ms - length ms / 2 → row ≡ halves ms
+row_all ms row n is all = is ∙ take_all n (halves ms) (omega (arith, length-halves ms))
 
 pub ruleset halving = (least_both, least_last)
 
-pub ruleset levels = (level_more, level_all)
+pub ruleset rows = (row_more, row_all)
 
--- a level that is set at the one place where it was wrong is right
-pub over_within : (ms : List ℕ) (p : ℕ) (above : List (List ℕ)) (level : List ℕ) (rest : List (List ℕ)) → above ≡ level ∷ rest
-    → p < length ms → IsTowerButOver p ms above → p / 2 < length level
-over_within ms p above level rest is lt tower =
+-- a row that is set at the one index where it was wrong is right
+pub over_within : (ms : List ℕ) (p : ℕ) (above : List (List ℕ)) (row : List ℕ) (rest : List (List ℕ)) → above ≡ row ∷ rest
+    → p < length ms → IsTowerButOver p ms above → p / 2 < length row
+over_within ms p above row rest is lt tower =
     let here = rw is at tower in
-    let same : length (halves ms) ≡ length level = ap length here.0 ∙ length-set level (p / 2) (get_or (halves ms) (p / 2) 0) in
+    let same : length (halves ms) ≡ length row = ap length here.0 ∙ length-set row (p / 2) (get_or (halves ms) (p / 2) 0) in
     omega (arith, length-halves ms, same)
 
-pub over_tower : (ms : List ℕ) (p v : ℕ) (above : List (List ℕ)) (level : List ℕ) (rest : List (List ℕ)) → above ≡ level ∷ rest
-    → p < length ms → IsTowerButOver p ms above → IsTowerButOver (p / 2) (set level (p / 2) v) rest
-over_tower ms p v above level rest is lt tower =
-    let here = rw is at tower in tower_set level (p / 2) v rest (over_within ms p above level rest is lt tower) here.1
+pub over_tower : (ms : List ℕ) (p v : ℕ) (above : List (List ℕ)) (row : List ℕ) (rest : List (List ℕ)) → above ≡ row ∷ rest
+    → p < length ms → IsTowerButOver p ms above → IsTowerButOver (p / 2) (set row (p / 2) v) rest
+over_tower ms p v above row rest is lt tower =
+    let here = rw is at tower in tower_set row (p / 2) v rest (over_within ms p above row rest is lt tower) here.1
 
-pub over_right : (ms : List ℕ) (p v : ℕ) (above : List (List ℕ)) (level later : List ℕ) (rest after : List (List ℕ)) → above ≡ level ∷ rest
-    → IsTowerButOver p ms above → v ≡ get_or (halves ms) (p / 2) 0 → later ≡ set level (p / 2) v → IsTower later after
+pub over_right : (ms : List ℕ) (p v : ℕ) (above : List (List ℕ)) (row later : List ℕ) (rest after : List (List ℕ)) → above ≡ row ∷ rest
+    → IsTowerButOver p ms above → v ≡ get_or (halves ms) (p / 2) 0 → later ≡ set row (p / 2) v → IsTower later after
     → IsTower ms (later ∷ after)
-over_right ms p v above level later rest after is tower least now done =
+over_right ms p v above row later rest after is tower least now done =
     let here = rw is at tower in (rw (now, least) (sym here.0), done)

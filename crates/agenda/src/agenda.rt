@@ -1,16 +1,16 @@
 ghost use Rattle.std.specs.Prelude.{◌≡◌, ◌<◌, List, [], ℕ, length, slice_set, IfOk};
-ghost use Rattle.agenda.specs.Places.{places};
+ghost use Rattle.agenda.specs.Reached.{reached};
 ghost use Rattle.agenda.specs.Halves.{IsTower, IsTowerButOver};
 
-use crate::level::{Level, all_reached, least, next_level, reached_below};
+use crate::row::{Row, all_reached, least, next_row, reached_below};
 use std::alloc::{AllocError, Global};
 use std::marker::Model;
 
-/// The next moment of each place.
+/// The next moment of each index.
 #[derive(Drop)]
 pub struct Agenda {
-    base: Level,
-    above: Vec<Level>,
+    base: Row,
+    above: Vec<Row>,
 }
 
 impl Model for Agenda {
@@ -22,12 +22,12 @@ impl Model for Agenda {
 }
 
 impl Agenda {
-    /// An agenda without places. It takes no memory.
+    /// An agenda without indices. It takes no memory.
     pub fn empty(alloc: Global) -> Agenda
         ensures { result ≡ [] }
     {
         Agenda {
-            base: Level::of(Vec::new(alloc)),
+            base: Row::of(Vec::new(alloc)),
             above: Vec::new(alloc),
         }
     }
@@ -36,74 +36,74 @@ impl Agenda {
     pub fn of(alloc: Global, moments: Vec<u64>) -> Result<Agenda, AllocError>
         ensures { IfOk result (λ agenda. agenda ≡ moments.items) }
     {
-        let base = Level::of(moments);
-        let above = levels_over(alloc, base.moments())?;
+        let base = Row::of(moments);
+        let above = rows_over(alloc, base.moments())?;
         Ok(Agenda { base, above })
     }
 
-    /// How many places it has.
+    /// How many indices it has.
     pub fn len(&self) -> usize
         ensures { result ≡ length self.now }
     {
         self.base.moments().len()
     }
 
-    /// Sets the moment of a place.
+    /// Sets the moment of an index.
     #[tactic(auto, using(crate::proofs::Halving::tower_set))]
-    pub fn set(&mut self, place: usize, moment: u64)
-        requires { place < length self.old }
-        ensures { self.new ≡ slice_set self.old place moment }
+    pub fn set(&mut self, index: usize, moment: u64)
+        requires { index < length self.old }
+        ensures { self.new ≡ slice_set self.old index moment }
     {
-        self.base.set(place, moment);
-        raise(self.base.moments(), &mut self.above, place);
+        self.base.set(index, moment);
+        raise(self.base.moments(), &mut self.above, index);
     }
 
-    /// The places whose moment isn't later than `at`, in rising order.
+    /// The indices whose moment isn't later than `at`, in rising order.
     pub fn reached(&self, alloc: Global, at: u64) -> Result<Vec<usize>, AllocError>
-        ensures { IfOk result (λ found. found.items ≡ places at self.now) }
+        ensures { IfOk result (λ found. found.items ≡ reached at self.now) }
     {
         reached_in(alloc, self.base.moments(), &self.above, at)
     }
 }
 
-/// The levels over these moments.
-fn levels_over(alloc: Global, moments: &[u64]) -> Result<Vec<Level>, AllocError>
+/// The rows over these moments.
+fn rows_over(alloc: Global, moments: &[u64]) -> Result<Vec<Row>, AllocError>
     ensures { IfOk result (λ above. IsTower moments.now above.items) }
 {
     if moments.len() < 2 {
         return Ok(Vec::new(alloc));
     }
-    let level = next_level(alloc, moments)?;
-    let mut above = levels_over(alloc, level.moments())?;
-    above.insert(0, level)?;
+    let row = next_row(alloc, moments)?;
+    let mut above = rows_over(alloc, row.moments())?;
+    above.insert(0, row)?;
     Ok(above)
 }
 
-/// Brings the levels over moments of which one was just set up to date.
-fn raise(moments: &[u64], above: &mut [Level], place: usize)
-    requires within { place < length moments.now }
-    requires but_one { IsTowerButOver place moments.now above.old }
+/// Brings the rows over moments of which one was just set up to date.
+fn raise(moments: &[u64], above: &mut [Row], index: usize)
+    requires within { index < length moments.now }
+    requires but_one { IsTowerButOver index moments.now above.old }
     ensures { IsTower moments.now above.new }
 {
-    if let Some((level, rest)) = above.split_first_mut() {
-        level.set(place / 2, least(moments, place));
-        raise(level.moments(), rest, place / 2);
+    if let Some((row, rest)) = above.split_first_mut() {
+        row.set(index / 2, least(moments, index));
+        raise(row.moments(), rest, index / 2);
     }
 }
 
-/// The places that a moment reaches, by those of the next level.
+/// The indices that a moment reaches, by those of the next row.
 fn reached_in(
     alloc: Global,
     moments: &[u64],
-    above: &[Level],
+    above: &[Row],
     at: u64,
 ) -> Result<Vec<usize>, AllocError>
     requires { IsTower moments.now above.now }
-    ensures { IfOk result (λ found. found.items ≡ places at moments.now) }
+    ensures { IfOk result (λ found. found.items ≡ reached at moments.now) }
 {
-    let Some((level, rest)) = above.split_first() else {
+    let Some((row, rest)) = above.split_first() else {
         return all_reached(alloc, moments, at);
     };
-    let pairs = reached_in(alloc, level.moments(), rest, at)?;
+    let pairs = reached_in(alloc, row.moments(), rest, at)?;
     reached_below(alloc, moments, &pairs, at)
 }

@@ -2,11 +2,11 @@ use crate::Agenda;
 use std::alloc::Global;
 use std::test::Fail;
 
-// The places that a moment reaches, each with a space after it.
+// The indices that a moment reaches, each with a space after it.
 fn reached(alloc: Global, agenda: &Agenda, at: u64) -> Result<String, Fail> {
     let mut told = String::new(alloc);
-    for place in agenda.reached(alloc, at)? {
-        told.push_str(&format!(in alloc; "{place} ")?)?;
+    for index in agenda.reached(alloc, at)? {
+        told.push_str(&format!(in alloc; "{index} ")?)?;
     }
     Ok(told)
 }
@@ -40,7 +40,7 @@ fn an_agenda_tells_what_a_moment_reaches(rt: HostRuntime) -> Result<(), Fail> {
 }
 
 #[test]
-fn an_empty_agenda_has_no_place(rt: HostRuntime) -> Result<(), Fail> {
+fn an_empty_agenda_has_no_index(rt: HostRuntime) -> Result<(), Fail> {
     let agenda = Agenda::empty(rt.alloc());
     assert_eq!(rt; agenda.len(), 0);
     assert_eq!(rt; reached(rt.alloc(), &agenda, u64::MAX)?.as_str(), "");

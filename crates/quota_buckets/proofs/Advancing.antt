@@ -1,23 +1,23 @@
 -- An advance, which changes only the slots that an agenda has as due.
 use Rattle.std.proofs.Common.{◌≡◌, ℕ, ◌+◌, ◌<◌, ◌≤◌, ◌⊎◌, inl, inr, Bool, true, false, List, [], ◌∷◌, ◌++◌, refl, ap, sym, ◌∙◌, arith, Option, Some, None, length, map}
-use Rattle.std.proofs.Common.{filter, get_or, take, suc, zero, cond, if◌then◌else◌, replicate, nat_le, add-zero, append_assoc, append-nil, zero-add}
+use Rattle.std.proofs.Common.{filter, get_or, take, drop, suc, zero, cond, if◌then◌else◌, replicate, nat_le, add-zero, append_assoc, append-nil, zero-add}
 use Rattle.std.proofs.Math.ListN.{set, length-set}
 use Rattle.std.specs.List.{flat_map}
 use Rattle.std.proofs.lemmas.Bool.{cases_eq, leb-true, leb-false}
 use Rattle.std.proofs.lemmas.Bool.Decides.{nat_tests}
 use Rattle.std.proofs.lemmas.Grind.{flat_map-append}
-use Rattle.std.proofs.lemmas.List.{get_or-set_same, get_or-set_other, take_more, length-map, get_or_default, replicate-append-replicate}
+use Rattle.std.proofs.lemmas.List.{take-append-le, take_all, get_or-set_same, get_or-set_other, take_more, length-map, get_or_default, replicate-append-replicate}
 use Rattle.std.proofs.Math.ListN.{get_or-map, length-replicate}
 use Rattle.std.proofs.Common.{length-append}
-use Rattle.quota_buckets.proofs.Shelving.{push_other}
-use Rattle.agenda.specs.Places.{places_from, places}
+use Rattle.quota_buckets.proofs.Indexing.{push_other, push_last}
+use Rattle.agenda.specs.Reached.{reached_from, reached}
 use Rattle.quota_bucket.specs.Due.{never, due}
 use Rattle.quota_bucket.specs.History.{is_gone}
 use Rattle.quota_bucket.specs.declared.bucket_state.Advance.{Advance}
 use Rattle.quota_bucket.proofs.Quiet.{quiet, due_stays}
 use Rattle.quota_buckets.specs.Tables.{Stored, held, slot_list, slot_at, slot_due, slot_advanced, slot_reports, stored_there, stored_advanced, stored_reports, each_set}
 use Rattle.quota_buckets.specs.Tables.{reports_at, AllWithin}
-use Rattle.quota_buckets.specs.Shelves.{IsAgenda, AllThere}
+use Rattle.quota_buckets.specs.Slots.{IsAgenda, AllThere}
 use Rattle.quota_buckets.specs.declared.report.Report.{Report}
 
 -- one more place that is set
@@ -46,7 +46,7 @@ by_place change place [] = []
 by_place change place (x ∷ xs) = change place x ∷ by_place change (place + 1) xs
 
 -- where nothing is reached there is no place
-none_reached : (at place : ℕ) (ms : List ℕ) → at < never → ((k : ℕ) → at < get_or ms k never) → places_from at place ms ≡ []
+none_reached : (at place : ℕ) (ms : List ℕ) → at < never → ((k : ℕ) → at < get_or ms k never) → reached_from at place ms ≡ []
 none_reached at place [] bound late = refl
 none_reached at place (m ∷ ms) bound late =
     let not_now : nat_le m at ≡ false = later m (late 0) in rw not_now (none_reached at (place + 1) ms bound (λ k. late (suc k)))
@@ -71,7 +71,7 @@ each_reached : {X : Type 0} (change : ℕ → X → X) (default : X) (at : ℕ) 
     → length xs ≤ length ms
     → ((k : ℕ) → k < length xs → at < get_or ms k never → change (length before + k) (get_or xs k default) ≡ get_or xs k default)
     → ((k : ℕ) → length xs ≤ k → at < get_or ms k never)
-    → each_set change default (before ++ xs) (places_from at (length before) ms) ≡ before ++ by_place change (length before) xs
+    → each_set change default (before ++ xs) (reached_from at (length before) ms) ≡ before ++ by_place change (length before) xs
 each_reached change default at before [] ms bound room stays late = rw (none_reached at (length before) ms bound (λ k. late k (omega arith))) refl
 each_reached change default at before (x ∷ xs) [] bound room stays late = absurd (omega arith)
 each_reached change default at before (x ∷ xs) (m ∷ ms) bound room stays late =
@@ -90,21 +90,21 @@ each_reached change default at before (x ∷ xs) (m ∷ ms) bound room stays lat
         rw same (stays (suc k) (omega arith) after)
 
     over : (b : Bool) → nat_le m at ≡ b
-        → each_set change default ((before ++ change (length before) x ∷ []) ++ xs) (places_from at (length (before ++ change (length before) x ∷ [])) ms)
+        → each_set change default ((before ++ change (length before) x ∷ []) ++ xs) (reached_from at (length (before ++ change (length before) x ∷ [])) ms)
         ≡ (before ++ change (length before) x ∷ []) ++ by_place change (length (before ++ change (length before) x ∷ [])) xs
-        → each_set change default (before ++ x ∷ xs) (if b then (length before ∷ places_from at (length before + 1) ms) else places_from at (length before + 1) ms)
+        → each_set change default (before ++ x ∷ xs) (if b then (length before ∷ reached_from at (length before + 1) ms) else reached_from at (length before + 1) ms)
         ≡ before ++ (change (length before) x ∷ by_place change (length before + 1) xs)
     over true is rest =
         let set_now : set (before ++ x ∷ xs) (length before) (change (length before) (get_or (before ++ x ∷ xs) (length before) default))
         ≡ before ++ change (length before) x ∷ xs =
         ap (λ y. set (before ++ x ∷ xs) (length before) (change (length before) y)) (get_middle before x xs default)
         ∙ set_middle before x (change (length before) x) xs in
-        ap (λ zs. each_set change default zs (places_from at (length before + 1) ms)) set_now
+        ap (λ zs. each_set change default zs (reached_from at (length before + 1) ms)) set_now
         ∙ rw (next, append_assoc before (change (length before) x ∷ []) xs, append_assoc before (change (length before) x ∷ []) (by_place change (length before + 1) xs)) at rest
     over false is rest =
         let same : change (length before) x ≡ x =
         (let h = stays 0 (omega arith) (leb-false m at is) in rw add-zero at h) in
-        ap (λ y. each_set change default (before ++ y ∷ xs) (places_from at (length before + 1) ms)) (sym same)
+        ap (λ y. each_set change default (before ++ y ∷ xs) (reached_from at (length before + 1) ms)) (sym same)
         ∙ rw (next, append_assoc before (change (length before) x ∷ []) xs, append_assoc before (change (length before) x ∷ []) (by_place change (length before + 1) xs)) at rest
 
 -- a loop that sets places one after the other
@@ -168,7 +168,7 @@ late_beyond advance moments slots k bound agenda le = rw (agenda.each k, beyond 
 -- turning the slots that are due is turning all
 advanced_all : (advance : Advance) (moments : List ℕ) (slots : List (Option Stored)) → advance.from ≤ advance.to → advance.to < never → AllThere slots
     → IsAgenda advance.from moments slots
-    → each_set (λ place. slot_advanced advance) None slots (places advance.to moments) ≡ map (slot_advanced advance) slots
+    → each_set (λ place. slot_advanced advance) None slots (reached advance.to moments) ≡ map (slot_advanced advance) slots
 advanced_all advance moments slots le bound there agenda =
     each_reached (λ place. slot_advanced advance) None advance.to [] slots moments bound agenda.room
     (λ k within lt. (stays_at advance moments slots k le there agenda lt).same)
@@ -182,12 +182,13 @@ held_advanced advance (Some stored ∷ slots) = over (stored_there (stored_advan
   where
     over : (b : Bool) → held (map (slot_advanced advance) slots) ≡ filter stored_there (map (stored_advanced advance) (held slots))
         → slot_list (if b then Some (stored_advanced advance stored) else None) ++ held (map (slot_advanced advance) slots)
-        ≡ cond b (stored_advanced advance stored ∷ filter stored_there (map (stored_advanced advance) (held slots))) (filter stored_there (map (stored_advanced advance) (held slots)))
+        ≡ cond b (stored_advanced advance stored ∷ filter stored_there (map (stored_advanced advance) (held slots)))
+        (filter stored_there (map (stored_advanced advance) (held slots)))
     over true rest = ap (λ ks. stored_advanced advance stored ∷ ks) rest
     over false rest = rest
 
 pub table_after : (advance : Advance) (moments : List ℕ) (slots later : List (Option Stored)) → advance.from ≤ advance.to → advance.to < never → AllThere slots
-    → IsAgenda advance.from moments slots → later ≡ each_set (λ place. slot_advanced advance) None slots (places advance.to moments)
+    → IsAgenda advance.from moments slots → later ≡ each_set (λ place. slot_advanced advance) None slots (reached advance.to moments)
     → held later ≡ filter stored_there (map (stored_advanced advance) (held slots))
 table_after advance moments slots later le bound there agenda is =
     rw (is, advanced_all advance moments slots le bound there agenda) (held_advanced advance slots)
@@ -215,7 +216,7 @@ map_at advance (s ∷ slots) (suc k) = map_at advance slots k
 
 planned_all : (advance : Advance) (moments : List ℕ) (slots : List (Option Stored)) → advance.from ≤ advance.to → advance.to < never → AllThere slots
     → IsAgenda advance.from moments slots
-    → each_set (λ place _. slot_due advance.to (slot_at (map (slot_advanced advance) slots) place)) 0 moments (places advance.to moments)
+    → each_set (λ place _. slot_due advance.to (slot_at (map (slot_advanced advance) slots) place)) 0 moments (reached advance.to moments)
     ≡ by_place (λ place _. slot_due advance.to (slot_at (map (slot_advanced advance) slots) place)) 0 moments
 planned_all advance moments slots le bound there agenda =
     each_reached (λ place _. slot_due advance.to (slot_at (map (slot_advanced advance) slots) place)) 0 advance.to [] moments moments bound (omega arith)
@@ -232,8 +233,8 @@ planned_all advance moments slots le bound there agenda =
     get_past (m ∷ ms) (suc k) past = get_past ms k (omega arith)
 
 pub agenda_after : (advance : Advance) (moments planned : List ℕ) (slots later : List (Option Stored)) → advance.from ≤ advance.to → advance.to < never → AllThere slots
-    → IsAgenda advance.from moments slots → later ≡ each_set (λ place. slot_advanced advance) None slots (places advance.to moments)
-    → planned ≡ each_set (λ place _. slot_due advance.to (slot_at later place)) 0 moments (places advance.to moments)
+    → IsAgenda advance.from moments slots → later ≡ each_set (λ place. slot_advanced advance) None slots (reached advance.to moments)
+    → planned ≡ each_set (λ place _. slot_due advance.to (slot_at later place)) 0 moments (reached advance.to moments)
     → IsAgenda advance.to planned later
 agenda_after advance moments planned slots later le bound there agenda is plan =
     let now : later ≡ map (slot_advanced advance) slots = is ∙ advanced_all advance moments slots le bound there agenda in
@@ -262,7 +263,7 @@ reports_reached : (advance : Advance) (g : ℕ → List Report) (from : ℕ) (xs
     → ((k : ℕ) → k < length xs → g (from + k) ≡ slot_reports advance (slot_at xs k))
     → ((k : ℕ) → k < length xs → advance.to < get_or ms k never → slot_reports advance (slot_at xs k) ≡ [])
     → ((k : ℕ) → length xs ≤ k → advance.to < get_or ms k never)
-    → flat_map g (places_from advance.to from ms) ≡ flat_map (slot_reports advance) xs
+    → flat_map g (reached_from advance.to from ms) ≡ flat_map (slot_reports advance) xs
 reports_reached advance g from [] ms bound room each silent late = rw (none_reached advance.to from ms bound (λ k. late k (omega arith))) refl
 reports_reached advance g from (x ∷ xs) [] bound room each silent late = absurd (omega arith)
 reports_reached advance g from (x ∷ xs) (m ∷ ms) bound room each silent late =
@@ -270,8 +271,8 @@ reports_reached advance g from (x ∷ xs) (m ∷ ms) bound room each silent late
     (λ k lt. let same : from + 1 + k ≡ from + suc k = omega arith in rw same (each (suc k) (omega arith)))
     (λ k lt after. silent (suc k) (omega arith) after) (λ k past. late (suc k) (omega arith)))
   where
-    over : (b : Bool) → nat_le m advance.to ≡ b → flat_map g (places_from advance.to (from + 1) ms) ≡ flat_map (slot_reports advance) xs
-        → flat_map g (if b then (from ∷ places_from advance.to (from + 1) ms) else places_from advance.to (from + 1) ms)
+    over : (b : Bool) → nat_le m advance.to ≡ b → flat_map g (reached_from advance.to (from + 1) ms) ≡ flat_map (slot_reports advance) xs
+        → flat_map g (if b then (from ∷ reached_from advance.to (from + 1) ms) else reached_from advance.to (from + 1) ms)
         ≡ slot_reports advance x ++ flat_map (slot_reports advance) xs
     over true is rest = rw (rest, ← (let h = each 0 (omega arith) in rw add-zero at h)) refl
     over false is rest = rw (rest, silent 0 (omega arith) (leb-false m advance.to is)) refl
@@ -282,7 +283,7 @@ held_reports advance (None ∷ slots) = held_reports advance slots
 held_reports advance (Some stored ∷ slots) = ap (λ rs. stored_reports advance stored ++ rs) (held_reports advance slots)
 
 pub reports_after : (advance : Advance) (moments found : List ℕ) (slots : List (Option Stored)) → advance.from ≤ advance.to → advance.to < never → AllThere slots
-    → IsAgenda advance.from moments slots → found ≡ places advance.to moments
+    → IsAgenda advance.from moments slots → found ≡ reached advance.to moments
     → reports_at advance slots found ≡ flat_map (stored_reports advance) (held slots)
 reports_after advance moments found slots le bound there agenda is =
     rw is (reports_reached advance (λ place. slot_reports advance (slot_at slots place)) 0 slots moments bound agenda.room
@@ -292,15 +293,15 @@ reports_after advance moments found slots le bound there agenda is =
 
 -- a place that is reached has a slot
 from_at : (at from : ℕ) (ms : List ℕ) (count : ℕ) → ((k : ℕ) → k < length ms → count ≤ from + k → at < get_or ms k never)
-    → (i d : ℕ) → i < length (places_from at from ms) → get_or (places_from at from ms) i d < count
+    → (i d : ℕ) → i < length (reached_from at from ms) → get_or (reached_from at from ms) i d < count
 from_at at from [] count late i d lt = absurd (omega arith)
 from_at at from (m ∷ ms) count late i d lt =
     over (nat_le m at) refl i lt (λ j h. from_at at (from + 1) ms count
     (λ k within past. late (suc k) (omega arith) (omega arith)) j d h)
   where
-    over : (b : Bool) → nat_le m at ≡ b → (i : ℕ) → i < length (if b then (from ∷ places_from at (from + 1) ms) else places_from at (from + 1) ms)
-        → ((j : ℕ) → j < length (places_from at (from + 1) ms) → get_or (places_from at (from + 1) ms) j d < count)
-        → get_or (if b then (from ∷ places_from at (from + 1) ms) else places_from at (from + 1) ms) i d < count
+    over : (b : Bool) → nat_le m at ≡ b → (i : ℕ) → i < length (if b then (from ∷ reached_from at (from + 1) ms) else reached_from at (from + 1) ms)
+        → ((j : ℕ) → j < length (reached_from at (from + 1) ms) → get_or (reached_from at (from + 1) ms) j d < count)
+        → get_or (if b then (from ∷ reached_from at (from + 1) ms) else reached_from at (from + 1) ms) i d < count
     over true is zero lt rest = ended (cases_le count from)
       where
         ended : (count ≤ from) ⊎ (from < count) → from < count
@@ -310,7 +311,7 @@ from_at at from (m ∷ ms) count late i d lt =
     over false is i lt rest = rest i lt
 
 pub places_within : (advance : Advance) (moments found : List ℕ) (slots : List (Option Stored)) → advance.to < never → IsAgenda advance.from moments slots
-    → found ≡ places advance.to moments → AllWithin (length slots) found
+    → found ≡ reached advance.to moments → AllWithin (length slots) found
 places_within advance moments found slots bound agenda is =
     rw is (λ i d lt. from_at advance.to 0 moments (length slots) (λ k within past. late_beyond advance moments slots k bound agenda (omega arith)) i d lt)
 
@@ -344,16 +345,16 @@ free_more xs ys n is =
 
 -- an agenda with one more slot
 pub agenda_push : (time : ℕ) (moments planned : List ℕ) (slots later : List (Option Stored)) (stored : Stored) (moment : ℕ) → IsAgenda time moments slots
-    → length slots < length moments → later ≡ slots ++ Some stored ∷ [] → moment ≡ slot_due time (slot_at later (length slots))
+    → length slots < length moments → later ≡ slots ++ Some stored ∷ [] → moment ≡ due stored.rules stored.state time
     → planned ≡ set moments (length slots) moment → IsAgenda time planned later
-agenda_push time moments planned slots later stored moment agenda room is due set_now = rw (set_now, is) (record {
+agenda_push time moments planned slots later stored moment agenda room is next set_now = rw (set_now, is) (record {
   room = (let a = length-set moments (length slots) moment in let b = length_last slots (Some stored) in omega (arith, agenda.room));
   each = λ k. over k (cases_eq k (length slots));
 })
   where
     over : (k : ℕ) → (k ≡ length slots) ⊎ (k ≡ length slots → ⊥)
         → get_or (set moments (length slots) moment) k never ≡ slot_due time (slot_at (slots ++ Some stored ∷ []) k)
-    over k (inl e) = rw (e, get_or-set_same moments (length slots) moment never room) (due ∙ rw is refl)
+    over k (inl e) = rw (e, get_or-set_same moments (length slots) moment never room) (next ∙ ap (slot_due time) (sym (push_last slots (Some stored))))
     over k (inr ne) = rw (get_or-set_other moments (length slots) k moment never ne, push_other slots (Some stored) k ne) (agenda.each k)
 
 pub held_push : (slots later : List (Option Stored)) (stored : Stored) → later ≡ slots ++ Some stored ∷ [] → held later ≡ held slots ++ stored ∷ []
@@ -363,3 +364,8 @@ held_push slots later stored is = rw is (over slots)
     over [] = refl
     over (None ∷ xs) = over xs
     over (Some k ∷ xs) = ap (λ ks. k ∷ ks) (over xs)
+
+-- the items of a vector whose slice was changed
+pub written : (n : ℕ) (later slots : List (Option Stored)) → length later ≡ length slots → n ≡ length slots
+    → take n (later ++ drop (length later) slots) ≡ later
+written n later slots same size = take-append-le n later (drop (length later) slots) (omega arith) ∙ take_all n later (omega arith)

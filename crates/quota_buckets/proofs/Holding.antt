@@ -265,7 +265,8 @@ phase_there (Unassigned effect) there is = cc
 phase_there (Live strategy effect expiry) there is = cc
 phase_there (Expired strategy effect since) there is = cc
 
-no_phase : (o : Option Past) → ((p : Past) → o ≡ Some p → is_there p ≡ true) → (is_some o ≡ false) ↔ (unwrap_or (option_map (λ p. phase_of (phase_after p.rules p.history)) o) NoPhase ≡ NoPhase)
+no_phase : (o : Option Past) → ((p : Past) → o ≡ Some p → is_there p ≡ true)
+    → (is_some o ≡ false) ↔ (unwrap_or (option_map (λ p. phase_of (phase_after p.rules p.history)) o) NoPhase ≡ NoPhase)
 no_phase None there = (λ _. refl, λ _. refl)
 no_phase (Some p) there = (
   λ h. absurd (true≢false h),
@@ -377,10 +378,7 @@ made_held settings up table later s id rules state is runs now =
       on_time = push_on_time s.time s.buckets (made_now id rules s) is.on_time (record { now = refl; in_order = (omega arith, tt); there = refl });
     })
 
--- the settings of a stream
-pub covering_held : (settings : AllSettings) (up : Bool) (table : Table) (s : Stream) → IsHeld settings up table s → s.settings ≡ settings
-covering_held settings up table s is = is.settings_are
-
+-- an answer about a bucket, where there is one
 pub ok_or_no_bucket : {X : Type 0} (o : Option X) → ok_or o (record {}) ≡ or_no_bucket o
 ok_or_no_bucket None = refl
 ok_or_no_bucket (Some x) = refl

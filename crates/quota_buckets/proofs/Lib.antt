@@ -1,6 +1,6 @@
 pub mod Moments
 pub mod Naming
-pub mod Shelving
+pub mod Indexing
 pub mod Steps
 pub mod Tabling
 pub mod Advancing

@@ -1,8 +1,7 @@
--- A shelf stays one as one of its slots changes.
+-- An index of names stays that of its slots as one of them changes.
 use Rattle.std.proofs.Common.{◌≡◌, ℕ, ◌+◌, ◌<◌, Bool, true, false, not, List, [], ◌∷◌, ◌++◌, refl, sym, ◌∙◌, Option, Some, None, option_map, length, cond, get_or, if◌then◌else◌}
 use Rattle.std.proofs.Math.ListN.{set}
 use Rattle.std.specs.Ordering.{is_eq}
-use Rattle.std.specs.Option.{IfSome, IfNone}
 use Rattle.std.proofs.lemmas.List.{set-get_or, get_or_default}
 use Rattle.quota_settings.specs.declared.pair.Pair.{Pair}
 use Rattle.quota_settings.specs.Pairs.{pairs_cmp}
@@ -16,8 +15,8 @@ use Rattle.quota_bucket.specs.declared.strategy.Strategy.{Strategy}
 use Rattle.quota_bucket.specs.History.{is_gone, after_request, after_assignment, renewed, begins_by_assignment}
 use Rattle.quota_bucket.specs.Machine.{asked}
 use Rattle.quota_buckets.specs.Tables.{Stored, slot_at, stored_there, stored_advanced, stored_asked, stored_assigned, id_if_gone, slot_advanced, erased_id}
-use Rattle.quota_buckets.specs.Shelves.{IsShelf, IsPlaceOf, HasNoPlace}
-use Rattle.quota_buckets.proofs.Shelving.{changed_shelf, erased_shelf, added_shelf, found_place, found_none, no_place}
+use Rattle.quota_buckets.specs.Slots.{IsIndex, HasNoPlace}
+use Rattle.quota_buckets.proofs.Indexing.{changed_index, erased_index, added_index, no_place}
 
 -- after a request a bucket is there
 pub request_there : (before : TimedPhase) (at : ℕ) → is_gone (after_request before at) ≡ false
@@ -56,50 +55,14 @@ pub assigned_there : (at : ℕ) (lifetime : Option ℕ) (strategy : Strategy) (s
 assigned_there at lifetime strategy stored there = assignment_there stored.state.phase at lifetime strategy there
 
 -- the slot that a place reads, whatever is read beyond the list
-read_at : (slots : List (Option Stored)) (place : ℕ) (slot : Option Stored) → place < length slots → slot ≡ get_or slots place slot
+pub read_at : (slots : List (Option Stored)) (place : ℕ) (slot : Option Stored) → place < length slots → slot ≡ get_or slots place slot
     → slot_at slots place ≡ slot
 read_at slots place slot within read = get_or_default slots place None slot within ∙ sym read
 
 -- a slot that is set to what it was
-unchanged : (index : List Pair → Option ℕ) (slots : List (Option Stored)) (place : ℕ) (slot : Option Stored) → IsShelf index slots
-    → slot_at slots place ≡ slot → IsShelf index (set slots place slot)
-unchanged index slots place slot shelf is = rw (← is, set-get_or slots place None) shelf
-
--- a change of a bucket that keeps its name and leaves it there
-mapped_shelf : (index : List Pair → Option ℕ) (slots : List (Option Stored)) (place : ℕ) (f : Stored → Stored)
-    → ((stored : Stored) → (f stored).id ≡ stored.id) → ((stored : Stored) → is_gone stored.state.phase ≡ false → is_gone (f stored).state.phase ≡ false)
-    → IsShelf index slots → (slot : Option Stored) → slot_at slots place ≡ slot → IsShelf index (set slots place (option_map f slot))
-mapped_shelf index slots place f name there shelf None is = unchanged index slots place None shelf is
-mapped_shelf index slots place f name there shelf (Some stored) is =
-    changed_shelf index slots place stored (f stored) shelf is (name stored) (there stored (shelf.there place stored is))
-
-pub asked_shelf : (index : List Pair → Option ℕ) (slots : List (Option Stored)) (place at : ℕ) (up : Bool) (slot later : Option Stored)
-    → IsShelf index slots → place < length slots → slot ≡ get_or slots place slot → later ≡ option_map (stored_asked at up) slot
-    → IsShelf index (set slots place later)
-asked_shelf index slots place at up slot later shelf within read is =
-    rw is (mapped_shelf index slots place (stored_asked at up) (λ stored. refl) (λ stored there. asked_there at up stored) shelf slot
-    (read_at slots place slot within read))
-
-pub assigned_shelf : (index : List Pair → Option ℕ) (slots : List (Option Stored)) (place at : ℕ) (lifetime : Option ℕ) (strategy : Strategy)
-    (slot later : Option Stored) → IsShelf index slots → place < length slots → slot ≡ get_or slots place slot
-    → later ≡ option_map (stored_assigned at lifetime strategy) slot → IsShelf index (set slots place later)
-assigned_shelf index slots place at lifetime strategy slot later shelf within read is =
-    rw is (mapped_shelf index slots place (stored_assigned at lifetime strategy) (λ stored. refl)
-    (λ stored there. assigned_there at lifetime strategy stored there) shelf slot (read_at slots place slot within read))
-
--- a bucket that is taken out
-pub taken_shelf : (index less : List Pair → Option ℕ) (slots : List (Option Stored)) (place : ℕ) (stored : Stored) (slot later : Option Stored)
-    → IsShelf index slots → place < length slots → slot ≡ get_or slots place slot → slot ≡ Some stored
-    → ((q : List Pair) → less q ≡ cond (is_eq (pairs_cmp stored.id q)) None (index q)) → later ≡ None
-    → IsShelf less (set slots place later)
-taken_shelf index less slots place stored slot later shelf within read some removed is =
-    rw is (erased_shelf index less slots place stored shelf (read_at slots place slot within read ∙ some) removed)
-
-pub left_shelf : (index : List Pair → Option ℕ) (slots : List (Option Stored)) (place : ℕ) (slot later : Option Stored)
-    → IsShelf index slots → place < length slots → slot ≡ get_or slots place slot → slot ≡ None → later ≡ None
-    → IsShelf index (set slots place later)
-left_shelf index slots place slot later shelf within read none is =
-    rw is (unchanged index slots place None shelf (read_at slots place slot within read ∙ none))
+unchanged : (index : List Pair → Option ℕ) (slots : List (Option Stored)) (place : ℕ) (slot : Option Stored) → IsIndex index slots
+    → slot_at slots place ≡ slot → IsIndex index (set slots place slot)
+unchanged index slots place slot is_index is = rw (← is, set-get_or slots place None) is_index
 
 -- an advance that erases a bucket, and one that doesn't
 gone_by : (id : List Pair) (stored : Stored) (name : List Pair) → id_if_gone id stored ≡ Some name → (stored_there stored ≡ false) × (id ≡ name)
@@ -121,50 +84,39 @@ not_gone true is = absurd (cc)
 not_gone false is = refl
 
 gone_step : (index less : List Pair → Option ℕ) (slots : List (Option Stored)) (place : ℕ) (advance : Advance) (name : List Pair)
-    → IsShelf index slots → (slot : Option Stored) → slot_at slots place ≡ slot → erased_id advance slot ≡ Some name
+    → IsIndex index slots → (slot : Option Stored) → slot_at slots place ≡ slot → erased_id advance slot ≡ Some name
     → ((q : List Pair) → less q ≡ cond (is_eq (pairs_cmp name q)) None (index q))
-    → IsShelf less (set slots place (slot_advanced advance slot))
-gone_step index less slots place advance name shelf None is erased removed = absurd (cc)
-gone_step index less slots place advance name shelf (Some stored) is erased removed =
+    → IsIndex less (set slots place (slot_advanced advance slot))
+gone_step index less slots place advance name is_index None is erased removed = absurd (cc)
+gone_step index less slots place advance name is_index (Some stored) is erased removed =
     let gone = gone_by stored.id (stored_advanced advance stored) name erased in
-    rw gone.0 (erased_shelf index less slots place stored shelf is (λ q. rw gone.1 (removed q)))
+    rw gone.0 (erased_index index less slots place stored is_index is (λ q. rw gone.1 (removed q)))
 
 stay_step : (index : List Pair → Option ℕ) (slots : List (Option Stored)) (place : ℕ) (advance : Advance)
-    → IsShelf index slots → (slot : Option Stored) → slot_at slots place ≡ slot → erased_id advance slot ≡ None
-    → IsShelf index (set slots place (slot_advanced advance slot))
-stay_step index slots place advance shelf None is erased = unchanged index slots place None shelf is
-stay_step index slots place advance shelf (Some stored) is erased =
+    → IsIndex index slots → (slot : Option Stored) → slot_at slots place ≡ slot → erased_id advance slot ≡ None
+    → IsIndex index (set slots place (slot_advanced advance slot))
+stay_step index slots place advance is_index None is erased = unchanged index slots place None is_index is
+stay_step index slots place advance is_index (Some stored) is erased =
     let there = there_by stored.id (stored_advanced advance stored) erased in
-    rw there (changed_shelf index slots place stored (stored_advanced advance stored) shelf is refl (not_gone (is_gone (stored_advanced advance stored).state.phase) there))
+    rw there (changed_index index slots place stored (stored_advanced advance stored) is_index is refl (not_gone (is_gone (stored_advanced advance stored).state.phase) there))
 
 pub advanced_gone : (index less : List Pair → Option ℕ) (slots : List (Option Stored)) (place : ℕ) (advance : Advance) (stored : Stored) (slot later : Option Stored)
-    → IsShelf index slots → place < length slots → slot ≡ get_or slots place slot → Some stored.id ≡ erased_id advance slot
+    → IsIndex index slots → slot_at slots place ≡ slot → Some stored.id ≡ erased_id advance slot
     → ((q : List Pair) → less q ≡ cond (is_eq (pairs_cmp stored.id q)) None (index q)) → later ≡ slot_advanced advance slot
-    → IsShelf less (set slots place later)
-advanced_gone index less slots place advance stored slot later shelf within read erased removed is =
-    rw is (gone_step index less slots place advance stored.id shelf slot (read_at slots place slot within read) (sym erased) removed)
+    → IsIndex less (set slots place later)
+advanced_gone index less slots place advance stored slot later is_index read erased removed is =
+    rw is (gone_step index less slots place advance stored.id is_index slot read (sym erased) removed)
 
 pub advanced_there : (index : List Pair → Option ℕ) (slots : List (Option Stored)) (place : ℕ) (advance : Advance) (slot later : Option Stored)
-    → IsShelf index slots → place < length slots → slot ≡ get_or slots place slot → None ≡ erased_id advance slot
-    → later ≡ slot_advanced advance slot → IsShelf index (set slots place later)
-advanced_there index slots place advance slot later shelf within read erased is =
-    rw is (stay_step index slots place advance shelf slot (read_at slots place slot within read) (sym erased))
-
--- the place of a name, by what the index has
-pub place_told : (index : List Pair → Option ℕ) (slots : List (Option Stored)) (id : List Pair) (o : Option ℕ) → IsShelf index slots
-    → o ≡ index id → IfSome o (λ place. IsPlaceOf id place slots)
-place_told index slots id None shelf is = tt
-place_told index slots id (Some place) shelf is = found_place index slots id place shelf (sym is)
-
-pub none_told : (index : List Pair → Option ℕ) (slots : List (Option Stored)) (id : List Pair) (o : Option ℕ) → IsShelf index slots
-    → o ≡ index id → IfNone o (HasNoPlace id slots)
-none_told index slots id None shelf is = found_none index slots id shelf (sym is)
-none_told index slots id (Some place) shelf is = tt
+    → IsIndex index slots → slot_at slots place ≡ slot → None ≡ erased_id advance slot
+    → later ≡ slot_advanced advance slot → IsIndex index (set slots place later)
+advanced_there index slots place advance slot later is_index read erased is =
+    rw is (stay_step index slots place advance is_index slot read (sym erased))
 
 -- a bucket behind the others
-pub pushed_shelf : (index more : List Pair → Option ℕ) (slots : List (Option Stored)) (stored : Stored) (id : List Pair) → IsShelf index slots
+pub pushed_index : (index more : List Pair → Option ℕ) (slots : List (Option Stored)) (stored : Stored) (id : List Pair) → IsIndex index slots
     → HasNoPlace stored.id slots → id ≡ stored.id → ((q : List Pair) → more q ≡ cond (is_eq (pairs_cmp id q)) (Some (length slots)) (index q))
-    → is_gone stored.state.phase ≡ false → (later : List (Option Stored)) → later ≡ slots ++ Some stored ∷ [] → IsShelf more later
-pushed_shelf index more slots stored id shelf none name added there later is =
-    rw is (added_shelf index more slots stored shelf (no_place index slots stored.id shelf none (index stored.id) refl)
+    → is_gone stored.state.phase ≡ false → (later : List (Option Stored)) → later ≡ slots ++ Some stored ∷ [] → IsIndex more later
+pushed_index index more slots stored id is_index none name added there later is =
+    rw is (added_index index more slots stored is_index (no_place index slots stored.id is_index none (index stored.id) refl)
     (λ q. rw (← name) (added q)) there)

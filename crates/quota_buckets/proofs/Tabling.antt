@@ -1,5 +1,5 @@
 -- What is stored in slots, by the place of a name.
-use Rattle.std.proofs.Common.{◌≡◌, ℕ, ◌<◌, ◌⊎◌, inl, inr, Bool, true, false, List, [], ◌∷◌, refl, ap, sym, arith, Option, Some, None, option_map, length, find, get_or}
+use Rattle.std.proofs.Common.{◌≡◌, ℕ, ◌<◌, ◌⊎◌, inl, inr, Bool, true, false, List, [], ◌∷◌, refl, ap, sym, ◌∙◌, arith, Option, Some, None, option_map, length, find, get_or}
 use Rattle.std.proofs.Common.{suc, zero, cond, is_some}
 use Rattle.std.proofs.Math.ListN.{set, length-set}
 use Rattle.std.proofs.lemmas.Bool.{cases_eq, true≢false}
@@ -8,7 +8,13 @@ use Rattle.quota_settings.specs.declared.pair.Pair.{Pair}
 use Rattle.quota_bucket.specs.Due.{never}
 use Rattle.quota_buckets.specs.FirstMatch.{at_first, without_first}
 use Rattle.quota_buckets.specs.Tables.{Stored, is_stored_as, held, slot_at, slot_named, slot_due}
-use Rattle.quota_buckets.specs.Shelves.{IsPlaceOf, HasNoPlace, IsAgenda}
+use Rattle.std.specs.Ordering.{is_eq}
+use Rattle.quota_settings.specs.Pairs.{pairs_cmp}
+use Rattle.quota_bucket.specs.Due.{due}
+use Rattle.quota_bucket.specs.History.{is_gone}
+use Rattle.quota_buckets.specs.Slots.{IsIndex, IsPlaceOf, HasNoPlace, IsAgenda, IsTable}
+use Rattle.quota_buckets.proofs.Steps.{read_at}
+use Rattle.quota_buckets.proofs.Indexing.{at_within, found_bucket, found_place, changed_index, erased_index, empty_index}
 
 -- what the place of a name says of the stored buckets
 record FoundAt (id : List Pair) (f : Stored → Stored) (slots : List (Option Stored)) (place : ℕ) : Type 0 where
@@ -97,6 +103,35 @@ agenda_set time moments slots place moment slot agenda within is = record {
         rw (e, get_or-set_same moments place moment never (omega (arith, agenda.room)), get_or-set_same slots place slot None within) is
     over k (inr ne) = rw (get_or-set_other moments place k moment never ne, get_or-set_other slots place k slot None ne) (agenda.each k)
 
+-- a table of which one bucket changed
+pub changed_table : (time : ℕ) (moments : List ℕ) (index : List Pair → Option ℕ) (slots : List (Option Stored)) (place moment : ℕ)
+    (stored later : Stored) → IsTable time moments index slots → slot_at slots place ≡ Some stored → later.id ≡ stored.id
+    → is_gone later.state.phase ≡ false → moment ≡ due later.rules later.state time
+    → IsTable time (set moments place moment) index (set slots place (Some later))
+changed_table time moments index slots place moment stored later is_table is name there next = record {
+  indexed = changed_index index slots place stored later is_table.indexed is name there;
+  planned = agenda_set time moments slots place moment (Some later) is_table.planned (at_within slots place stored is) next;
+}
+
+-- a table of which one bucket was erased
+pub erased_table : (time : ℕ) (moments : List ℕ) (index less : List Pair → Option ℕ) (slots : List (Option Stored)) (id : List Pair) (place : ℕ)
+    → IsTable time moments index slots → index id ≡ Some place → ((q : List Pair) → less q ≡ cond (is_eq (pairs_cmp id q)) None (index q))
+    → IsTable time (set moments place never) less (set slots place None)
+erased_table time moments index less slots id place is_table has removed =
+    let bucket = found_bucket index slots id place is_table.indexed has in
+    record {
+      indexed = erased_index index less slots place bucket.stored is_table.indexed bucket.is (λ q. rw bucket.name (removed q));
+      planned = agenda_set time moments slots place never None is_table.planned (at_within slots place bucket.stored bucket.is) refl;
+    }
+
+-- a table without buckets
+pub empty_table : (time : ℕ) (moments : List ℕ) (index : List Pair → Option ℕ) → moments ≡ [] → ((q : List Pair) → index q ≡ None)
+    → IsTable time moments index []
+empty_table time moments index is none = record {
+  indexed = empty_index index none;
+  planned = record { room = omega arith; each = λ place. rw is refl };
+}
+
 -- a change at the place of a name is that of the first bucket of the name
 pub stored_changed : (id : List Pair) (f : Stored → Stored) (slots later : List (Option Stored)) (place : ℕ) → IsPlaceOf id place slots
     → later ≡ set slots place (option_map f (slot_at slots place)) → held later ≡ at_first (is_stored_as id) f (held slots)
@@ -127,3 +162,27 @@ is_there (Some stored) id here = refl
 pub some_holds : (id : List Pair) (slots : List (Option Stored)) (place : ℕ) → IsPlaceOf id place slots
     → true ≡ is_some (find (is_stored_as id) (held slots))
 some_holds id slots place is = rw (← place_holds id slots place is) (is_there (slot_at slots place) id is.here)
+
+-- a bucket at the place of a name that is changed, and what is told of it
+pub stored_at : (id : List Pair) (f : Stored → Stored) (slots : List (Option Stored)) (place : ℕ) (stored later : Stored) → IsPlaceOf id place slots
+    → slot_at slots place ≡ Some stored → later ≡ f stored → held (set slots place (Some later)) ≡ at_first (is_stored_as id) f (held slots)
+stored_at id f slots place stored later here at is =
+    stored_changed id f slots (set slots place (Some later)) place here (rw at (ap (λ (s : Stored). set slots place (Some s)) is))
+
+pub told_at : {X : Type 0} (id : List Pair) (g : Stored → X) (slots : List (Option Stored)) (place : ℕ) (stored : Stored) (x : X)
+    → IsPlaceOf id place slots → slot_at slots place ≡ Some stored → x ≡ g stored → Some x ≡ option_map g (find (is_stored_as id) (held slots))
+told_at id g slots place stored x here at is = rw (← place_holds id slots place here, at) (ap Some is)
+
+-- the slot that is read at the place that the index has of a name
+pub record IsReadAt (id : List Pair) (place : ℕ) (slot : Option Stored) (slots : List (Option Stored)) : Type 0 where
+  pub here : IsPlaceOf id place slots
+  pub at : slot_at slots place ≡ slot
+
+pub read_place : (index : List Pair → Option ℕ) (slots : List (Option Stored)) (id : List Pair) (place : ℕ) (slot : Option Stored) → IsIndex index slots
+    → Some place ≡ index id → slot ≡ get_or slots place slot → IsReadAt id place slot slots
+read_place index slots id place slot is_index has read =
+    let here = found_place index slots id place is_index (sym has) in record { here = here; at = read_at slots place slot here.within read }
+
+-- it isn't empty
+pub not_empty : (id : List Pair) (place : ℕ) (slot : Option Stored) (slots : List (Option Stored)) → IsReadAt id place slot slots → slot ≡ None → ⊥
+not_empty id place slot slots read none = true≢false (sym read.here.here ∙ ap (slot_named id) (read.at ∙ none))

@@ -1,4 +1,4 @@
--- The calls on a stream, in order, and the stream after them.
+-- Inside: the calls on a stream, in order, and the stream after them.
 use Rattle.std.specs.Prelude.{List, [], ◌∷◌}
 use Rattle.quota_settings.specs.Covering.{AllSettings}
 use Rattle.quota_settings.specs.declared.pair.Pair.{Pair}

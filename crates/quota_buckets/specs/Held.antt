@@ -1,4 +1,4 @@
--- What is stored of a stream is that of its history.
+-- Inside: what is stored of a stream is that of its history.
 use Rattle.std.specs.Prelude.{◌≡◌, ℕ, Bool, true, List, [], ◌∷◌, ⊤, map}
 use Rattle.quota_settings.specs.Covering.{AllSettings}
 use Rattle.quota_bucket.specs.Reports.{present}
@@ -13,6 +13,7 @@ pub record IsOnTime (time : ℕ) (past : Past) : Type 0 where
   pub in_order : IsInOrder past.history
   pub there : is_there past ≡ true
 
+-- each bucket is on time
 abbrev pub AllOnTime : ℕ → List Past → Type 0
 AllOnTime time [] = ⊤
 AllOnTime time (past ∷ pasts) = IsOnTime time past × AllOnTime time pasts

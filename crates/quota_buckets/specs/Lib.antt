@@ -5,5 +5,5 @@ pub mod Phases
 pub mod Streams
 pub mod Calls
 pub mod Tables
-pub mod Shelves
+pub mod Slots
 pub mod Held

@@ -14,6 +14,7 @@ report_from id usage = record {
   denied = usage.denied;
 }
 
+-- the report of a bucket, if there is one, as a list
 abbrev pub reports_from : List Pair → Option Usage → List Report
 reports_from id None = []
 reports_from id (Some usage) = report_from id usage ∷ []

@@ -21,6 +21,7 @@ use Rattle.quota_buckets.specs.declared.answers.Assigned.{Assigned}
 use Rattle.quota_buckets.specs.declared.answers.Assigned.TheVariants.{New, Renewed}
 use Rattle.quota_buckets.specs.declared.report.Report.{Report}
 
+-- the settings of a stream, its time, whether it is up, and its buckets with their histories, in order of making
 pub record Stream : Type 0 where
   pub settings : AllSettings
   pub time : ℕ
@@ -35,7 +36,7 @@ new_stream settings = record { settings = settings; time = 0; up = true; buckets
 abbrev pub bucket_of : List Pair → Stream → Option Past
 bucket_of id s = find (is_named id) s.buckets
 
--- after an advance: each bucket has it, and the erased ones are gone
+-- a stream after an advance: each bucket has it, and the erased ones are gone
 abbrev pub advanced_to : ℕ → Stream → Stream
 advanced_to at s = record s { time = at; buckets = filter is_there (map (happened (Advance at s.up)) s.buckets) }
 
@@ -47,19 +48,19 @@ past_reports at up past = reports_from past.id (report_of_advance past.rules pas
 abbrev pub reports_due : ℕ → Stream → List Report
 reports_due at s = by_moment (flat_map (past_reports at s.up) s.buckets)
 
--- after the stream was lost or came up
+-- a stream after it was lost or came up
 abbrev pub connected : Bool → Stream → Stream
 connected up s = record s { up = up }
 
--- after a request of a bucket that is there
+-- a stream after a request of a bucket that is there
 abbrev pub asked_again : List Pair → Stream → Stream
 asked_again id s = record s { buckets = at_first (is_named id) (happened (Request s.time s.up)) s.buckets }
 
--- its answer
+-- the answer to a request of a bucket that is there
 abbrev pub answer : List Pair → Stream → Option Bool
 answer id s = option_map (λ p. is_allowed p.rules p.history s.time) (bucket_of id s)
 
--- after an assignment
+-- a stream after an assignment of a bucket, if it is there
 abbrev pub assigned_in : List Pair → Option ℕ → Strategy → Stream → Stream
 assigned_in id lifetime strategy s =
     record s { buckets = at_first (is_named id) (happened (Assignment s.time lifetime strategy)) s.buckets }
@@ -74,11 +75,12 @@ abbrev pub or_no_bucket : {X : Type 0} → Option X → Result X NoBucket
 or_no_bucket (Some x) = Ok x
 or_no_bucket None = Err (record {})
 
+-- the answer to an assignment: what it did, where there is such a bucket
 abbrev pub assignment_result : List Pair → Strategy → Stream → Result Assigned NoBucket
 assignment_result id strategy s =
     or_no_bucket (option_map (λ p. assigned_as (begins_by_assignment (phase_after p.rules p.history) strategy)) (bucket_of id s))
 
--- after an abandonment
+-- a stream after an abandonment of a bucket, if it is there
 abbrev pub abandoned_in : List Pair → Stream → Stream
 abandoned_in id s = record s { buckets = without_first (is_named id) s.buckets }
 
@@ -104,21 +106,23 @@ decided_named id rules s None = record {
   report = option_map (report_from id) (report_of_request rules [] s.time s.up);
 }
 
+-- after a request, by the settings that fit it
 abbrev pub asked_by : List Pair → Stream → Option OneSettings → Stream
 asked_by attributes s None = s
 asked_by attributes s (Some settings) =
     let id = id_of settings attributes in asked_named id settings.rules s (answer id s)
 
+-- its answer, by the settings that fit it
 abbrev pub decided_by : List Pair → Stream → Option OneSettings → Decided
 decided_by attributes s None = record { bucket = None; allowed = true; report = None }
 decided_by attributes s (Some settings) =
     let id = id_of settings attributes in decided_named id settings.rules s (answer id s)
 
--- after a request: a request without settings changes nothing
+-- a stream after a request: a request without settings changes nothing
 abbrev pub requested : List Pair → Stream → Stream
 requested attributes s = asked_by attributes s (covering s.settings attributes)
 
--- its answer: a request without settings is allowed and has no bucket
+-- the answer to a request: a request without settings is allowed and has no bucket
 abbrev pub decision : List Pair → Stream → Decided
 decision attributes s = decided_by attributes s (covering s.settings attributes)
 

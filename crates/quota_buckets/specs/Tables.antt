@@ -1,4 +1,4 @@
--- What is stored of a stream's buckets: the state of each, in order of making.
+-- Inside: what is stored of a stream's buckets: the state of each, in order of making.
 use Rattle.std.specs.Prelude.{ℕ, List, [], ◌∷◌, ◌++◌, Option, Some, None, Bool, false, not, option_map, slice_index_or, slice_set}
 use Rattle.std.specs.Prelude.{◌<◌, All, map, filter, if◌then◌else◌}
 use Rattle.std.specs.List.{flat_map}
@@ -29,9 +29,11 @@ pub record Stored : Type 0 where
 abbrev pub stored_of : Past → Stored
 stored_of past = record { id = past.id; rules = past.rules; state = state_after past.rules past.history }
 
+-- whether it has this name
 abbrev pub is_stored_as : List Pair → Stored → Bool
 is_stored_as id stored = same_pairs stored.id id
 
+-- whether it wasn't erased
 abbrev pub stored_there : Stored → Bool
 stored_there stored = not (is_gone stored.state.phase)
 
@@ -39,6 +41,7 @@ stored_there stored = not (is_gone stored.state.phase)
 abbrev pub stored_advanced : Advance → Stored → Stored
 stored_advanced advance stored = record stored { state = advanced stored.rules advance stored.state }
 
+-- the report that an advance sends of it
 abbrev pub stored_reports : Advance → Stored → List Report
 stored_reports advance stored = reports_from stored.id (advance_report stored.rules advance stored.state)
 
@@ -46,6 +49,7 @@ stored_reports advance stored = reports_from stored.id (advance_report stored.ru
 abbrev pub stored_asked : ℕ → Bool → Stored → Stored
 stored_asked at up stored = record stored { state = (asked stored.rules at up stored.state).state }
 
+-- its answer
 abbrev pub stored_answer : ℕ → Bool → Stored → Bool
 stored_answer at up stored = (asked stored.rules at up stored.state).allowed
 
@@ -57,11 +61,12 @@ first_stored id rules at up = record { id = id; rules = rules; state = (asked ru
 abbrev pub stored_assigned : ℕ → Option ℕ → Strategy → Stored → Stored
 stored_assigned at lifetime strategy stored = record stored { state = assigned at lifetime strategy stored.state }
 
--- the buckets of slots, in order
+-- the bucket of a slot, if there is one
 abbrev pub slot_list : Option Stored → List Stored
 slot_list None = []
 slot_list (Some stored) = stored ∷ []
 
+-- the buckets of all slots, in order
 abbrev pub held : List (Option Stored) → List Stored
 held [] = []
 held (slot ∷ slots) = slot_list slot ++ held slots
@@ -70,10 +75,12 @@ held (slot ∷ slots) = slot_list slot ++ held slots
 abbrev pub slot_at : List (Option Stored) → ℕ → Option Stored
 slot_at slots place = slice_index_or slots place None
 
+-- whether a slot has a bucket of this name
 abbrev pub slot_named : List Pair → Option Stored → Bool
 slot_named id None = false
 slot_named id (Some stored) = is_stored_as id stored
 
+-- the name of a slot's bucket
 abbrev pub slot_id : Option Stored → Option (List Pair)
 slot_id slot = option_map (λ stored. stored.id) slot
 
@@ -87,22 +94,25 @@ abbrev pub slot_due : ℕ → Option Stored → ℕ
 slot_due time None = never
 slot_due time (Some stored) = due stored.rules stored.state time
 
--- a slot after an advance, which may erase its bucket
+-- a slot with this bucket, if it wasn't erased
 abbrev pub there_or_none : Stored → Option Stored
 there_or_none stored = if stored_there stored then Some stored else None
 
+-- a slot after an advance, which may erase its bucket
 abbrev pub slot_advanced : Advance → Option Stored → Option Stored
 slot_advanced advance None = None
 slot_advanced advance (Some stored) = there_or_none (stored_advanced advance stored)
 
--- the name of a bucket that an advance erases
+-- this name, if the bucket was erased
 abbrev pub id_if_gone : List Pair → Stored → Option (List Pair)
 id_if_gone id stored = if stored_there stored then None else Some id
 
+-- the name of a bucket that an advance erases
 abbrev pub erased_id : Advance → Option Stored → Option (List Pair)
 erased_id advance None = None
 erased_id advance (Some stored) = id_if_gone stored.id (stored_advanced advance stored)
 
+-- the report that an advance sends of a slot's bucket
 abbrev pub slot_reports : Advance → Option Stored → List Report
 slot_reports advance None = []
 slot_reports advance (Some stored) = stored_reports advance stored

@@ -4,10 +4,10 @@ ghost use Rattle.quota_buckets.specs.Sending.{report_from};
 ghost use Rattle.quota_buckets.specs.Tables.{is_stored_as, first_stored};
 
 use crate::answers::{AdvanceFault, Assigned, Decided, NoBucket};
+use crate::bucket::Bucket;
 use crate::call::Call;
 use crate::phase::Phase;
 use crate::report::{Report, Reports};
-use crate::slot::Bucket;
 use crate::table::Table;
 use http_server::Log;
 use quota_bucket::{BucketRules, BucketState, Strategy, Usage};
@@ -198,7 +198,10 @@ fn ask_first(
     up: bool,
 ) -> Result<First, OutOfMemory>
     requires { find (is_stored_as id.now) table.old.stored ≡ None }
-    ensures made { OnOk result (table.new ≡ record table.old { stored = table.old.stored ++ first_stored id.now rules.now table.old.time up ∷ [] }) }
+    ensures made { OnOk result (table.new ≡ record table.old {
+      stored = table.old.stored
+          ++ first_stored id.now rules.now table.old.time up ∷ [];
+    }) }
     ensures allowed { IfOk result (λ first. first.allowed ≡ (asked rules.now table.old.time up (new_state table.old.time)).allowed) }
     ensures report { IfOk result (λ first. first.report
         ≡ option_map (report_from id.now) (asked rules.now table.old.time up (new_state table.old.time)).report) }

@@ -4,20 +4,20 @@
 //! for the bucket's next report. Contracts see `Buckets` as the stream so far: its time, whether it is up, and each
 //! bucket that is there with all that happened to it (`specs/Streams.antt`). The promise: each call changes this history
 //! by its one event and answers what the history says; decisions, phases and reports are recounted from the whole
-//! history in `quota_bucket`, and the code keeps state that are proved to be those of it. No effect of a
+//! history in `quota_bucket`, and the code keeps of each bucket a state that is proved to be that of it. No effect of a
 //! bucket ever allows more than its strategy's number, whatever else happens (`KeepAllowance`).
 //!
 //! `advance` costs as much as falls due, times a logarithm; `find`, `decide` and `request` look a bucket up by its name.
-//! `decide`, `assign`, `abandon`, `set_up` and `phase` take no memory. The slot of an erased bucket is stored.
+//! `decide`, `assign`, `abandon`, `set_up` and `phase` take no memory. The slot of an erased bucket is kept.
 #![tactic(auto)]
 
 mod answers;
+mod bucket;
 mod buckets;
 mod call;
 mod phase;
 mod report;
-mod shelf;
-mod slot;
+mod slots;
 mod table;
 
 pub use answers::{AdvanceFault, Assigned, Decided, NoBucket};

@@ -3,8 +3,7 @@ ghost use Rattle.quota_buckets.specs.Sending.{by_moment};
 
 use quota_bucket::Usage;
 use quota_settings::BucketId;
-use rate_types::{Millis, OutOfMemory};
-use std::marker::Model;
+use rate_types::{Items, Millis, OutOfMemory};
 
 /// What is reported of a bucket: Envoy's `BucketQuotaUsage`.
 #[derive(Drop)]
@@ -38,35 +37,7 @@ impl Report {
 }
 
 /// Reports in the order in which they are sent.
-#[derive(Drop)]
-pub struct Reports {
-    items: Vec<Report>,
-}
-
-impl Model for Reports {
-    ghost use Rattle.std.specs.Prelude.{List};
-    ghost use Rattle.quota_buckets.specs.declared.report.Report.{Report};
-
-    ghost Value = { List Report };
-
-    ghost view = { λ r. r.items.items };
-}
-
-impl Reports {
-    /// These reports. It takes no memory.
-    pub fn of(items: Vec<Report>) -> Reports
-        ensures { result ≡ items.items }
-    {
-        Reports { items }
-    }
-
-    /// The reports.
-    pub fn items(&self) -> &[Report]
-        ensures { result.now ≡ self.now }
-    {
-        &self.items
-    }
-}
+pub type Reports = Items<Report>;
 
 /// Puts reports in order of their moments; those of one moment stay by age of bucket.
 pub fn order(reports: &mut Vec<Report>) -> Result<(), OutOfMemory>

@@ -9,11 +9,13 @@ const PLAIN: &str =
 
 // The same, but an assignment that expires is followed by DENY_ALL.
 const DENYING: &str =
-    r#"{"domain":"q","buckets":[{"bucketIdBuilder":{"bucketIdBuilder":{"name":{"stringValue":"b"}}},"reportingInterval":"5s","expiredAssignmentBehavior":{"fallbackRateLimit":{"blanketRule":"DENY_ALL"}}}]}"#;
+    r#"{"domain":"q","buckets":[{"bucketIdBuilder":{"bucketIdBuilder":{"name":{"stringValue":"b"}}},"reportingInterval":"5s",
+    "expiredAssignmentBehavior":{"fallbackRateLimit":{"blanketRule":"DENY_ALL"}}}]}"#;
 
 // The same with reports each minute, and an assignment that expires goes on for 3 seconds.
 const REUSING: &str =
-    r#"{"domain":"q","buckets":[{"bucketIdBuilder":{"bucketIdBuilder":{"name":{"stringValue":"b"}}},"reportingInterval":"60s","expiredAssignmentBehavior":{"expiredAssignmentBehaviorTimeout":"3s","reuseLastAssignment":{}}}]}"#;
+    r#"{"domain":"q","buckets":[{"bucketIdBuilder":{"bucketIdBuilder":{"name":{"stringValue":"b"}}},"reportingInterval":"60s",
+    "expiredAssignmentBehavior":{"expiredAssignmentBehaviorTimeout":"3s","reuseLastAssignment":{}}}]}"#;
 
 fn per_second(count: u64) -> Strategy {
     Strategy::PerUnit {

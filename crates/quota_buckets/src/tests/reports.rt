@@ -62,7 +62,8 @@ fn reports_come_by_moment_and_then_by_age(rt: HostRuntime) -> Result<(), Fail> {
         (
             10_000,
             Step::Wait,
-            "[b at 6000 after 5000: 1 allowed, 0 denied] [a at 6000 after 5000: 1 allowed, 0 denied] [c at 10000 after 10000: 1 allowed, 0 denied]",
+            "[b at 6000 after 5000: 1 allowed, 0 denied] \
+             [a at 6000 after 5000: 1 allowed, 0 denied] [c at 10000 after 10000: 1 allowed, 0 denied]",
         ),
     ];
     run(&rt, rt.alloc(), EACH, &rows)

@@ -8,7 +8,12 @@ use Rattle.quota_buckets.proofs.buckets.Buckets.assign.Goals as goal
 pub invariant_of-self : goal.invariant_of-self
 invariant_of-self c =
     let s = stream_of c.self.inside.settings c.self.inside.calls.items in
-    rw (c.and-self-inside.ensures, call_more (new_stream c.self.inside.settings) c.self.inside.calls.items c.assign-call.result c.pairs.result.now, c.pairs.ensures, c.assign-call.ensures)
+    rw (
+      c.and-self-inside.ensures,
+      call_more (new_stream c.self.inside.settings) c.self.inside.calls.items c.assign-call.result c.pairs.result.now,
+      c.pairs.ensures,
+      c.assign-call.ensures,
+    )
     (assign_held c.self.inside.settings c.self.inside.up c.self.inside.table c.assign-assigned.new.self s c.args.id.now c.args.lifetime c.args.strategy
     c.self.invariant c.assign-assigned.ensures.stored)
 

@@ -1,9 +1,0 @@
-use Rattle.std.proofs.Common.{◌≡◌, ◌+◌, ◌/◌, ◌∙◌, arith, ap, length}
-use Rattle.agenda.proofs.Halving.{length-halves}
-use Rattle.agenda.proofs.agenda.+levels_over.Goals as goal
-
-pub levels_over-requires : goal.levels_over-requires
-levels_over-requires t c =
-    let size : length c.moments.result.now ≡ (length c.args.moments.now + 1) / 2 =
-    ap length (c.moments.ensures ∙ c.in_ok-level.ensures) ∙ length-halves c.args.moments.now in
-    (omega (arith, size), tt)
