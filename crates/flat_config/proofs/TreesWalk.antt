@@ -9,6 +9,7 @@ use Rattle.descriptor_tree.specs.Trees.{NodeFields, Branch, branch, Branches, no
 use Rattle.descriptor_tree.specs.Nodes.{forest_nodes, tree_nodes, config_nodes}
 use Rattle.rule_lookup.specs.declared.flat.FlatRule.{FlatRule}
 use Rattle.rule_lookup.specs.declared.flat.FlatConfig.{FlatConfig}
+use Rattle.flat_config.specs.declared.fault.NotFlat.{NotFlat}
 use Rattle.flat_config.specs.Flat.{is_bare, rule_of, rules_of, before, tree_before, flat_from, flat_of}
 
 -- ---- how many nodes a tree has
@@ -59,7 +60,7 @@ nodes_of_level place level index earlier (branch node below ∷ bs) =
 -- ---- the walk
 
 -- flat trees behind others, or the tree that isn't flat
-abbrev pub behind : List FlatConfig → Result (List FlatConfig) ℕ → Result (List FlatConfig) ℕ
+abbrev pub behind : List FlatConfig → Result (List FlatConfig) NotFlat → Result (List FlatConfig) NotFlat
 behind made (Ok more) = Ok (made ++ more)
 behind made (Err tree) = Err tree
 
@@ -73,7 +74,7 @@ pub record Step (all : List Tree) (i : ℕ) (tree : Tree) (nodes : List Node) : 
   pub at : tree ≡ get_or all i tree
   pub level : (tree_view tree).forest ≡ branches_of (map node_view nodes)
 
-behind-nil : (more : Result (List FlatConfig) ℕ) → behind [] more ≡ more
+behind-nil : (more : Result (List FlatConfig) NotFlat) → behind [] more ≡ more
 behind-nil (Ok more) = refl
 behind-nil (Err tree) = refl
 
@@ -105,7 +106,7 @@ level_few all i number made tree nodes w s =
     subst (λ (f : Branches). length (map node_view nodes) ≤ length (forest_nodes (child [] (codes "descriptors")) 1 0 [] f)) (sym s.level) (nodes_of_level (child [] (codes "descriptors")) 1 0 [] (map node_view nodes)) in
     omega (arith, least, walked_few all i number made tree nodes w s, length-map nodes node_view)
 
-behind-before : (made : List FlatConfig) (index : ℕ) (domain : List ℕ) (rules : List FlatRule) (more : Result (List FlatConfig) ℕ)
+behind-before : (made : List FlatConfig) (index : ℕ) (domain : List ℕ) (rules : List FlatRule) (more : Result (List FlatConfig) NotFlat)
     → behind (made ++ record { domain = domain; rules = rules } ∷ []) more ≡ behind made (tree_before index domain (Some rules) more)
 behind-before made index domain rules (Err tree) = refl
 behind-before made index domain rules (Ok more) = ap Ok (append_assoc made (record { domain = domain; rules = rules } ∷ []) more)
@@ -136,7 +137,7 @@ trees_go_on all i number made after tree nodes flat w s is domain pushed =
 
 -- the tree at hand isn't flat
 pub trees_stop : (all : List Tree) (i number : ℕ) (made : List FlatConfig) (tree : Tree) (nodes : List Node) → TreesWalked all i number made → Step all i tree nodes
-    → None ≡ rules_of number (branches_of (map node_view nodes)) → flat_of (map tree_view all) ≡ Err i
+    → None ≡ rules_of number (branches_of (map node_view nodes)) → flat_of (map tree_view all) ≡ Err (record { tree = i })
 trees_stop all i number made tree nodes w s is =
     sym (walked_tree all i number made tree nodes w s)
     ∙ ap (λ r. behind made (tree_before i (tree_view tree).domain r (flat_from (i + 1) (number + length (tree_nodes (tree_view tree))) (map tree_view (drop (i + 1) all))))) (sym is)
