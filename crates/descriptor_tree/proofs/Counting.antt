@@ -1,11 +1,11 @@
--- Nodes that are counted one after the other, up to the first fault.
+-- Nodes that are numbered one after the other, up to the first fault.
 use Rattle.std.proofs.Common.{◌≡◌, ℕ, ◌+◌, List, [], ◌∷◌, ◌++◌, length, map, Some, None, Ok, Err, refl, sym, ap, ◌∙◌, append_assoc, length-append, arith}
 use Rattle.std.specs.List.{slice_get}
 use Rattle.rate_types.specs.declared.refused.Refused.{Refused}
 use Rattle.rate_types.specs.declared.refused.At.{At}
-use Rattle.descriptor_tree.specs.Nodes.{Standing}
+use Rattle.descriptor_tree.specs.Nodes.{PlacedNode}
 use Rattle.rate_types.specs.Reading.{first_or}
-use Rattle.descriptor_tree.specs.Faults.{counted, in_file, nodes_faults, node_faults}
+use Rattle.descriptor_tree.specs.Faults.{next_number, in_file, nodes_faults, node_faults}
 
 -- the first of some numbers at one place is the answer
 pub first_number : {X : Type 0} (ns : List ℕ) (n : ℕ) (at : ℕ → Refused) (to : Refused → At) (more : List Refused) (x : X) → slice_get ns 0 ≡ Some n → first_or (map to (map at ns ++ more)) x ≡ Err (to (at n))
@@ -20,10 +20,10 @@ pub no_number : (ns : List ℕ) (at : ℕ → Refused) (more : List Refused) →
 no_number [] at more is = refl
 no_number (m ∷ ns) at more is = cc
 
-pub faults_append : (number : ℕ) (xs ys : List Standing) → nodes_faults number (xs ++ ys) ≡ nodes_faults number xs ++ nodes_faults (number + length xs) ys
+pub faults_append : (number : ℕ) (xs ys : List PlacedNode) → nodes_faults number (xs ++ ys) ≡ nodes_faults number xs ++ nodes_faults (number + length xs) ys
 faults_append number [] ys = ap (λ n. nodes_faults n ys) same
   where
-    same : number ≡ number + length {A = Standing} []
+    same : number ≡ number + length {A = PlacedNode} []
     same = omega arith
 faults_append number (x ∷ xs) ys =
     ap (λ more. node_faults number x ++ more) (faults_append (number + 1) xs ys ∙ ap (λ n. nodes_faults (number + 1) xs ++ nodes_faults n ys) same)
@@ -48,8 +48,8 @@ pub none_first : {X : Type 0} (xs : List At) (x z : X) → first_or xs x ≡ Ok 
 none_first [] x z is = (refl, cc)
 none_first (f ∷ fs) x z is = cc
 
--- nodes that were counted, and then others
-pub counted_then : (file number : ℕ) (xs ys : List Standing) (n : ℕ) → counted file number xs ≡ Ok n → counted file number (xs ++ ys) ≡ counted file n ys
+-- nodes without a fault, and then others
+pub counted_then : (file number : ℕ) (xs ys : List PlacedNode) (n : ℕ) → next_number file number xs ≡ Ok n → next_number file number (xs ++ ys) ≡ next_number file n ys
 counted_then file number xs ys n is =
     let none = none_first (map (in_file file) (nodes_faults number xs)) (number + length xs) n is in
     ap (λ fs. first_or fs (number + length (xs ++ ys))) (ap (map (in_file file)) (faults_append number xs ys) ∙ map_append (in_file file) (nodes_faults number xs) (nodes_faults (number + length xs) ys))
@@ -61,7 +61,7 @@ counted_then file number xs ys n is =
     rest = omega (arith, length-append xs ys, (none_first (map (in_file file) (nodes_faults number xs)) (number + length xs) n is).1)
 
 -- nodes of which one is refused
-pub counted_refused : (file number : ℕ) (xs ys : List Standing) (at : At) → counted file number xs ≡ Err at → counted file number (xs ++ ys) ≡ Err at
+pub counted_refused : (file number : ℕ) (xs ys : List PlacedNode) (at : At) → next_number file number xs ≡ Err at → next_number file number (xs ++ ys) ≡ Err at
 counted_refused file number xs ys at is =
     ap (λ fs. first_or fs (number + length (xs ++ ys))) (ap (map (in_file file)) (faults_append number xs ys) ∙ map_append (in_file file) (nodes_faults number xs) (nodes_faults (number + length xs) ys))
     ∙ then_first (map (in_file file) (nodes_faults number xs)) _ (number + length xs) (number + length (xs ++ ys)) at is

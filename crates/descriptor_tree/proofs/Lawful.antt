@@ -8,8 +8,10 @@ use Rattle.std.proofs.lemmas.List.Elements.{All-nil, All-cons, All-head, All-tai
 use Rattle.std.proofs.lemmas.List.Kept.{AllPairs-cons}
 use Rattle.std.proofs.lemmas.Slice.Eq.{bytes_eq-Decides}
 use Rattle.rate_types.specs.Places.{child, item}
+use Rattle.rate_types.specs.declared.limits.TheConstants.{DEEPEST_LEVEL, MOST_NODES}
+use Rattle.rate_types.specs.declared.refusals.TheConstants.{EMPTY_DOMAIN, TWO_DOMAINS, EMPTY_KEY, TWO_NODES, TOO_DEEP, TOO_MANY_NODES}
 use Rattle.descriptor_tree.specs.Trees.{NodeFields, Branch, branch, Branches, no_branches, and_branch, fields_of, DomainTree}
-use Rattle.descriptor_tree.specs.Nodes.{Standing, branch_nodes, forest_nodes, tree_nodes, config_nodes}
+use Rattle.descriptor_tree.specs.Nodes.{PlacedNode, branch_nodes, forest_nodes, tree_nodes, config_nodes}
 use Rattle.descriptor_tree.specs.Faults.{is_empty, is_twin, where_true, node_numbers, node_faults, nodes_faults, domain_numbers, domain_faults, trees_faults, config_faults, in_file}
 use Rattle.descriptor_tree.specs.Config.{IsWellFormed, IsWellFormedBranch, AreWellFormed, IsLawfulNode, IsLawfulConfig}
 
@@ -60,35 +62,35 @@ all_differ (e ∷ es) node is =
     let both = or_false (is_twin e node) (list_any (λ x. is_twin x node) es) is in
     All-cons (λ x. x.key ≡ node.key → x.value ≢ node.value) e es (differs e node both.0) (all_differ es node both.1)
 
-level_is : (level : ℕ) → nat_lt 32 level ≡ false → level ≤ 32
+level_is : (level : ℕ) → nat_lt DEEPEST_LEVEL level ≡ false → level ≤ DEEPEST_LEVEL
 level_is level is = grind (arith, nat_tests)
 
-number_is : (number : ℕ) → nat_le 65536 number ≡ false → number < 65536
+number_is : (number : ℕ) → nat_le MOST_NODES number ≡ false → number < MOST_NODES
 number_is number is = grind (arith, nat_tests)
 
 -- what the tests of a node found
 record Passes (keyless twin : Bool) (level number : ℕ) : Type 0 where
   keyed : keyless ≡ false
   alone : twin ≡ false
-  shallow : level ≤ 32
-  few : number < 65536
+  shallow : level ≤ DEEPEST_LEVEL
+  few : number < MOST_NODES
 
 passes : (keyless twin : Bool) (level number : ℕ) → node_numbers keyless twin level number ≡ [] → Passes keyless twin level number
 passes keyless twin level number is =
-    let one = append_empty (where_true keyless 12 ++ where_true twin 13 ++ where_true (nat_lt 32 level) 16) (where_true (nat_le 65536 number) 17) is in
-    let two = append_empty (where_true keyless 12 ++ where_true twin 13) (where_true (nat_lt 32 level) 16) one.0 in
-    let three = append_empty (where_true keyless 12) (where_true twin 13) two.0 in
+    let one = append_empty (where_true keyless EMPTY_KEY ++ where_true twin TWO_NODES ++ where_true (nat_lt DEEPEST_LEVEL level) TOO_DEEP) (where_true (nat_le MOST_NODES number) TOO_MANY_NODES) is in
+    let two = append_empty (where_true keyless EMPTY_KEY ++ where_true twin TWO_NODES) (where_true (nat_lt DEEPEST_LEVEL level) TOO_DEEP) one.0 in
+    let three = append_empty (where_true keyless EMPTY_KEY) (where_true twin TWO_NODES) two.0 in
     record {
-      keyed = where_empty keyless 12 three.0;
-      alone = where_empty twin 13 three.1;
-      shallow = level_is level (where_empty (nat_lt 32 level) 16 two.1);
-      few = number_is number (where_empty (nat_le 65536 number) 17 one.1);
+      keyed = where_empty keyless EMPTY_KEY three.0;
+      alone = where_empty twin TWO_NODES three.1;
+      shallow = level_is level (where_empty (nat_lt DEEPEST_LEVEL level) TOO_DEEP two.1);
+      few = number_is number (where_empty (nat_le MOST_NODES number) TOO_MANY_NODES one.1);
     }
 
-node_passes : (number : ℕ) (s : Standing) → node_faults number s ≡ [] → Passes (is_empty s.node.key) (list_any (λ e. is_twin e s.node) s.earlier) s.level number
+node_passes : (number : ℕ) (s : PlacedNode) → node_faults number s ≡ [] → Passes (is_empty s.node.key) (list_any (λ e. is_twin e s.node) s.earlier) s.level number
 node_passes number s is = passes _ _ s.level number (map_empty (λ n. record { at = s.place; number = n }) _ is)
 
-node_lawful : (number : ℕ) (s : Standing) → node_faults number s ≡ [] → IsWellFormed s.node → IsLawfulNode s
+node_lawful : (number : ℕ) (s : PlacedNode) → node_faults number s ≡ [] → IsWellFormed s.node → IsLawfulNode s
 node_lawful number s is formed =
     let p = node_passes number s is in
     record {
@@ -100,29 +102,29 @@ node_lawful number s is formed =
 
 -- ---- nodes one after the other
 
-nodes_lawful : (number : ℕ) (nodes : List Standing) → nodes_faults number nodes ≡ [] → All (λ s. IsWellFormed s.node) nodes → All IsLawfulNode nodes
+nodes_lawful : (number : ℕ) (nodes : List PlacedNode) → nodes_faults number nodes ≡ [] → All (λ s. IsWellFormed s.node) nodes → All IsLawfulNode nodes
 nodes_lawful number [] is formed = All-nil IsLawfulNode
 nodes_lawful number (s ∷ more) is formed =
     let parts = append_empty (node_faults number s) (nodes_faults (number + 1) more) is in
     All-cons IsLawfulNode s more (node_lawful number s parts.0 (All-head (λ x. IsWellFormed x.node) s more formed)) (nodes_lawful (number + 1) more parts.1 (All-tail (λ x. IsWellFormed x.node) s more formed))
 
-nodes_few : (number : ℕ) (nodes : List Standing) → nodes_faults number nodes ≡ [] → number ≤ 65536 → number + length nodes ≤ 65536
+nodes_few : (number : ℕ) (nodes : List PlacedNode) → nodes_faults number nodes ≡ [] → number ≤ MOST_NODES → number + length nodes ≤ MOST_NODES
 nodes_few number [] is few = omega arith
 nodes_few number (s ∷ more) is few =
     let parts = append_empty (node_faults number s) (nodes_faults (number + 1) more) is in
-    let here : number < 65536 = (node_passes number s parts.0).few in
-    let rest : number + 1 + length more ≤ 65536 = nodes_few (number + 1) more parts.1 (omega arith) in
+    let here : number < MOST_NODES = (node_passes number s parts.0).few in
+    let rest : number + 1 + length more ≤ MOST_NODES = nodes_few (number + 1) more parts.1 (omega arith) in
     omega arith
 
 -- ---- trees one after the other
 
 -- trees behind others with these domains, the first of their nodes having this number
-record Behind (earlier : List (List ℕ)) (number : ℕ) (trees : List DomainTree) : Type 0 where
-  named : All (λ t. t.domain ≢ []) trees
-  apart : All (λ t. All (λ d. d ≢ t.domain) earlier) trees
-  differ : AllPairs (λ t u. t.domain ≢ u.domain) trees
-  nodes : All IsLawfulNode (config_nodes trees)
-  few : number + length (config_nodes trees) ≤ 65536
+pub record Behind (earlier : List (List ℕ)) (number : ℕ) (trees : List DomainTree) : Type 0 where
+  pub named : All (λ t. t.domain ≢ []) trees
+  pub apart : All (λ t. All (λ d. d ≢ t.domain) earlier) trees
+  pub differ : AllPairs (λ t u. t.domain ≢ u.domain) trees
+  pub nodes : All IsLawfulNode (config_nodes trees)
+  pub few : number + length (config_nodes trees) ≤ MOST_NODES
 
 domain_differs : (d domain : List ℕ) → bytes_eq d domain ≡ false → d ≢ domain
 domain_differs d domain is = λ same. true≢false (sym ((bytes_eq-Decides d domain).1 same) ∙ is)
@@ -143,11 +145,11 @@ tails d earlier [] all = All-nil (λ t. All (λ x. x ≢ t.domain) earlier)
 tails d earlier (t ∷ trees) all =
     All-cons (λ u. All (λ x. x ≢ u.domain) earlier) t trees (All-tail (λ x. x ≢ t.domain) d earlier (All-head (λ u. All (λ x. x ≢ u.domain) (d ∷ earlier)) t trees all)) (tails d earlier trees (All-tail (λ u. All (λ x. x ≢ u.domain) (d ∷ earlier)) t trees all))
 
-All-first : {X : Type 0} (P : X → Type 0) (xs ys : List X) → All P (xs ++ ys) → All P xs
+pub All-first : {X : Type 0} (P : X → Type 0) (xs ys : List X) → All P (xs ++ ys) → All P xs
 All-first P [] ys all = All-nil P
 All-first P (x ∷ xs) ys all = All-cons P x xs (All-head P x (xs ++ ys) all) (All-first P xs ys (All-tail P x (xs ++ ys) all))
 
-All-second : {X : Type 0} (P : X → Type 0) (xs ys : List X) → All P (xs ++ ys) → All P ys
+pub All-second : {X : Type 0} (P : X → Type 0) (xs ys : List X) → All P (xs ++ ys) → All P ys
 All-second P [] ys all = all
 All-second P (x ∷ xs) ys all = All-second P xs ys (All-tail P x (xs ++ ys) all)
 
@@ -160,10 +162,10 @@ tree_parts file earlier number t more is =
 
 domain_parts : (earlier : List (List ℕ)) (t : DomainTree) → domain_faults earlier t ≡ [] → (is_empty t.domain ≡ false) × (list_any (λ d. bytes_eq d t.domain) earlier ≡ false)
 domain_parts earlier t is =
-    let parts = append_empty (where_true (is_empty t.domain) 10) (where_true (list_any (λ d. bytes_eq d t.domain) earlier) 11) (map_empty (λ n. record { at = []; number = n }) (domain_numbers (is_empty t.domain) (list_any (λ d. bytes_eq d t.domain) earlier)) is) in
-    (where_empty (is_empty t.domain) 10 parts.0, where_empty (list_any (λ d. bytes_eq d t.domain) earlier) 11 parts.1)
+    let parts = append_empty (where_true (is_empty t.domain) EMPTY_DOMAIN) (where_true (list_any (λ d. bytes_eq d t.domain) earlier) TWO_DOMAINS) (map_empty (λ n. record { at = []; number = n }) (domain_numbers (is_empty t.domain) (list_any (λ d. bytes_eq d t.domain) earlier)) is) in
+    (where_empty (is_empty t.domain) EMPTY_DOMAIN parts.0, where_empty (list_any (λ d. bytes_eq d t.domain) earlier) TWO_DOMAINS parts.1)
 
-behind : (file : ℕ) (earlier : List (List ℕ)) (number : ℕ) (trees : List DomainTree) → trees_faults file earlier number trees ≡ [] → All (λ s. IsWellFormed s.node) (config_nodes trees) → number ≤ 65536 → Behind earlier number trees
+behind : (file : ℕ) (earlier : List (List ℕ)) (number : ℕ) (trees : List DomainTree) → trees_faults file earlier number trees ≡ [] → All (λ s. IsWellFormed s.node) (config_nodes trees) → number ≤ MOST_NODES → Behind earlier number trees
 behind file earlier number [] is formed few = record {
   named = All-nil (λ t. t.domain ≢ []);
   apart = All-nil (λ t. All (λ d. d ≢ t.domain) earlier);
@@ -184,9 +186,9 @@ behind file earlier number (t ∷ more) is formed few =
       few = omega (arith, rest.few, length-append (tree_nodes t) (config_nodes more));
     }
 
-pub IsLawfulConfig-faultless : (trees : List DomainTree) → config_faults trees ≡ [] → All (λ s. IsWellFormed s.node) (config_nodes trees) → IsLawfulConfig trees
+pub faultless_is_lawful : (trees : List DomainTree) → config_faults trees ≡ [] → All (λ s. IsWellFormed s.node) (config_nodes trees) → IsLawfulConfig trees
 unfolding config_faults
-IsLawfulConfig-faultless trees is formed =
+faultless_is_lawful trees is formed =
     let b = behind 0 [] 0 trees is formed (omega arith) in
     record { domains_not_empty = b.named; domains_differ = b.differ; nodes_lawful = b.nodes; nodes_few = omega (arith, b.few) }
 

@@ -3,3 +3,4 @@ pub mod Counting
 pub mod Walks
 pub mod Trees
 pub mod Lawful
+pub mod Accepted

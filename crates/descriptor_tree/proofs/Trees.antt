@@ -7,13 +7,14 @@ use Rattle.std.specs.Str.{bytes_eq}
 use Rattle.std.specs.declared.hash.FoldHasher.{FoldHasher}
 use Rattle.std.specs.declared.hash.BuildHasherDefault.{BuildHasherDefault}
 use Rattle.rate_types.specs.declared.refused.At.{At}
+use Rattle.rate_types.specs.declared.limits.TheConstants.{MOST_NODES}
 use Rattle.descriptor_tree.specs.declared.tree.Tree.{Tree}
 use Rattle.rate_types.specs.declared.fault.Fault.{Fault}
 use Rattle.rate_types.specs.declared.fault.Fault.TheVariants as fault
 use Rattle.descriptor_tree.specs.Trees.{tree_view}
 use Rattle.descriptor_tree.specs.Nodes.{tree_nodes}
 use Rattle.rate_types.specs.Reading.{AnswersReading, first_or}
-use Rattle.descriptor_tree.specs.Faults.{counted, in_file, is_empty, domain_numbers, domain_faults, nodes_faults, trees_faults, config_faults}
+use Rattle.descriptor_tree.specs.Faults.{next_number, in_file, is_empty, domain_numbers, domain_faults, nodes_faults, trees_faults, config_faults}
 use Rattle.descriptor_tree.proofs.Seen.{Seen, seen_more, twin_from_new}
 use Rattle.descriptor_tree.proofs.Counting.{first_number, no_number, then_first, none_first}
 
@@ -33,7 +34,7 @@ pub record TreesWalked (all : List Tree) (file number : ℕ) (domains : Domains)
   pub earlier : List (List ℕ)
   pub seen : Seen domain_eq has_domain domains earlier
   pub answer : first_or {X = Unit {0}} (trees_faults file earlier number (map tree_view (drop file all))) tt ≡ first_or (config_faults (map tree_view all)) tt
-  pub few : number ≤ 65536
+  pub few : number ≤ MOST_NODES
 
 -- the facts of one step
 pub record Step (domains : Domains) (all : List Tree) (i : ℕ) (tree : Tree) (k : Domain) (new : Bool) : Type 0 where
@@ -86,7 +87,7 @@ domain_passes all i number domains tree k new w s is =
 -- a node of the tree at hand is refused
 pub tree_stops : (all : List Tree) (i number : ℕ) (domains : Domains) (tree : Tree) (k : Domain) (new : Bool) (w : TreesWalked all i number domains) → Step domains all i tree k new
     → slice_get (domain_numbers (is_empty k.now) (not new)) 0 ≡ None
-    → (e : Fault At) → AnswersReading {X = ℕ} {Y = ℕ} (λ n. n) (Err e) (counted i number (tree_nodes (tree_view tree)))
+    → (e : Fault At) → AnswersReading {X = ℕ} {Y = ℕ} (λ n. n) (Err e) (next_number i number (tree_nodes (tree_view tree)))
     → AnswersReading {X = Unit {0}} {Y = Unit {0}} (λ u. u) (Err e) (first_or (config_faults (map tree_view all)) tt)
 tree_stops all i number domains tree k new w s none fault.OutOfMemory is = tt
 tree_stops all i number domains tree k new w s none (fault.Refused at) is =
@@ -96,7 +97,7 @@ tree_stops all i number domains tree k new w s none (fault.Refused at) is =
 -- the tree at hand is right
 pub tree_goes_on : (all : List Tree) (i number : ℕ) (domains after : Domains) (tree : Tree) (k : Domain) (new : Bool) (w : TreesWalked all i number domains) → Step domains all i tree k new
     → slice_get (domain_numbers (is_empty k.now) (not new)) 0 ≡ None → Updates domain_eq domains after k true
-    → (next : ℕ) → counted i number (tree_nodes (tree_view tree)) ≡ Ok next → next ≤ 65536 → TreesWalked all (i + 1) next after
+    → (next : ℕ) → next_number i number (tree_nodes (tree_view tree)) ≡ Ok next → next ≤ MOST_NODES → TreesWalked all (i + 1) next after
 tree_goes_on all i number domains after tree k new w s none updates next is few = record {
   earlier = (tree_view tree).domain ∷ w.earlier;
   seen = seen_more domain_eq has_domain domains after w.earlier k (tree_view tree).domain w.seen (λ q. ap (λ x. bytes_eq x q.now) s.domain) updates;

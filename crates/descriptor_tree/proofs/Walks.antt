@@ -1,5 +1,5 @@
 -- The walk over the nodes of a level: what is left to check answers as the whole level does.
-use Rattle.std.proofs.Common.{◌≡◌, ℕ, suc, ◌+◌, ◌≤◌, ◌<◌, ◌&&◌, List, [], ◌∷◌, ◌++◌, length, map, drop, get_or, Bool, true, Option, Some, None, option_map, Result, Ok, Err, Bor, codes, refl, sym, ap, ◌∙◌, subst, add-one, arith, not}
+use Rattle.std.proofs.Common.{◌≡◌, ℕ, suc, ◌+◌, ◌≤◌, ◌<◌, ◌&&◌, List, [], ◌∷◌, ◌++◌, length, map, drop, get_or, Bool, true, Option, Some, None, option_map, Result, Ok, Err, Bor, codes, refl, sym, ap, ◌∙◌, subst, add-one, append-nil, arith, not}
 use Rattle.std.proofs.Math.Seq.{drop-cons}
 use Rattle.std.specs.HashSet.{HashSet, Updates, contains}
 use Rattle.std.specs.List.{slice_get, list_any}
@@ -8,14 +8,15 @@ use Rattle.std.specs.Str.{bytes_eq}
 use Rattle.std.specs.declared.hash.FoldHasher.{FoldHasher}
 use Rattle.std.specs.declared.hash.BuildHasherDefault.{BuildHasherDefault}
 use Rattle.rate_types.specs.Places.{child, item}
+use Rattle.rate_types.specs.declared.limits.TheConstants.{MOST_NODES}
 use Rattle.rate_types.specs.declared.refused.At.{At}
 use Rattle.descriptor_tree.specs.declared.node.Node.{Node}
 use Rattle.rate_types.specs.declared.fault.Fault.{Fault}
 use Rattle.rate_types.specs.declared.fault.Fault.TheVariants as fault
 use Rattle.descriptor_tree.specs.Trees.{NodeFields, Branch, branch, Branches, and_branch, branches_of, fields_of, below_of, node_view}
-use Rattle.descriptor_tree.specs.Nodes.{Standing, forest_nodes}
+use Rattle.descriptor_tree.specs.Nodes.{PlacedNode, branch_nodes, forest_nodes}
 use Rattle.rate_types.specs.Reading.{AnswersReading, first_or}
-use Rattle.descriptor_tree.specs.Faults.{counted, in_file, is_empty, is_twin, node_numbers, nodes_faults}
+use Rattle.descriptor_tree.specs.Faults.{next_number, in_file, is_empty, is_twin, node_numbers, nodes_faults}
 use Rattle.descriptor_tree.proofs.Seen.{Seen, seen_more, twin_from_new}
 use Rattle.descriptor_tree.proofs.Counting.{first_number, no_number, counted_then, counted_refused}
 
@@ -35,8 +36,8 @@ has_name e q = bytes_eq e.key q.0.now && option_eq bytes_eq e.value (option_map 
 pub record Walked (file : ℕ) (place : List ℕ) (level start : ℕ) (all : List Node) (index number : ℕ) (names : Names) : Type 0 where
   pub earlier : List NodeFields
   pub seen : Seen name_eq has_name names earlier
-  pub answer : counted file number (forest_nodes place level index earlier (branches_of (map node_view (drop index all)))) ≡ counted file start (forest_nodes place level 0 [] (branches_of (map node_view all)))
-  pub few : number ≤ 65536
+  pub answer : next_number file number (forest_nodes place level index earlier (branches_of (map node_view (drop index all)))) ≡ next_number file start (forest_nodes place level 0 [] (branches_of (map node_view all)))
+  pub few : number ≤ MOST_NODES
 
 option_eq_now : (a b : Option (Bor (List ℕ))) → option_eq (λ a b. bytes_eq a.now b.now) a b ≡ option_eq bytes_eq (option_map (λ v. v.now) a) (option_map (λ v. v.now) b)
 option_eq_now None None = refl
@@ -57,37 +58,49 @@ twin_is names earlier k node new seen key value is = is
     ∙ ap (λ x. list_any (λ e. bytes_eq e.key node.key && option_eq bytes_eq e.value x) earlier) value
 
 -- a node's own fault is the answer
-pub node_refused : (file number : ℕ) (place : List ℕ) (level index : ℕ) (earlier : List NodeFields) (b : Branch) (more : Branches) (twin : Bool) (n : ℕ) → twin ≡ list_any (λ e. is_twin e (fields_of b)) earlier
+pub node_refused : (file number : ℕ) (at : List ℕ) (level : ℕ) (earlier : List NodeFields) (b : Branch) (twin : Bool) (n : ℕ)
+    → twin ≡ list_any (λ e. is_twin e (fields_of b)) earlier
     → slice_get (node_numbers (is_empty (fields_of b).key) twin level number) 0 ≡ Some n
-    → counted file number (forest_nodes place level index earlier (and_branch b more)) ≡ Err (in_file file (record { at = item place index; number = n }))
-node_refused file number place level index earlier (branch node below) more twin n twin_is is =
+    → next_number file number (branch_nodes at level earlier b) ≡ Err (in_file file (record { at = at; number = n }))
+node_refused file number at level earlier (branch node below) twin n twin_is is =
     first_number (node_numbers (is_empty node.key) (list_any (λ e. is_twin e node) earlier) level number) n _ (in_file file) _ _
     (subst (λ (t : Bool). slice_get (node_numbers (is_empty node.key) t level number) 0 ≡ Some n) twin_is is)
 
 -- a node without a fault of its own: the nodes below it come next
-pub node_passes : (file number : ℕ) (place : List ℕ) (level index : ℕ) (earlier : List NodeFields) (b : Branch) (more : Branches) (twin : Bool) → twin ≡ list_any (λ e. is_twin e (fields_of b)) earlier
+pub node_passes : (file number : ℕ) (at : List ℕ) (level : ℕ) (earlier : List NodeFields) (b : Branch) (twin : Bool)
+    → twin ≡ list_any (λ e. is_twin e (fields_of b)) earlier
     → slice_get (node_numbers (is_empty (fields_of b).key) twin level number) 0 ≡ None
-    → counted file number (forest_nodes place level index earlier (and_branch b more))
-    ≡ counted file (number + 1) (forest_nodes (child (item place index) (codes "descriptors")) (level + 1) 0 [] (below_of b) ++ forest_nodes place level (index + 1) (fields_of b ∷ earlier) more)
-node_passes file number place level index earlier (branch node below) more twin twin_is is =
-    ap (λ fs. first_or (map (in_file file) fs) (number + length (s ∷ rest))) (no_number _ _ (nodes_faults (number + 1) rest) (subst (λ (t : Bool). slice_get (node_numbers (is_empty node.key) t level number) 0 ≡ None) twin_is is))
+    → next_number file number (branch_nodes at level earlier b)
+    ≡ next_number file (number + 1) (forest_nodes (child at (codes "descriptors")) (level + 1) 0 [] (below_of b))
+node_passes file number at level earlier (branch node below) twin twin_is is =
+    ap (λ fs. first_or (map (in_file file) fs) (number + length (s ∷ rest)))
+    (no_number _ _ (nodes_faults (number + 1) rest) (subst (λ (t : Bool). slice_get (node_numbers (is_empty node.key) t level number) 0 ≡ None) twin_is is))
     ∙ ap (λ m. first_or (map (in_file file) (nodes_faults (number + 1) rest)) m) lengths
   where
-    s : Standing
-    s = record { place = item place index; level = level; earlier = earlier; node = node }
+    s : PlacedNode
+    s = record { place = at; level = level; earlier = earlier; node = node }
 
-    rest : List Standing
-    rest = forest_nodes (child (item place index) (codes "descriptors")) (level + 1) 0 [] below ++ forest_nodes place level (index + 1) (node ∷ earlier) more
+    rest : List PlacedNode
+    rest = forest_nodes (child at (codes "descriptors")) (level + 1) 0 [] below
 
     lengths : number + length (s ∷ rest) ≡ number + 1 + length rest
     lengths = omega arith
 
+-- a level of one node answers as that node does
+pub lone_node : (file number : ℕ) (place : List ℕ) (level : ℕ) (all : List Node) (node : Node) → length all ≡ 1 → node ≡ get_or all 0 node
+    → next_number file number (branch_nodes (item place 0) level [] (node_view node)) ≡ next_number file number (forest_nodes place level 0 [] (branches_of (map node_view all)))
+lone_node file number place level [] node one is = absurd (omega (arith, one))
+lone_node file number place level (x ∷ []) node one is =
+    ap (λ (y : Node). next_number file number (branch_nodes (item place 0) level [] (node_view y))) is
+    ∙ ap (next_number file number) (sym (append-nil (branch_nodes (item place 0) level [] (node_view x))))
+lone_node file number place level (x ∷ y ∷ more) node one is = absurd (omega (arith, one))
+
 -- what is left, with its first node apart
 pub walked_node : (file : ℕ) (place : List ℕ) (level start : ℕ) (all : List Node) (i number : ℕ) (names : Names) (node : Node) (w : Walked file place level start all i number names) → i < length all → node ≡ get_or all i node
-    → counted file number (forest_nodes place level i w.earlier (and_branch (node_view node) (branches_of (map node_view (drop (i + 1) all))))) ≡ counted file start (forest_nodes place level 0 [] (branches_of (map node_view all)))
+    → next_number file number (forest_nodes place level i w.earlier (and_branch (node_view node) (branches_of (map node_view (drop (i + 1) all))))) ≡ next_number file start (forest_nodes place level 0 [] (branches_of (map node_view all)))
 walked_node file place level start all i number names node w within is =
     let rest : drop i all ≡ node ∷ drop (i + 1) all = rw (add-one i) (drop-cons all i node within ∙ ap (λ (x : Node). x ∷ drop (suc i) all) (sym is)) in
-    ap (λ (ns : List Node). counted file number (forest_nodes place level i w.earlier (branches_of (map node_view ns)))) (sym rest) ∙ w.answer
+    ap (λ (ns : List Node). next_number file number (forest_nodes place level i w.earlier (branches_of (map node_view ns)))) (sym rest) ∙ w.answer
 
 -- the facts of one step: the node at hand, its name, and what the set answered
 pub record Step (names : Names) (all : List Node) (i : ℕ) (node : Node) (k : Name) (new : Bool) : Type 0 where
@@ -101,47 +114,42 @@ twin_of : (file : ℕ) (place : List ℕ) (level start : ℕ) (all : List Node) 
     → not new ≡ list_any (λ e. is_twin e (fields_of (node_view node))) w.earlier
 twin_of file place level start all i number names node k new w s = twin_is names w.earlier k (fields_of (node_view node)) new w.seen s.key s.value (twin_from_new name_eq has_name names w.earlier k new w.seen s.new_is)
 
-is_answer : (e : Fault At) (at : At) (read : Result ℕ At) → ((x : At) → e ≡ fault.Refused x → x ≡ at) → read ≡ Err at → AnswersReading {X = ℕ} {Y = ℕ} (λ n. n) (Err e) read
+pub is_answer : (e : Fault At) (at : At) (read : Result ℕ At) → ((x : At) → e ≡ fault.Refused x → x ≡ at) → read ≡ Err at
+    → AnswersReading {X = ℕ} {Y = ℕ} (λ n. n) (Err e) read
 is_answer (fault.Refused x) at read only is = is ∙ ap Err (sym (only x refl))
 is_answer fault.OutOfMemory at read only is = tt
 
--- the node at hand is refused
-pub walk_stops : (file : ℕ) (place : List ℕ) (level start : ℕ) (all : List Node) (i number : ℕ) (names : Names) (node : Node) (k : Name) (new : Bool) (w : Walked file place level start all i number names) → Step names all i node k new
-    → (n : ℕ) → slice_get (node_numbers (is_empty (fields_of (node_view node)).key) (not new) level number) 0 ≡ Some n
-    → (e : Fault At) → ((x : At) → e ≡ fault.Refused x → x ≡ in_file file (record { at = item place i; number = n }))
-    → AnswersReading {X = ℕ} {Y = ℕ} (λ n. n) (Err e) (counted file start (forest_nodes place level 0 [] (branches_of (map node_view all))))
-walk_stops file place level start all i number names node k new w s n is e only =
-    is_answer e (in_file file (record { at = item place i; number = n })) _ only
-    (sym (walked_node file place level start all i number names node w s.within s.at) ∙ node_refused file number place level i w.earlier (node_view node) _ (not new) n (twin_of file place level start all i number names node k new w s) is)
+-- the node at hand with those below it, and those behind them
+abbrev here_nodes : List ℕ → ℕ → ℕ → List NodeFields → Node → List PlacedNode
+here_nodes place level i earlier node = branch_nodes (item place i) level earlier (node_view node)
 
--- the nodes below the one at hand, and those behind them
-abbrev below_nodes : List ℕ → ℕ → ℕ → Node → List Standing
-below_nodes place level i node = forest_nodes (child (item place i) (codes "descriptors")) (level + 1) 0 [] (below_of (node_view node))
-
-abbrev more_nodes : List ℕ → ℕ → ℕ → List NodeFields → List Node → Node → List Standing
+abbrev more_nodes : List ℕ → ℕ → ℕ → List NodeFields → List Node → Node → List PlacedNode
 more_nodes place level i earlier all node = forest_nodes place level (i + 1) (fields_of (node_view node) ∷ earlier) (branches_of (map node_view (drop (i + 1) all)))
 
--- a node below it is refused
-pub walk_below : (file : ℕ) (place : List ℕ) (level start : ℕ) (all : List Node) (i number : ℕ) (names : Names) (node : Node) (k : Name) (new : Bool) (w : Walked file place level start all i number names) → Step names all i node k new
-    → slice_get (node_numbers (is_empty (fields_of (node_view node)).key) (not new) level number) 0 ≡ None
-    → (e : Fault At) → AnswersReading {X = ℕ} {Y = ℕ} (λ n. n) (Err e) (counted file (number + 1) (forest_nodes (child (item place i) (codes "descriptors")) (level + 1) 0 [] (below_of (node_view node))))
-    → AnswersReading {X = ℕ} {Y = ℕ} (λ n. n) (Err e) (counted file start (forest_nodes place level 0 [] (branches_of (map node_view all))))
-walk_below file place level start all i number names node k new w s none fault.OutOfMemory below = tt
-walk_below file place level start all i number names node k new w s none (fault.Refused at) below =
+-- what the check of the node at hand answers
+abbrev NodeAnswers : ℕ → List ℕ → ℕ → ℕ → ℕ → Node → Bool → Result ℕ (Fault At) → Type 0
+NodeAnswers file place level i number node twin result = (earlier : List NodeFields) → twin ≡ list_any (λ e. is_twin e (fields_of (node_view node))) earlier
+    → AnswersReading {X = ℕ} {Y = ℕ} (λ n. n) result (next_number file number (here_nodes place level i earlier node))
+
+-- the node at hand, or one below it, is refused
+pub walk_stops : (file : ℕ) (place : List ℕ) (level start : ℕ) (all : List Node) (i number : ℕ) (names : Names) (node : Node) (k : Name) (new : Bool)
+    (w : Walked file place level start all i number names) → Step names all i node k new → (e : Fault At) → NodeAnswers file place level i number node (not new) (Err e)
+    → AnswersReading {X = ℕ} {Y = ℕ} (λ n. n) (Err e) (next_number file start (forest_nodes place level 0 [] (branches_of (map node_view all))))
+walk_stops file place level start all i number names node k new w s fault.OutOfMemory is = tt
+walk_stops file place level start all i number names node k new w s (fault.Refused at) is =
     sym (walked_node file place level start all i number names node w s.within s.at)
-    ∙ node_passes file number place level i w.earlier (node_view node) _ (not new) (twin_of file place level start all i number names node k new w s) none
-    ∙ counted_refused file (number + 1) (below_nodes place level i node) (more_nodes place level i w.earlier all node) at below
+    ∙ counted_refused file number (here_nodes place level i w.earlier node) (more_nodes place level i w.earlier all node) at
+    (is w.earlier (twin_of file place level start all i number names node k new w s))
 
 -- the node and those below it are right
-pub walk_goes_on : (file : ℕ) (place : List ℕ) (level start : ℕ) (all : List Node) (i number : ℕ) (names after : Names) (node : Node) (k : Name) (new : Bool) (w : Walked file place level start all i number names) → Step names all i node k new
-    → slice_get (node_numbers (is_empty (fields_of (node_view node)).key) (not new) level number) 0 ≡ None → Updates name_eq names after k true
-    → (next : ℕ) → counted file (number + 1) (forest_nodes (child (item place i) (codes "descriptors")) (level + 1) 0 [] (below_of (node_view node))) ≡ Ok next → next ≤ 65536
-    → Walked file place level start all (i + 1) next after
-walk_goes_on file place level start all i number names after node k new w s none updates next below few = record {
+pub walk_goes_on : (file : ℕ) (place : List ℕ) (level start : ℕ) (all : List Node) (i number : ℕ) (names after : Names) (node : Node) (k : Name) (new : Bool)
+    (w : Walked file place level start all i number names) → Step names all i node k new → Updates name_eq names after k true
+    → (next : ℕ) → NodeAnswers file place level i number node (not new) (Ok next) → next ≤ MOST_NODES → Walked file place level start all (i + 1) next after
+walk_goes_on file place level start all i number names after node k new w s updates next is few = record {
   earlier = fields_of (node_view node) ∷ w.earlier;
   seen = seen_more name_eq has_name names after w.earlier k (fields_of (node_view node)) w.seen (named k (fields_of (node_view node)) s.key s.value) updates;
-  answer = sym (counted_then file (number + 1) (below_nodes place level i node) (more_nodes place level i w.earlier all node) next below)
-      ∙ sym (node_passes file number place level i w.earlier (node_view node) _ (not new) (twin_of file place level start all i number names node k new w s) none)
+  answer = sym (counted_then file number (here_nodes place level i w.earlier node) (more_nodes place level i w.earlier all node) next
+      (is w.earlier (twin_of file place level start all i number names node k new w s)))
       ∙ walked_node file place level start all i number names node w s.within s.at;
   few = few;
 }

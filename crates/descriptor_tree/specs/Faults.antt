@@ -4,12 +4,12 @@ use Rattle.std.specs.List.{list_any}
 use Rattle.std.specs.Option.{option_eq}
 use Rattle.std.specs.Str.{bytes_eq}
 use Rattle.rate_types.specs.Reading.{first_or}
+use Rattle.rate_types.specs.declared.limits.TheConstants.{DEEPEST_LEVEL, MOST_NODES}
+use Rattle.rate_types.specs.declared.refusals.TheConstants.{EMPTY_DOMAIN, TWO_DOMAINS, EMPTY_KEY, TWO_NODES, TOO_DEEP, TOO_MANY_NODES}
 use Rattle.rate_types.specs.declared.refused.Refused.{Refused}
 use Rattle.rate_types.specs.declared.refused.At.{At}
-use Rattle.rate_types.specs.declared.fault.Fault.{Fault}
-use Rattle.rate_types.specs.declared.fault.Fault.TheVariants as fault
 use Rattle.descriptor_tree.specs.Trees.{NodeFields, DomainTree}
-use Rattle.descriptor_tree.specs.Nodes.{Standing, tree_nodes}
+use Rattle.descriptor_tree.specs.Nodes.{PlacedNode, tree_nodes}
 
 abbrev pub is_empty : List ℕ → Bool
 is_empty [] = true
@@ -23,27 +23,30 @@ is_twin one other = bytes_eq one.key other.key && option_eq bytes_eq one.value o
 abbrev pub where_true : Bool → ℕ → List ℕ
 where_true test number = if test then number ∷ [] else []
 
--- The numbers of a node's faults: 12 EmptyKey; 13 TwoNodes, where an earlier sibling is its twin; 16 TooDeep above level
--- 32; 17 TooManyNodes from the 65,537th node of all trees on.
+-- The numbers of a node's faults: its key is empty; an earlier sibling is its twin; it stands below the deepest level; or
+-- as many nodes of all trees come before it as there may be.
 abbrev pub node_numbers : Bool → Bool → ℕ → ℕ → List ℕ
-node_numbers keyless twin level number = where_true keyless 12 ++ where_true twin 13 ++ where_true (nat_lt 32 level) 16 ++ where_true (nat_le 65536 number) 17
+node_numbers keyless twin level number = where_true keyless EMPTY_KEY ++ where_true twin TWO_NODES
+    ++ where_true (nat_lt DEEPEST_LEVEL level) TOO_DEEP ++ where_true (nat_le MOST_NODES number) TOO_MANY_NODES
 
 -- the faults of a node of this number, at its place
-abbrev pub node_faults : ℕ → Standing → List Refused
-node_faults number s = map (λ n. record { at = s.place; number = n }) (node_numbers (is_empty s.node.key) (list_any (λ e. is_twin e s.node) s.earlier) s.level number)
+abbrev pub node_faults : ℕ → PlacedNode → List Refused
+node_faults number s = map (λ n. record { at = s.place; number = n })
+    (node_numbers (is_empty s.node.key) (list_any (λ e. is_twin e s.node) s.earlier) s.level number)
 
 -- the faults of nodes one after the other, the first of this number
-abbrev pub nodes_faults : ℕ → List Standing → List Refused
+abbrev pub nodes_faults : ℕ → List PlacedNode → List Refused
 nodes_faults number [] = []
 nodes_faults number (s ∷ more) = node_faults number s ++ nodes_faults (number + 1) more
 
--- The numbers of a tree's own faults: 10 EmptyDomain, and 11 TwoDomains, where an earlier tree has this domain.
+-- The numbers of a tree's own faults: its domain is empty, or an earlier tree has it.
 abbrev pub domain_numbers : Bool → Bool → List ℕ
-domain_numbers nameless twin = where_true nameless 10 ++ where_true twin 11
+domain_numbers nameless twin = where_true nameless EMPTY_DOMAIN ++ where_true twin TWO_DOMAINS
 
 -- the faults of a tree's domain, at the empty place
 abbrev pub domain_faults : List (List ℕ) → DomainTree → List Refused
-domain_faults earlier tree = map (λ n. record { at = []; number = n }) (domain_numbers (is_empty tree.domain) (list_any (λ d. bytes_eq d tree.domain) earlier))
+domain_faults earlier tree = map (λ n. record { at = []; number = n })
+    (domain_numbers (is_empty tree.domain) (list_any (λ d. bytes_eq d tree.domain) earlier))
 
 -- a fault with its file
 abbrev pub in_file : ℕ → Refused → At
@@ -61,6 +64,6 @@ trees_faults file earlier number (tree ∷ more) =
 unfoldable pub config_faults : List DomainTree → List At
 config_faults trees = trees_faults 0 [] 0 trees
 
--- the first fault of these nodes of a file, the first of them of this number, or the number of the next node
-abbrev pub counted : ℕ → ℕ → List Standing → Result ℕ At
-counted file number nodes = first_or (map (in_file file) (nodes_faults number nodes)) (number + length nodes)
+-- the number of the node after these nodes of a file, the first of them of this number, or their first fault
+abbrev pub next_number : ℕ → ℕ → List PlacedNode → Result ℕ At
+next_number file number nodes = first_or (map (in_file file) (nodes_faults number nodes)) (number + length nodes)

@@ -46,7 +46,8 @@ abbrev pub forest_step : Forest-F Branches Branch → Branches
 forest_step f = branches_of f.nodes.items
 
 abbrev pub node_step : Node-F Branches Branch → Branch
-node_step n = branch (record { key = n.key; value = n.value; policy = n.policy; name = n.name; replaces = n.replaces; shadow = n.shadow }) n.below
+node_step n =
+    branch (record { key = n.key; value = n.value; policy = n.policy; name = n.name; replaces = n.replaces; shadow = n.shadow }) n.below
 
 -- what a forest, a node and a tree stand for
 abbrev pub forest_view : Forest → Branches

@@ -1,10 +1,11 @@
-ghost use Rattle.std.specs.Prelude.{◌≡◌, [], map};
+ghost use Rattle.std.specs.Prelude.{◌≡◌, [], map, OnOk, IfErr};
 ghost use Rattle.descriptor_tree.specs.Trees.{tree_view};
 ghost use Rattle.descriptor_tree.specs.Faults.{config_faults};
 ghost use Rattle.descriptor_tree.specs.Config.{IsLawfulConfig};
 
 use crate::check::check_trees;
 use crate::{ConfigFault, Tree};
+use rate_types::Fault;
 use std::alloc::Global;
 
 /// A lawful configuration: a list of trees. A node's number is its place among the nodes of all trees in preorder.
@@ -21,14 +22,17 @@ impl Config {
     ghost use Rattle.descriptor_tree.specs.Config.{AreWellFormed};
     ghost use Rattle.descriptor_tree.specs.Views.{config_view};
 
-    /// Checks the trees, the first of them being that of file 0, and makes a configuration of them. They are refused with
-    /// their first fault: for a tree 10 EmptyDomain or 11 TwoDomains at the empty place, then for its nodes in preorder,
-    /// each at its place, 12 EmptyKey, 13 TwoNodes, 16 TooDeep or 17 TooManyNodes. Making takes no memory, checking does.
+    /// Checks the trees, the first of them being that of file 0, and makes a configuration of them, which is done exactly
+    /// where they are a lawful configuration, but for want of memory. They are refused with their first fault: for a tree
+    /// `EMPTY_DOMAIN` or `TWO_DOMAINS` at the empty place, then for its nodes in preorder, each at its place, `EMPTY_KEY`,
+    /// `TWO_NODES`, `TOO_DEEP` or `TOO_MANY_NODES`. Making takes no memory, checking does.
     #[tactic(auto, unfolding(crate::specs::Views::config_view))]
     pub fn build(alloc: Global, trees: Vec<Tree>) -> Result<Config, ConfigFault>
         requires { All (λ t. AreWellFormed t.forest) (map tree_view trees.items) }
-        ensures { let spelled = map tree_view trees.items in
+        ensures first { let spelled = map tree_view trees.items in
             AnswersReading config_view result (first_or (config_faults spelled) spelled) }
+        ensures lawful { OnOk result (IsLawfulConfig (map tree_view trees.items)) }
+        ensures accepted { IsLawfulConfig (map tree_view trees.items) → IfErr result (λ e. e ≡ Fault.OutOfMemory) }
     {
         match check_trees(alloc, &trees) {
             Ok(()) => Ok(Config { trees }),
