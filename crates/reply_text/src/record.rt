@@ -1,8 +1,5 @@
-ghost use Rattle.std.specs.Prelude.{◌≡◌, ◌++◌, ◌∷◌, [], OnOk, OnErr};
-
 use crate::Statuses;
-use rate_types::{OutOfMemory, Refused, Seconds};
-use std::alloc::Global;
+use rate_types::{Items, Refused, Seconds};
 use std::marker::Model;
 
 /// What came of a line of a script.
@@ -38,43 +35,4 @@ impl Model for Record {
 }
 
 /// A list of records.
-#[derive(Drop)]
-pub struct Records {
-    items: Vec<Record>,
-}
-
-impl Model for Records {
-    ghost use Rattle.std.specs.Prelude.{List};
-    ghost use Rattle.reply_text.specs.declared.record.Record.{Record};
-
-    ghost Value = { List Record };
-
-    ghost view = { λ r. r.items.items };
-}
-
-impl Records {
-    /// No record. It takes no memory.
-    pub fn new(alloc: Global) -> Records
-        ensures { result ≡ [] }
-    {
-        Records {
-            items: Vec::new(alloc),
-        }
-    }
-
-    /// The records in order.
-    pub fn items(&self) -> &[Record]
-        ensures { result.now ≡ self.now }
-    {
-        &self.items
-    }
-
-    /// Adds a record at the end.
-    pub fn push(&mut self, next: Record) -> Result<(), OutOfMemory>
-        ensures ok { OnOk result (self.new ≡ self.old ++ next ∷ []) }
-        ensures err { OnErr result (self.new ≡ self.old) }
-    {
-        self.items.push(next)?;
-        Ok(())
-    }
-}
+pub type Records = Items<Record>;
