@@ -1,14 +1,17 @@
 -- What counting on one counter leaves of a map of sums.
-use Rattle.std.proofs.Common.{◌≡◌, ℕ, ◌+◌, ◌<◌, ◌≤◌, ◌||◌, Bool, true, false, cond, [], ◌∷◌, Option, Some, None, true≢false, is_some, unwrap_or, if◌then◌else◌, refl, sym, ap, ◌∙◌, arith}
+use Rattle.std.proofs.Common.{◌≡◌, ℕ, ◌+◌, ◌<◌, ◌≤◌, ◌||◌, Bool, true, false, cond, [], ◌∷◌, Option, Some, None, true≢false, is_some, unwrap_or, if◌then◌else◌, refl, sym, ap, ◌∙◌}
+use Rattle.std.proofs.Common.{arith}
 use Rattle.std.specs.BTreeMap.{is_at, insert_entry}
 use Rattle.std.specs.Map.{lookup}
 use Rattle.rate_types.specs.Counters.{key_cmp, same_counter}
 use Rattle.rate_types.specs.declared.counter_key.CounterKey.{CounterKey}
 use Rattle.window_keys.specs.Counter.{window_end_of}
 use Rattle.rls_core.specs.Sums.{Sums, has_sum, sum_on, AreOpen}
-use Rattle.rls_core.specs.Plain.{PlainState, CountsEach}
+use Rattle.rls_core.specs.Plain.{PlainState}
+use Rattle.rls_core.specs.Counting.{CountsEach}
 use Rattle.rls_core.proofs.Ends.{all_insert}
-use Rattle.rls_core.proofs.Numbers.{same_either, lookup_same}
+use Rattle.rls_core.proofs.Numbers.{lookup_same}
+use Rattle.window_keys.proofs.Counters.{same_either}
 
 -- a map in which one counter has a new sum
 abbrev pub Puts : CounterKey → ℕ → Sums → Sums → Type 0
@@ -17,13 +20,15 @@ Puts key sum old new = (c : CounterKey) → lookup (is_at (key_cmp c)) new ≡ c
 has_put : (key c : CounterKey) (sum : ℕ) (old new : Sums) → Puts key sum old new → has_sum new c ≡ (has_sum old c || (same_counter c key || false))
 has_put key c sum old new puts = ap is_some (puts c) ∙ by (same_counter key c) (same_either c key) (has_sum old c) refl
   where
-    by : (b : Bool) → same_counter c key ≡ b → (h : Bool) → has_sum old c ≡ h → is_some (cond b (Some sum) (lookup (is_at (key_cmp c)) old)) ≡ (has_sum old c || (same_counter c key || false))
+    by : (b : Bool) → same_counter c key ≡ b → (h : Bool) → has_sum old c ≡ h → is_some (cond b (Some sum) (lookup (is_at (key_cmp c)) old))
+        ≡ (has_sum old c || (same_counter c key || false))
     by true is true has = rw (is, has) refl
     by true is false has = rw (is, has) refl
     by false is true has = rw (is, has) refl
     by false is false has = rw (is, has) refl
 
-sum_put : (key c : CounterKey) (added : ℕ) (old new : Sums) → Puts key (sum_on old key + added) old new → sum_on new c ≡ sum_on old c + (0 + (if same_counter key c then added else 0))
+sum_put : (key c : CounterKey) (added : ℕ) (old new : Sums) → Puts key (sum_on old key + added) old new
+    → sum_on new c ≡ sum_on old c + (0 + (if same_counter key c then added else 0))
 sum_put key c added old new puts = ap (λ o. unwrap_or o 0) (puts c) ∙ by (same_counter key c) refl
   where
     by : (b : Bool) → same_counter key c ≡ b → unwrap_or (cond b (Some (sum_on old key + added)) (lookup (is_at (key_cmp c)) old)) 0 ≡ sum_on old c + (0 + cond b added 0)

@@ -1,16 +1,16 @@
 -- The ends of the windows of the counters in a map, and what dropping the ended ones leaves.
-use Rattle.std.proofs.Common.{◌≡◌, ℕ, ◌<◌, ◌≤◌, ◌&&◌, min, Bool, true, false, cond, [], ◌∷◌, filter, length, Ordering, Less, Equal, Greater, is_eq, is_some, unwrap_or, nat_lt, Option, Some, None, refl, ap, ◌∙◌, arith}
+use Rattle.std.proofs.Common.{◌≡◌, ℕ, ◌<◌, ◌≤◌, ◌&&◌, min, Bool, true, false, cond, [], ◌∷◌, filter, length, Ordering, Less, Equal, Greater, is_eq, is_some, unwrap_or, nat_lt}
+use Rattle.std.proofs.Common.{Option, Some, None, refl, ap, ◌∙◌, arith}
 use Rattle.std.proofs.lemmas.Bool.Decides.{nat_tests}
 use Rattle.std.specs.List.{AllByRecursion}
 use Rattle.std.specs.Map.{lookup, set_value}
 use Rattle.std.specs.BTreeMap.{is_at, insert_entry}
 use Rattle.std.specs.Ordering.{match_ordering}
-use Rattle.rate_types.specs.Counters.{key_cmp, same_counter}
-use Rattle.rate_types.specs.Units.{seconds_of, unit_rank}
-use Rattle.rate_types.specs.declared.unit.Unit.{Unit}
+use Rattle.rate_types.specs.Counters.{key_cmp}
 use Rattle.rate_types.specs.declared.counter_key.CounterKey.{CounterKey}
 use Rattle.rate_types.specs.contracts.counter_key.CounterKeyOrd.TheImpl.Laws.{matches_eq-law}
 use Rattle.window_keys.specs.Counter.{window_end_of}
+use Rattle.window_keys.proofs.Counters.{same_end}
 use Rattle.rls_core.specs.Sums.{Sums, AreOpen}
 use Rattle.rls_core.specs.Plain.{PlainState, Drops}
 
@@ -26,16 +26,6 @@ first_end_below least (e ∷ sums) = omega (arith, first_end_below (min least (w
 pub first_end_least : (least : ℕ) (sums : Sums) → AllByRecursion (λ e. first_end least sums ≤ window_end_of e.0) sums
 first_end_least least [] = tt
 first_end_least least (e ∷ sums) = (omega (arith, first_end_below (min least (window_end_of e.0)) sums), first_end_least (min least (window_end_of e.0)) sums)
-
-rank_seconds : (u v : Unit) → unit_rank u ≡ unit_rank v → seconds_of u ≡ seconds_of v
-rank_seconds u v h = grind arith
-
--- equal counters have one end
-pub same_end : (c k : CounterKey) → same_counter c k ≡ true → window_end_of c ≡ window_end_of k
-same_end c k same =
-    let rank : unit_rank c.name.unit ≡ unit_rank k.name.unit = grind (arith, nat_tests) in
-    let start : c.start ≡ k.start = grind (arith, nat_tests) in
-    omega (arith, start, rank_seconds c.name.unit k.name.unit rank)
 
 pub end_of_equal : (c k : CounterKey) → is_eq (key_cmp c k) ≡ true → window_end_of c ≡ window_end_of k
 end_of_equal c k is = same_end c k (matches_eq-law c k ∙ is)
@@ -55,7 +45,8 @@ module _ (now : ℕ) where
     where
       by : lookup (is_at (key_cmp c)) (open_of sums) ≡ cond (nat_lt now (window_end_of c)) (lookup (is_at (key_cmp c)) sums) None
           → (at : Bool) → is_eq (key_cmp c e.0) ≡ at → (lasts : Bool) → nat_lt now (window_end_of e.0) ≡ lasts
-          → lookup (is_at (key_cmp c)) (cond lasts (e ∷ open_of sums) (open_of sums)) ≡ cond (nat_lt now (window_end_of c)) (cond at (Some e.1) (lookup (is_at (key_cmp c)) sums)) None
+          → lookup (is_at (key_cmp c)) (cond lasts (e ∷ open_of sums) (open_of sums))
+          ≡ cond (nat_lt now (window_end_of c)) (cond at (Some e.1) (lookup (is_at (key_cmp c)) sums)) None
       by more true at true lasts = rw (ap (λ n. nat_lt now n) (end_of_equal c e.0 at) ∙ lasts, at) refl
       by more true at false lasts = let ends : nat_lt now (window_end_of c) ≡ false = ap (λ n. nat_lt now n) (end_of_equal c e.0 at) ∙ lasts in more ∙ rw ends refl
       by more false at true lasts = rw at more
@@ -90,7 +81,8 @@ by_order P Less a b c p q r = p
 by_order P Equal a b c p q r = q
 by_order P Greater a b c p q r = r
 
-pub all_insert : (P : CounterKey × ℕ → Type 0) (sums : Sums) (k : CounterKey) (v : ℕ) → ((c : CounterKey) (n : ℕ) → P (c, n) → (m : ℕ) → P (c, m)) → P (k, v) → AllByRecursion P sums → AllByRecursion P (insert_entry key_cmp sums k v)
+pub all_insert : (P : CounterKey × ℕ → Type 0) (sums : Sums) (k : CounterKey) (v : ℕ) → ((c : CounterKey) (n : ℕ) → P (c, n) → (m : ℕ) → P (c, m)) → P (k, v)
+    → AllByRecursion P sums → AllByRecursion P (insert_entry key_cmp sums k v)
 all_insert P [] k v keyed is h = (is, h)
 all_insert P (e ∷ sums) k v keyed is h = by_order P (key_cmp k e.0) _ _ _ (is, h) (keyed e.0 e.1 h.0 v, h.1) (h.0, all_insert P sums k v keyed is h.1)
 
@@ -99,7 +91,8 @@ by_test P true one other p q = p
 by_test P false one other p q = q
 
 -- a new sum of a counter that has one leaves every window
-pub all_set : (P : CounterKey × ℕ → Type 0) (test : CounterKey → Bool) (sums : Sums) (v : ℕ) → ((c : CounterKey) (n : ℕ) → P (c, n) → (m : ℕ) → P (c, m)) → AllByRecursion P sums → AllByRecursion P (set_value test sums v)
+pub all_set : (P : CounterKey × ℕ → Type 0) (test : CounterKey → Bool) (sums : Sums) (v : ℕ) → ((c : CounterKey) (n : ℕ) → P (c, n) → (m : ℕ) → P (c, m)) → AllByRecursion P sums
+    → AllByRecursion P (set_value test sums v)
 all_set P test [] v keyed h = tt
 all_set P test (e ∷ sums) v keyed h = by_test P (test e.0) _ _ (keyed e.0 e.1 h.0 v, h.1) (h.0, all_set P test sums v keyed h.1)
 
@@ -110,7 +103,8 @@ lower_all less more (e ∷ sums) h all = (omega (arith, h, all.0), lower_all les
 -- one more counter, whose window ends at `late`
 pub bound_insert : (next late : ℕ) (sums : Sums) (k : CounterKey) (v : ℕ) → late ≡ window_end_of k → AllByRecursion (λ e. next ≤ window_end_of e.0) sums
     → AllByRecursion (λ e. min next late ≤ window_end_of e.0) (insert_entry key_cmp sums k v)
-bound_insert next late sums k v is h = all_insert (λ e. min next late ≤ window_end_of e.0) sums k v (λ c n p m. p) (omega (arith, is)) (lower_all (min next late) next sums (omega arith) h)
+bound_insert next late sums k v is h =
+    all_insert (λ e. min next late ≤ window_end_of e.0) sums k v (λ c n p m. p) (omega (arith, is)) (lower_all (min next late) next sums (omega arith) h)
 
 -- a tick drops what has ended
 pub drops : (moment : ℕ) (old : PlainState) → Drops moment old (record { config = old.config; cells = old.cells; moment = moment; sums = open_of moment old.sums })

@@ -1,13 +1,13 @@
 -- How many counters a map of sums has, and whether one more is among them.
-use Rattle.std.proofs.Common.{◌≡◌, ◌&&◌, ◌||◌, not, Bool, true, false, cond, [], ◌∷◌, length, Ordering, Less, Equal, Greater, is_eq, is_some, Some, refl, sym, ap, ◌∙◌, arith}
-use Rattle.std.specs.Ordering.{ordering_reverse}
+use Rattle.std.proofs.Common.{◌≡◌, ◌&&◌, ◌||◌, not, Bool, true, false, cond, [], ◌∷◌, length, is_eq, is_some, Some, refl, sym, ap, ◌∙◌, arith}
 use Rattle.std.specs.BTreeMap.{is_at}
 use Rattle.std.specs.List.{list_any}
 use Rattle.std.specs.List.Sorted.{IsStrictlySortedBy}
 use Rattle.std.specs.Map.{lookup, keys_of}
 use Rattle.rate_types.specs.Counters.{key_cmp, same_counter}
 use Rattle.rate_types.specs.declared.counter_key.CounterKey.{CounterKey}
-use Rattle.rate_types.specs.contracts.counter_key.CounterKeyOrd.TheImpl.Laws.{total-law, matches_eq-law}
+use Rattle.rate_types.specs.contracts.counter_key.CounterKeyOrd.TheImpl.Laws.{matches_eq-law}
+use Rattle.window_keys.proofs.Counters.{same_is}
 use Rattle.rls_core.specs.Sequential.{IsNumberOf, Wants}
 use Rattle.rls_core.specs.Sums.{Sums, has_sum}
 
@@ -28,23 +28,8 @@ pub number_of : (sums : Sums) → IsStrictlySortedBy key_cmp (keys_of sums) → 
 number_of sums sorted = record { counters = keys_of sums; differ = sorted; all = λ c. has_among c sums; count = keys_length sums }
 
 -- equal counters have a sum alike
-reverse_eq : (o : Ordering) → is_eq (ordering_reverse o) ≡ is_eq o
-reverse_eq Less = refl
-reverse_eq Equal = refl
-reverse_eq Greater = refl
-
-pub same_either : (c k : CounterKey) → same_counter c k ≡ same_counter k c
-same_either c k = matches_eq-law c k ∙ ap is_eq (total-law.antisymm c k) ∙ reverse_eq (key_cmp k c) ∙ sym (matches_eq-law k c)
-
-equal_is : (o : Ordering) → is_eq o ≡ true → o ≡ Equal
-equal_is Less h = cc
-equal_is Equal h = refl
-equal_is Greater h = cc
-
 pub lookup_same : (sums : Sums) (c k : CounterKey) → same_counter c k ≡ true → lookup (is_at (key_cmp k)) sums ≡ lookup (is_at (key_cmp c)) sums
-lookup_same sums c k same =
-    let is : key_cmp c k ≡ Equal = equal_is (key_cmp c k) (sym (matches_eq-law c k) ∙ same) in
-    λ i. lookup (λ q. is_eq (sym (total-law.congr c k q is) i)) sums
+lookup_same sums c k same = ap (λ x. lookup (is_at (key_cmp x)) sums) (sym (same_is c k same))
 
 sorted_none : IsStrictlySortedBy key_cmp []
 unfolding IsStrictlySortedBy

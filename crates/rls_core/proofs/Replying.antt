@@ -1,5 +1,6 @@
 -- The reply to a request of one descriptor.
-use Rattle.std.proofs.Common.{◌≡◌, ℕ, ◌+◌, ◌==◌, ◌&&◌, ◌||◌, Bool, true, false, cond, List, [], ◌∷◌, ◌++◌, Some, None, IsSome, nat_lt, if◌then◌else◌, sum_by, length, slice_index_or, refl, sym, ap, ◌∙◌, arith}
+use Rattle.std.proofs.Common.{◌≡◌, ℕ, ◌+◌, ◌==◌, ◌&&◌, ◌||◌, Bool, true, false, cond, List, [], ◌∷◌, ◌++◌, Some, None, IsSome, nat_lt, if◌then◌else◌, sum_by, length}
+use Rattle.std.proofs.Common.{slice_index_or, refl, sym, ap, ◌∙◌, arith}
 use Rattle.std.proofs.lemmas.Bool.Decides.{nat_tests}
 use Rattle.std.proofs.lemmas.List.{append-nil}
 use Rattle.std.specs.List.{flat_map, list_any}
@@ -21,7 +22,8 @@ use Rattle.rls_core.specs.declared.fault.CheckFault.TheVariants.{CountersFull, C
 use Rattle.rls_core.specs.Reply.{hits_of, found_for, charge_shown, charges_of, counter_under, counters_named, is_over_limit, IsReplyOf}
 use Rattle.rls_core.specs.Sequential.{count_for, charged_under, AreSequential, HasRoom}
 use Rattle.rls_core.specs.Sums.{has_sum, sum_on}
-use Rattle.rls_core.specs.Plain.{PlainState, CountsEach, Charges, HasRoomFor, IsFullFor, IsFull, hits_charged}
+use Rattle.rls_core.specs.Plain.{PlainState, Charges, IsFull}
+use Rattle.rls_core.specs.Counting.{CountsEach, HasRoomFor, IsFullFor, hits_charged}
 
 -- what is counted has a status
 pub has_status : (found : Found) (moment hits value : ℕ) → IsSome (status_of found moment hits (count_for found hits value))
@@ -46,8 +48,10 @@ status_count (Unlimited rule) moment hits NoCount s h = ap (λ (o : Status). o.c
 status_count (Unlimited rule) moment hits (Before b) s h = cc
 status_count (Unlimited rule) moment hits (Seen b) s h = cc
 status_count (Limited limit unit shadow rule) moment hits NoCount s h = cc
-status_count (Limited limit unit shadow rule) moment hits (Before b) s h = sym (ap (λ (o : Status). o.count) (if_some (nat_lt 0 hits) (status_at limit unit shadow rule moment (b + hits) (Before b)) s h))
-status_count (Limited limit unit shadow rule) moment hits (Seen b) s h = sym (ap (λ (o : Status). o.count) (if_some ((hits == 0) || nat_lt limit b) (status_at limit unit shadow rule moment b (Seen b)) s h))
+status_count (Limited limit unit shadow rule) moment hits (Before b) s h =
+    sym (ap (λ (o : Status). o.count) (if_some (nat_lt 0 hits) (status_at limit unit shadow rule moment (b + hits) (Before b)) s h))
+status_count (Limited limit unit shadow rule) moment hits (Seen b) s h =
+    sym (ap (λ (o : Status). o.count) (if_some ((hits == 0) || nat_lt limit b) (status_at limit unit shadow rule moment b (Seen b)) s h))
 
 -- the charges that a status shows, by the counter of its descriptor
 module _ (request : RequestParts) (moment : ℕ) (d : Descriptor) (c : CounterKey) where
@@ -69,9 +73,11 @@ module _ (request : RequestParts) (moment : ℕ) (d : Descriptor) (c : CounterKe
   shown_charges (Unlimited rule) (Before b) s h = cc
   shown_charges (Unlimited rule) (Seen b) s h = cc
   shown_charges (Limited limit unit shadow rule) NoCount s h = cc
-  shown_charges (Limited limit unit shadow rule) (Before b) s h = ap shown (if_some (nat_lt 0 (hits_of request d)) (status_at limit unit shadow rule moment (b + hits_of request d) (Before b)) s h)
+  shown_charges (Limited limit unit shadow rule) (Before b) s h =
+      ap shown (if_some (nat_lt 0 (hits_of request d)) (status_at limit unit shadow rule moment (b + hits_of request d) (Before b)) s h)
   shown_charges (Limited limit unit shadow rule) (Seen b) s h =
-      none (same_counter (counter_of request.domain d unit moment) c) ∙ ap shown (if_some ((hits_of request d == 0) || nat_lt limit b) (status_at limit unit shadow rule moment b (Seen b)) s h)
+      none (same_counter (counter_of request.domain d unit moment) c)
+      ∙ ap shown (if_some ((hits_of request d == 0) || nat_lt limit b) (status_at limit unit shadow rule moment b (Seen b)) s h)
 
 pub one_item : {X : Type 0} (xs : List X) (x d : X) → length xs ≡ 1 → x ≡ slice_index_or xs 0 d → xs ≡ x ∷ []
 one_item [] x d h is = absurd (omega (arith, h))
@@ -93,7 +99,8 @@ module _ (config : List FlatConfig) (request : RequestParts) (d : Descriptor) (o
       by true = refl
       by false = refl
 
-  pub sequential_one : (moment : ℕ) (charged : CounterKey → ℕ) (s : Status) (statuses : List Status) → s.count ≡ count_for found (hits_of request d) (charged_under charged request moment d found)
+  pub sequential_one : (moment : ℕ) (charged : CounterKey → ℕ) (s : Status) (statuses : List Status)
+      → s.count ≡ count_for found (hits_of request d) (charged_under charged request moment d found)
       → statuses ≡ s ∷ [] → AreSequential config request moment charged request.descriptors statuses
   sequential_one moment charged s statuses is list = rw (one, list) (is, tt)
 
@@ -103,14 +110,17 @@ module _ (config : List FlatConfig) (request : RequestParts) (d : Descriptor) (o
     config = counts.config;
     cells = counts.cells;
     moment = counts.moment;
-    bound = λ c. counts.bound c ∙ ap (λ ks. has_sum old.sums c || list_any (λ k. same_counter c k) ks) (sym (ap (λ q. counters_named q request old.moment) same ∙ named old.moment));
+    bound = λ c. counts.bound c
+        ∙ ap (λ ks. has_sum old.sums c || list_any (λ k. same_counter c k) ks) (sym (ap (λ q. counters_named q request old.moment) same ∙ named old.moment));
     charged = λ c. counts.charged c ∙ ap (λ m. sum_on old.sums c + m) (shown_charges request old.moment d c found n s is ∙ sym (shown_all c));
   }
     where
-      shown_all : (c : CounterKey) → charged_total same_counter c (charges_of request old.moment request.descriptors statuses) ≡ charged_total same_counter c (charge_shown request old.moment d s.limit s.count ++ [])
+      shown_all : (c : CounterKey) → charged_total same_counter c (charges_of request old.moment request.descriptors statuses)
+          ≡ charged_total same_counter c (charge_shown request old.moment d s.limit s.count ++ [])
       shown_all c = rw (one, list) refl
 
-  pub room_one : (state : PlainState) → state.config ≡ config → HasRoomFor (counter_under request state.moment d found) state → HasRoom state.config state.cells request state.moment (has_sum state.sums)
+  pub room_one : (state : PlainState) → state.config ≡ config → HasRoomFor (counter_under request state.moment d found) state
+      → HasRoom state.config state.cells request state.moment (has_sum state.sums)
   room_one state same room = record {
     live = room.live;
     wanted = room.wanted;

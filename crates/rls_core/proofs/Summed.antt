@@ -24,7 +24,8 @@ totals_below : (k : CounterKey) (sums : Sums) → Below k (keys_of sums) → Bel
 totals_below k [] h = h
 totals_below k (e ∷ sums) h = by (nat_lt 0 e.1) (totals_below k sums h.1)
   where
-    by : (b : Bool) → Below k (keys_of_totals (charged_totals sums)) → Below k (keys_of_totals (cond b (record { key = e.0; charged = e.1 } ∷ charged_totals sums) (charged_totals sums)))
+    by : (b : Bool) → Below k (keys_of_totals (charged_totals sums))
+        → Below k (keys_of_totals (cond b (record { key = e.0; charged = e.1 } ∷ charged_totals sums) (charged_totals sums)))
     by true more = (h.0, more)
     by false more = more
 
@@ -67,7 +68,8 @@ module _ (moment : ℕ) (all : Sums) where
       by true is more = ((found.0, grind (arith, nat_tests), last.0), more)
       by false is more = more
 
-any_more : (c : CounterKey) (b : Bool) (t : Total) (ts : List Total) → list_any (λ t. same_counter c t.key) ts ≡ true → list_any (λ t. same_counter c t.key) (cond b (t ∷ ts) ts) ≡ true
+any_more : (c : CounterKey) (b : Bool) (t : Total) (ts : List Total) → list_any (λ t. same_counter c t.key) ts ≡ true
+    → list_any (λ t. same_counter c t.key) (cond b (t ∷ ts) ts) ≡ true
 any_more c true t ts h = grind (arith, nat_tests)
 any_more c false t ts h = h
 

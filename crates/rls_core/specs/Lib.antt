@@ -4,3 +4,4 @@ pub mod Sequential
 pub mod Totals
 pub mod Sums
 pub mod Plain
+pub mod Counting

@@ -1,5 +1,5 @@
 -- The reply to a request: the status of each descriptor, by one configuration at one moment.
-use Rattle.std.specs.Prelude.{◌≡◌, ℕ, ◌&&◌, not, List, [], ◌∷◌, ◌++◌, Bool, true, false, Option, Some, None, unwrap_or}
+use Rattle.std.specs.Prelude.{◌≡◌, ℕ, ◌&&◌, not, List, [], ◌∷◌, ◌++◌, Bool, true, false, Option, Some, unwrap_or}
 use Rattle.std.specs.List.{list_any, flat_map}
 use Rattle.rate_types.specs.Ledger.{Charge}
 use Rattle.rate_types.specs.Requests.{RequestParts}
@@ -10,12 +10,12 @@ use Rattle.window_keys.specs.Counter.{counter_of}
 use Rattle.rule_lookup.specs.Rule.{rule_of}
 use Rattle.rule_lookup.specs.declared.flat.FlatConfig.{FlatConfig}
 use Rattle.rule_lookup.specs.declared.found.Found.{Found}
-use Rattle.rule_lookup.specs.declared.found.Found.TheVariants.{NoRule, Unlimited, Limited}
+use Rattle.rule_lookup.specs.declared.found.Found.TheVariants.{Limited}
 use Rattle.rls_core.specs.declared.status.Code.{Code}
 use Rattle.rls_core.specs.declared.status.Code.TheVariants.{OverLimit}
 use Rattle.rls_core.specs.declared.status.Code.TheVariants as code
 use Rattle.rls_core.specs.declared.status.Count.{Count}
-use Rattle.rls_core.specs.declared.status.Count.TheVariants.{NoCount, Before, Seen}
+use Rattle.rls_core.specs.declared.status.Count.TheVariants.{Before}
 use Rattle.rls_core.specs.declared.status.Status.{Status}
 use Rattle.rls_core.specs.Status.{status_of}
 
@@ -36,11 +36,11 @@ abbrev pub AreStatuses : List FlatConfig → RequestParts → ℕ → List Descr
 AreStatuses config request moment [] [] = Unit {0}
 AreStatuses config request moment (d ∷ ds) (s ∷ ss) =
     (status_of (found_for config request d) moment (hits_of request d) s.count ≡ Some s) × AreStatuses config request moment ds ss
-AreStatuses config request moment [] (s ∷ ss) = ⊥
-AreStatuses config request moment (d ∷ ds) [] = ⊥
+AreStatuses config request moment ds ss = ⊥
 
 -- The reply: these statuses, and over where one of them is and global shadow is off.
-pub record IsReplyOf (config : List FlatConfig) (request : RequestParts) (moment : ℕ) (global_shadow over : Bool) (statuses : List Status) : Type 0 where
+pub record IsReplyOf (config : List FlatConfig) (request : RequestParts) (moment : ℕ) (global_shadow over : Bool)
+    (statuses : List Status) : Type 0 where
   pub each : AreStatuses config request moment request.descriptors statuses
   pub overall : over ≡ (list_any (λ s. is_over_limit s.code) statuses && not global_shadow)
 
@@ -48,21 +48,17 @@ pub record IsReplyOf (config : List FlatConfig) (request : RequestParts) (moment
 abbrev pub charge_shown : RequestParts → ℕ → Descriptor → Option OwnLimit → Count → List (Charge CounterKey)
 charge_shown request moment d (Some own) (Before before) =
     record { counter = counter_of request.domain d own.unit moment; before = before; hits = hits_of request d } ∷ []
-charge_shown request moment d (Some own) (Seen seen) = []
-charge_shown request moment d (Some own) NoCount = []
-charge_shown request moment d None count = []
+charge_shown request moment d limit other = []
 
 -- the charges of a reply, in the order of its descriptors
 abbrev pub charges_of : RequestParts → ℕ → List Descriptor → List Status → List (Charge CounterKey)
-charges_of request moment [] ss = []
-charges_of request moment (d ∷ ds) [] = []
 charges_of request moment (d ∷ ds) (s ∷ ss) = charge_shown request moment d s.limit s.count ++ charges_of request moment ds ss
+charges_of request moment ds ss = []
 
 -- the counter of a descriptor, where it has a limit
 abbrev pub counter_under : RequestParts → ℕ → Descriptor → Found → List CounterKey
 counter_under request moment d (Limited limit unit shadow rule) = counter_of request.domain d unit moment ∷ []
-counter_under request moment d NoRule = []
-counter_under request moment d (Unlimited rule) = []
+counter_under request moment d other = []
 
 -- the counters that a request names at a moment
 abbrev pub counters_named : List FlatConfig → RequestParts → ℕ → List CounterKey

@@ -40,8 +40,4 @@ status_of (Limited limit unit shadow rule) moment hits (Before before) =
     if nat_lt 0 hits then Some (status_at limit unit shadow rule moment (before + hits) (Before before)) else None
 status_of (Limited limit unit shadow rule) moment hits (Seen seen) =
     if (hits == 0) || nat_lt limit seen then Some (status_at limit unit shadow rule moment seen (Seen seen)) else None
-status_of NoRule moment hits (Before before) = None
-status_of NoRule moment hits (Seen seen) = None
-status_of (Unlimited rule) moment hits (Before before) = None
-status_of (Unlimited rule) moment hits (Seen seen) = None
-status_of (Limited limit unit shadow rule) moment hits NoCount = None
+status_of found moment hits other = None

@@ -1,4 +1,5 @@
-ghost use Rattle.std.specs.Prelude.{◌≡◌, ◌≤◌, ◌+◌, ℕ, true, false, [], nat_lt, filter, length, if◌then◌else◌, Some, IfOk, IfSome, IfNone, OnOk, OnErr};
+ghost use Rattle.std.specs.Prelude.{◌≡◌, ◌≤◌, ◌+◌, ℕ, true, false, [], nat_lt, filter, length, if◌then◌else◌, Some, IfOk, IfSome, IfNone};
+ghost use Rattle.std.specs.Prelude.{OnOk, OnErr};
 ghost use Rattle.std.specs.BTreeMap.{is_at, insert_entry};
 ghost use Rattle.std.specs.List.{AllByRecursion};
 ghost use Rattle.std.specs.List.Sorted.{IsStrictlySortedBy};
@@ -6,11 +7,11 @@ ghost use Rattle.std.specs.Map.{lookup, keys_of};
 ghost use Rattle.rate_types.specs.Counters.{key_cmp, same_counter};
 ghost use Rattle.rate_types.specs.declared.counter_key.CounterKey.{CounterKey};
 ghost use Rattle.window_keys.specs.Counter.{window_end_of};
-ghost use Rattle.rls_core.specs.Plain.{hits_charged};
+ghost use Rattle.rls_core.specs.Counting.{hits_charged};
 ghost use Rattle.rls_core.specs.Sequential.{count_under};
 ghost use Rattle.rls_core.specs.Sums.{AreOpen, charged_totals, has_sum, sum_on};
 
-use crate::counted::counted;
+use crate::count_hits::count_hits;
 use crate::{Count, Total, Totals};
 use rate_types::{CounterKey, OutOfMemory};
 use std::alloc::Global;
@@ -104,14 +105,15 @@ impl CounterSums {
         ensures present { IfSome result (λ _. has_sum self.old counter.now ≡ true) }
         ensures count { IfSome result (λ n. n ≡ count_under limit hits (sum_on self.old counter.now)) }
         ensures found { IfSome result (λ n. (c : CounterKey) → lookup (is_at (key_cmp c)) self.new
-            ≡ (if same_counter counter.now c then Some (sum_on self.old counter.now + hits_charged n hits) else lookup (is_at (key_cmp c)) self.old)) }
+            ≡ (if same_counter counter.now c then Some (sum_on self.old counter.now + hits_charged n hits) else lookup (is_at (key_cmp c))
+            self.old)) }
         ensures open { (moment : ℕ) → AreOpen moment self.old → AreOpen moment self.new }
         ensures len { length self.new ≡ length self.old }
     {
         let Some(sum) = self.sums.get_mut(counter) else {
             return None;
         };
-        let (count, charged) = counted(limit, hits, *sum);
+        let (count, charged) = count_hits(limit, hits, *sum);
         *sum = charged;
         Some(count)
     }

@@ -4,7 +4,7 @@
 //! `Plain` is the limiter of one worker: it counts in one map, each descriptor finding what was charged before it.
 #![tactic(auto)]
 
-mod counted;
+mod count_hits;
 mod counter_sums;
 mod fault;
 mod plain;

@@ -4,10 +4,11 @@ ghost use Rattle.rls_core.specs.Sequential.{count_under, count_for, charged_unde
 ghost use Rattle.rls_core.specs.Reply.{IsReplyOf, counter_under};
 ghost use Rattle.rls_core.specs.Totals.{AreTotals};
 ghost use Rattle.rls_core.specs.Sums.{sum_on, has_sum};
-ghost use Rattle.rls_core.specs.Plain.{Drops, CountsEach, Charges, HasRoomFor, IsFullFor, IsFull, hits_charged};
+ghost use Rattle.rls_core.specs.Plain.{Drops, Charges, IsFull};
+ghost use Rattle.rls_core.specs.Counting.{CountsEach, HasRoomFor, IsFullFor, hits_charged};
 ghost use Rattle.rls_core.specs.declared.status.Count.TheVariants.{NoCount};
 
-use crate::counted::counted;
+use crate::count_hits::count_hits;
 use crate::counter_sums::CounterSums;
 use crate::reply::reply_of;
 use crate::{CheckFault, Count, Reply, Totals, status_for};
@@ -98,7 +99,9 @@ impl Plain {
         requires { length request.now.descriptors ≡ 1 }
         ensures version { IfOk result (λ r. (r.version ≡ 0) × (r.moment ≡ self.old.moment)) }
         ensures reply { IfOk result (λ r. IsReplyOf self.old.config request.now self.old.moment false r.over r.statuses.items) }
-        ensures counts { IfOk result (λ r. AreSequential self.old.config request.now self.old.moment (sum_on self.old.sums) request.now.descriptors r.statuses.items) }
+        ensures counts { IfOk result
+            (λ r. AreSequential self.old.config request.now self.old.moment (sum_on self.old.sums) request.now.descriptors
+            r.statuses.items) }
         ensures charges { IfOk result (λ r. Charges request.now r.statuses.items self.old self.new) }
         ensures room { OnOk result (HasRoom self.old.config self.old.cells request.now self.old.moment (has_sum self.old.sums)) }
         ensures fault { IfErr result (IsFull request.now self.old) }
@@ -125,7 +128,8 @@ impl Plain {
     ) -> Result<Count, CheckFault>
         ensures answer { IfOk result (λ n. n ≡ count_for found hits
             (charged_under (sum_on self.old.sums) request.now self.old.moment descriptor.now found)) }
-        ensures counts { IfOk result (λ n. CountsEach (counter_under request.now self.old.moment descriptor.now found) (hits_charged n hits) self.old self.new) }
+        ensures counts { IfOk result
+            (λ n. CountsEach (counter_under request.now self.old.moment descriptor.now found) (hits_charged n hits) self.old self.new) }
         ensures room { OnOk result (HasRoomFor (counter_under request.now self.old.moment descriptor.now found) self.old) }
         ensures fault { IfErr result (IsFullFor (counter_under request.now self.old.moment descriptor.now found) self.old) }
         ensures refused { OnErr result (self.new ≡ self.old) }
@@ -208,7 +212,7 @@ impl Plain {
         if let Err(fault) = self.make_room(&counter) {
             return Err(fault);
         }
-        let (count, sum) = counted(limit, hits, 0);
+        let (count, sum) = count_hits(limit, hits, 0);
         self.sums.put(counter, sum)?;
         Ok(count)
     }

@@ -4,6 +4,7 @@ ghost use Rattle.rls_core.specs.Reply.{is_over_limit};
 use crate::{Code, Status};
 use arrayvec::ArrayVec;
 use rate_types::Seconds;
+use rate_types::limits::MOST_DESCRIPTORS;
 
 /// The answer to a request (Envoy's `RateLimitResponse`).
 #[derive(Drop)]
@@ -14,7 +15,7 @@ pub struct Reply {
     /// The overall code is OVER_LIMIT.
     pub over: bool,
     /// One status per descriptor, in order.
-    pub statuses: ArrayVec<Status, 32>,
+    pub statuses: ArrayVec<Status, MOST_DESCRIPTORS>,
 }
 
 // The reply of one status, by version 0.

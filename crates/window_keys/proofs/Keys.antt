@@ -4,10 +4,10 @@ use Rattle.std.proofs.Math.Nat.{pow-suc, div-div-eq-div-mul, div-one}
 use Rattle.std.specs.Int.{w16, w64, byte_at, bytes_high_first, to_be_bytes}
 use Rattle.std.specs.List.{flat_map}
 use Rattle.rate_types.specs.declared.unit.Unit.{Unit}
-use Rattle.rate_types.specs.declared.unit.Unit.TheVariants.{Second, Minute, Hour, Day}
 use Rattle.rate_types.specs.declared.entries.Entry.{Entry}
 use Rattle.rate_types.specs.Units.{unit_rank}
 use Rattle.window_keys.specs.Key.{eight_bytes, sized, entry_bytes, key_bytes}
+use Rattle.window_keys.proofs.Counters.{same_unit}
 
 -- lists of one length, each before more
 same_front : (xs ys more rest : List ℕ) → length xs ≡ length ys → xs ++ more ≡ ys ++ rest → (xs ≡ ys) × (more ≡ rest)
@@ -30,21 +30,6 @@ same_sized a b more rest same =
     let low : length a % 256 ≡ length b % 256 = cc in
     let tails : a ++ more ≡ b ++ rest = cc in
     same_front a b more rest (omega (arith, high, low)) tails
-
-same_unit : (u v : Unit) → unit_rank u ≡ unit_rank v → u ≡ v
-same_unit u v same = sym (back u) ∙ ap of_rank same ∙ back v
-  where
-    of_rank : ℕ → Unit
-    of_rank zero = Second
-    of_rank (suc zero) = Minute
-    of_rank (suc (suc zero)) = Hour
-    of_rank (suc (suc (suc n))) = Day
-
-    back : (w : Unit) → of_rank (unit_rank w) ≡ w
-    back Second = refl
-    back Minute = refl
-    back Hour = refl
-    back Day = refl
 
 -- a number in eight bytes
 same_number : (s t : ℕ) (more rest : List ℕ) → eight_bytes s ++ more ≡ eight_bytes t ++ rest → (s ≡ t) × (more ≡ rest)
@@ -86,7 +71,8 @@ same_entries (e ∷ es) (g ∷ gs) long same =
 pub same_key : (d e : List ℕ) (es gs : List Entry) (u v : Unit) (s t : ℕ) → key_bytes d es u s ≡ key_bytes e gs v t → (d ≡ e) × (es ≡ gs) × (u ≡ v) × (s ≡ t)
 unfolding key_bytes
 same_key d e es gs u v s t same =
-    let domains = same_sized d e (unit_rank u ∷ (eight_bytes s ++ (length es ∷ flat_map entry_bytes es))) (unit_rank v ∷ (eight_bytes t ++ (length gs ∷ flat_map entry_bytes gs))) same in
+    let domains = same_sized d e (unit_rank u ∷ (eight_bytes s ++ (length es ∷ flat_map entry_bytes es))) (unit_rank v ∷ (eight_bytes t ++ (length gs ∷ flat_map entry_bytes gs)))
+    same in
     let rest : unit_rank u ∷ (eight_bytes s ++ (length es ∷ flat_map entry_bytes es)) ≡ unit_rank v ∷ (eight_bytes t ++ (length gs ∷ flat_map entry_bytes gs)) = domains.1 in
     let ranks : unit_rank u ≡ unit_rank v = cc in
     let behind : eight_bytes s ++ (length es ∷ flat_map entry_bytes es) ≡ eight_bytes t ++ (length gs ∷ flat_map entry_bytes gs) = cc in

@@ -17,7 +17,8 @@ pub type KeyBuffer = ArrayVec<u8, 66_700>;
 /// Numbers are big-endian. Different counters have different keys. It takes no memory.
 pub fn write_key(domain: &Text, entries: &Entries, unit: Unit, start: u64, out: &mut KeyBuffer)
     ensures bytes { out.new.items ≡ key_bytes domain.now entries.now unit start }
-    ensures of_no_other { (d : List ℕ) (es : List EntryValue) (u : UnitValue) (s : ℕ) → key_bytes d es u s ≡ out.new.items → (d ≡ domain.now) × (es ≡ entries.now) × (u ≡ unit) × (s ≡ start) }
+    ensures of_no_other { (d : List ℕ) (es : List EntryValue) (u : UnitValue) (s : ℕ) → key_bytes d es u s ≡ out.new.items
+        → (d ≡ domain.now) × (es ≡ entries.now) × (u ≡ unit) × (s ≡ start) }
 {
     let items = entries.items();
     out.clear();

@@ -14,5 +14,7 @@ invariant_of-self-2 c =
 
 pub returns-clause-found : goal.returns-clause-found
 returns-clause-found c = λ q.
-    let P : Sums → Type 0 = λ sums. lookup (is_at (key_cmp q)) c.insert.new.self.entries ≡ cond (same_counter c.args.counter q) (Some c.args.sum) (lookup (is_at (key_cmp q)) sums) in
-    subst P c.self.view_is (c.in_ok-insert.ensures.updates.0 q ∙ ap (λ b. cond b (Some c.args.sum) (lookup (is_at (key_cmp q)) c.self.inside.sums.entries)) (sym (matches_eq-law c.args.counter q)))
+    let P : Sums → Type 0 = λ sums. lookup (is_at (key_cmp q)) c.insert.new.self.entries
+    ≡ cond (same_counter c.args.counter q) (Some c.args.sum) (lookup (is_at (key_cmp q)) sums) in
+    subst P c.self.view_is (c.in_ok-insert.ensures.updates.0 q
+    ∙ ap (λ b. cond b (Some c.args.sum) (lookup (is_at (key_cmp q)) c.self.inside.sums.entries)) (sym (matches_eq-law c.args.counter q)))

@@ -16,7 +16,14 @@ returns-then-live-self-clause-fault c =
 pub returns-clause-room : goal.returns-clause-room
 returns-clause-room c =
     let cells : c.self.inside.cells ≡ c.args.self.now.cells = ap (λ s. s.cells) c.self.view_is in
-    record { live = c.live-live.result; wanted = 1; lives = c.live-live.ensures.number; wants = wants_one c.args.self.now.sums c.args.counter.now c.requires; fits = omega (arith, cells, c.if-live-self.false) }
+    record {
+      live = c.live-live.result;
+      wanted = 1;
+      lives = c.live-live.ensures.number;
+      wants = wants_one c.args.self.now.sums c.args.counter.now c.requires;
+      fits =
+          omega (arith, cells, c.if-live-self.false);
+    }
 
 pub returns-clause-space : goal.returns-clause-space
 returns-clause-space c =

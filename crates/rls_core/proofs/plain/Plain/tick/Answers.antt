@@ -13,8 +13,27 @@ returns-clause-drops c =
     let is : c.drop_ended.new.self ≡ open_of c.later_of-moment.result c.self.inside.sums = c.drop_ended.ensures ∙ ap (λ m. open_of m c.self.inside.sums) c.get.ensures.value in
     let moment : c.later_of-moment.result ≡ max c.args.now c.args.self.now.moment = c.later_of-moment.ensures ∙ ap (λ s. max c.args.now s.moment) c.self.view_is in
     let inside : PlainState = record { config = c.self.inside.index; cells = c.self.inside.cells; moment = c.self.inside.moment; sums = c.self.inside.sums } in
-    let done : Drops c.later_of-moment.result inside (record { config = c.self.inside.index; cells = c.self.inside.cells; moment = c.later_of-moment.result; sums = open_of c.later_of-moment.result c.self.inside.sums })
+    let done : Drops c.later_of-moment.result inside (record {
+      config = c.self.inside.index;
+      cells = c.self.inside.cells;
+      moment = c.later_of-moment.result;
+      sums =
+          open_of c.later_of-moment.result c.self.inside.sums;
+    })
     = drops c.later_of-moment.result inside in
-    let at : Drops c.later_of-moment.result c.args.self.now (record { config = c.self.inside.index; cells = c.self.inside.cells; moment = c.later_of-moment.result; sums = open_of c.later_of-moment.result c.self.inside.sums })
-    = let P : PlainState → Type 0 = λ s. Drops c.later_of-moment.result s (record { config = c.self.inside.index; cells = c.self.inside.cells; moment = c.later_of-moment.result; sums = open_of c.later_of-moment.result c.self.inside.sums }) in subst P c.self.view_is done in
+    let at : Drops c.later_of-moment.result c.args.self.now (record {
+      config = c.self.inside.index;
+      cells = c.self.inside.cells;
+      moment = c.later_of-moment.result;
+      sums =
+          open_of c.later_of-moment.result c.self.inside.sums;
+    })
+    = let P : PlainState → Type 0 =
+    λ s. Drops c.later_of-moment.result s (record {
+      config = c.self.inside.index;
+      cells = c.self.inside.cells;
+      moment = c.later_of-moment.result;
+      sums =
+          open_of c.later_of-moment.result c.self.inside.sums;
+    }) in subst P c.self.view_is done in
     rw (is, ← moment) at
