@@ -1,11 +1,12 @@
 -- The counters that have cells, and what was charged on them, after one more line.
-use Rattle.std.proofs.Common.{◌≡◌, ℕ, ◌+◌, ◌<◌, ◌≤◌, ◌&&◌, ◌||◌, not, max, Bool, true, false, cond, List, [], ◌∷◌, ◌++◌, length, map, Option, Some, None, nat_lt, sum_by, if◌then◌else◌, refl, sym, ap, ◌∙◌, arith, append_assoc, append-nil}
+use Rattle.std.proofs.Common.{◌≡◌, ℕ, ◌+◌, ◌<◌, ◌≤◌, ◌&&◌, ◌||◌, not, Bool, true, false, cond, List, [], ◌∷◌, ◌++◌, length, Option, Some, None, nat_lt, refl, sym, ap, ◌∙◌, arith}
+use Rattle.std.proofs.Common.{append_assoc, append-nil}
 use Rattle.std.proofs.lemmas.Bool.Decides.{nat_tests}
-use Rattle.std.proofs.lemmas.List.Sums.{sum_by-append, sum_by-cons}
+use Rattle.std.proofs.lemmas.List.Sums.{sum_by-append}
 use Rattle.std.proofs.lemmas.List.Folds.{list_any-append}
 use Rattle.std.specs.List.{list_any, flat_map}
 use Rattle.rate_types.specs.Counters.{same_counter}
-use Rattle.rate_types.specs.Ledger.{Charge, charged_total}
+use Rattle.rate_types.specs.Ledger.{Charge}
 use Rattle.rate_types.specs.Requests.{RequestParts}
 use Rattle.rate_types.specs.declared.counter_key.CounterKey.{CounterKey}
 use Rattle.rate_types.specs.declared.request.Descriptor.{Descriptor}
@@ -18,34 +19,39 @@ use Rattle.rls_core.specs.declared.status.Count.{Count}
 use Rattle.rls_core.specs.declared.status.Count.TheVariants.{NoCount, Before, Seen}
 use Rattle.rls_core.specs.declared.status.Status.{Status}
 use Rattle.rls_core.specs.Reply.{charge_shown, charges_of, counter_under, counters_named, found_for}
-use Rattle.rls_core.specs.Sequential.{IsNumberOf, Wants, Needs, HasRoom, LacksRoom, charged_under}
+use Rattle.rls_core.specs.Sequential.{IsNumberOf, Needs, HasRoom, LacksRoom, charged_under}
 use Rattle.rls_core.specs.Sums.{Sums, has_sum, sum_on}
 use Rattle.rls_core.specs.Plain.{PlainState, Drops, Charges}
 use Rattle.reply_text.specs.declared.record.Record.{Record}
 use Rattle.drive_run.specs.declared.line.Line.{Line}
 use Rattle.drive_run.specs.Totals.{ledger_of, charged_in, charges_shown}
 use Rattle.drive_run.specs.Refusals.{all_bound, counters_bound, is_bound}
-use Rattle.drive_run.proofs.Counters.{same_end, ends_later}
+use Rattle.window_keys.proofs.Counters.{same_end, ends_later}
 
 -- a further line
-pub ledger_push : (ls : List Line) (rs : List Record) (l : Line) (r : Record) → length rs ≡ length ls → ledger_of (ls ++ l ∷ []) (rs ++ r ∷ []) ≡ ledger_of ls rs ++ charges_shown l r.moment r.outcome
+pub ledger_push : (ls : List Line) (rs : List Record) (l : Line) (r : Record) → length rs ≡ length ls
+    → ledger_of (ls ++ l ∷ []) (rs ++ r ∷ []) ≡ ledger_of ls rs ++ charges_shown l r.moment r.outcome
 ledger_push [] [] l r h = append-nil (charges_shown l r.moment r.outcome)
 ledger_push [] (s ∷ rs) l r h = absurd (omega (arith, h))
 ledger_push (m ∷ ls) [] l r h = absurd (omega (arith, h))
-ledger_push (m ∷ ls) (s ∷ rs) l r h = ap (λ k. charges_shown m s.moment s.outcome ++ k) (ledger_push ls rs l r (omega (arith, h))) ∙ sym (append_assoc (charges_shown m s.moment s.outcome) (ledger_of ls rs) (charges_shown l r.moment r.outcome))
+ledger_push (m ∷ ls) (s ∷ rs) l r h = ap (λ k. charges_shown m s.moment s.outcome ++ k) (ledger_push ls rs l r (omega (arith, h)))
+    ∙ sym (append_assoc (charges_shown m s.moment s.outcome) (ledger_of ls rs) (charges_shown l r.moment r.outcome))
 
 pub bound_push : (config : List FlatConfig) (ls : List Line) (rs : List Record) (l : Line) (r : Record) → length rs ≡ length ls
     → all_bound config (ls ++ l ∷ []) (rs ++ r ∷ []) ≡ all_bound config ls rs ++ counters_bound config l r.moment r.outcome
 bound_push config [] [] l r h = append-nil (counters_bound config l r.moment r.outcome)
 bound_push config [] (s ∷ rs) l r h = absurd (omega (arith, h))
 bound_push config (m ∷ ls) [] l r h = absurd (omega (arith, h))
-bound_push config (m ∷ ls) (s ∷ rs) l r h = ap (λ k. counters_bound config m s.moment s.outcome ++ k) (bound_push config ls rs l r (omega (arith, h))) ∙ sym (append_assoc (counters_bound config m s.moment s.outcome) (all_bound config ls rs) (counters_bound config l r.moment r.outcome))
+bound_push config (m ∷ ls) (s ∷ rs) l r h = ap (λ k. counters_bound config m s.moment s.outcome ++ k) (bound_push config ls rs l r (omega (arith, h)))
+    ∙ sym (append_assoc (counters_bound config m s.moment s.outcome) (all_bound config ls rs) (counters_bound config l r.moment r.outcome))
 
 -- the counters of a request are open at its moment
 any_open : (moment : ℕ) (c k : CounterKey) → same_counter c k ≡ true → moment < window_end_of k → nat_lt moment (window_end_of c) ≡ true
-any_open moment c k same later = let ends : window_end_of c ≡ window_end_of k = same_end c k same in let here : moment < window_end_of c = omega (arith, ends, later) in grind (arith, nat_tests)
+any_open moment c k same later = let ends : window_end_of c ≡ window_end_of k = same_end c k same in let here : moment < window_end_of c = omega (arith, ends, later) in
+    grind (arith, nat_tests)
 
-under_open : (request : RequestParts) (moment : ℕ) (d : Descriptor) (found : Found) (c : CounterKey) → list_any (λ k. same_counter c k) (counter_under request moment d found) ≡ true → nat_lt moment (window_end_of c) ≡ true
+under_open : (request : RequestParts) (moment : ℕ) (d : Descriptor) (found : Found) (c : CounterKey)
+    → list_any (λ k. same_counter c k) (counter_under request moment d found) ≡ true → nat_lt moment (window_end_of c) ≡ true
 under_open request moment d NoRule c h = cc
 under_open request moment d (Unlimited rule) c h = cc
 under_open request moment d (Limited limit unit shadow rule) c h =
@@ -61,11 +67,13 @@ pub named_open : (config : List FlatConfig) (request : RequestParts) (moment : �
 named_open config request moment [] c h = cc
 named_open config request moment (d ∷ ds) c h =
     by (list_any (λ k. same_counter c k) (counter_under request moment d (found_for config request d))) refl (named_open config request moment ds c)
-    (sym (list_any-append (λ k. same_counter c k) (counter_under request moment d (found_for config request d)) (flat_map (λ e. counter_under request moment e (found_for config request e)) ds)) ∙ h)
+    (sym (list_any-append (λ k. same_counter c k) (counter_under request moment d (found_for config request d))
+    (flat_map (λ e. counter_under request moment e (found_for config request e)) ds)) ∙ h)
   where
     by : (here : Bool) → list_any (λ k. same_counter c k) (counter_under request moment d (found_for config request d)) ≡ here
         → (list_any (λ k. same_counter c k) (flat_map (λ e. counter_under request moment e (found_for config request e)) ds) ≡ true → nat_lt moment (window_end_of c) ≡ true)
-        → (list_any (λ k. same_counter c k) (counter_under request moment d (found_for config request d)) || list_any (λ k. same_counter c k) (flat_map (λ e. counter_under request moment e (found_for config request e)) ds)) ≡ true
+        → (list_any (λ k. same_counter c k) (counter_under request moment d (found_for config request d))
+        || list_any (λ k. same_counter c k) (flat_map (λ e. counter_under request moment e (found_for config request e)) ds)) ≡ true
         → nat_lt moment (window_end_of c) ≡ true
     by true is more either = under_open request moment d (found_for config request d) c is
     by false is more either = more (or_true _ _ either is)
@@ -89,7 +97,8 @@ pub charges_closed : (request : RequestParts) (moment : ℕ) (ds : List Descript
 charges_closed request moment [] ss c h = refl
 charges_closed request moment (d ∷ ds) [] c h = refl
 charges_closed request moment (d ∷ ds) (s ∷ ss) c h =
-    let both = sum_by-append (λ (x : Charge CounterKey). cond (same_counter x.counter c) x.hits 0) (charge_shown request moment d s.limit s.count) (charges_of request moment ds ss) in
+    let both = sum_by-append (λ (x : Charge CounterKey). cond (same_counter x.counter c) x.hits 0) (charge_shown request moment d s.limit s.count)
+    (charges_of request moment ds ss) in
     omega (arith, both, shown_closed request moment d s.limit s.count c h, charges_closed request moment ds ss c h)
 
 -- the sums of a limiter are those of these lines and records
@@ -99,7 +108,8 @@ pub record AgreesWith (config : List FlatConfig) (ls : List Line) (rs : List Rec
 
 -- a counter of a request has what the ledger has on it
 pub charged_here : (config : List FlatConfig) (ls : List Line) (rs : List Record) (moment : ℕ) (sums : Sums) → AgreesWith config ls rs moment sums
-    → (request : RequestParts) (d : Descriptor) (found : Found) → charged_under (sum_on sums) request moment d found ≡ charged_under (charged_in (ledger_of ls rs)) request moment d found
+    → (request : RequestParts) (d : Descriptor) (found : Found) → charged_under (sum_on sums) request moment d found
+    ≡ charged_under (charged_in (ledger_of ls rs)) request moment d found
 charged_here config ls rs moment sums agrees request d NoRule = refl
 charged_here config ls rs moment sums agrees request d (Unlimited rule) = refl
 charged_here config ls rs moment sums agrees request d (Limited limit unit shadow rule) =
@@ -111,24 +121,32 @@ charged_here config ls rs moment sums agrees request d (Limited limit unit shado
 number_by : (f g : CounterKey → Bool) (n : ℕ) → ((c : CounterKey) → f c ≡ g c) → IsNumberOf f n → IsNumberOf g n
 number_by f g n same h = record { counters = h.counters; differ = h.differ; all = λ c. h.all c ∙ same c; count = h.count }
 
-needs_by : (config : List FlatConfig) (request : RequestParts) (moment : ℕ) (f g : CounterKey → Bool) (live wanted : ℕ) → ((c : CounterKey) → f c ≡ g c) → Needs config request moment f live wanted → Needs config request moment g live wanted
+needs_by : (config : List FlatConfig) (request : RequestParts) (moment : ℕ) (f g : CounterKey → Bool) (live wanted : ℕ) → ((c : CounterKey) → f c ≡ g c)
+    → Needs config request moment f live wanted → Needs config request moment g live wanted
 needs_by config request moment f g live wanted same h = record {
   lives = number_by f g live same h.lives;
   wants = number_by _ _ wanted (λ c. ap (λ b. list_any (λ k. same_counter c k) (counters_named config request moment) && not b) (same c)) h.wants;
 }
 
-pub room_by : (config : List FlatConfig) (cells : ℕ) (request : RequestParts) (moment : ℕ) (f g : CounterKey → Bool) → ((c : CounterKey) → f c ≡ g c) → HasRoom config cells request moment f → HasRoom config cells request moment g
+pub room_by : (config : List FlatConfig) (cells : ℕ) (request : RequestParts) (moment : ℕ) (f g : CounterKey → Bool) → ((c : CounterKey) → f c ≡ g c)
+    → HasRoom config cells request moment f → HasRoom config cells request moment g
 room_by config cells request moment f g same h = record { live = h.live; wanted = h.wanted; needs = needs_by config request moment f g h.live h.wanted same h.needs; fits = h.fits }
 
-pub lacks_by : (config : List FlatConfig) (cells : ℕ) (request : RequestParts) (moment : ℕ) (f g : CounterKey → Bool) (live wanted : ℕ) → ((c : CounterKey) → f c ≡ g c) → LacksRoom config cells request moment f live wanted → LacksRoom config cells request moment g live wanted
+pub lacks_by : (config : List FlatConfig) (cells : ℕ) (request : RequestParts) (moment : ℕ) (f g : CounterKey → Bool) (live wanted : ℕ) → ((c : CounterKey) → f c ≡ g c)
+    → LacksRoom config cells request moment f live wanted → LacksRoom config cells request moment g live wanted
 lacks_by config cells request moment f g live wanted same h = record { needs = needs_by config request moment f g live wanted same h.needs; above = h.above }
 
-module _ (config : List FlatConfig) (ls : List Line) (rs : List Record) (l : Line) (r : Record) (size : length rs ≡ length ls) (moment : ℕ) (sums : Sums) (agrees : AgreesWith config ls rs moment sums) where
+module _ (config : List FlatConfig) (ls : List Line) (rs : List Record) (l : Line) (r : Record) (size : length rs ≡ length ls) (moment : ℕ) (sums : Sums)
+    (agrees : AgreesWith config ls rs moment sums) where
   -- a line that gives no cell and charges nothing
   pub agrees_still : counters_bound config l r.moment r.outcome ≡ [] → charges_shown l r.moment r.outcome ≡ [] → AgreesWith config (ls ++ l ∷ []) (rs ++ r ∷ []) moment sums
   agrees_still none nothing = record {
-    bound = λ c. agrees.bound c ∙ ap (λ ks. nat_lt moment (window_end_of c) && list_any (λ k. same_counter c k) ks) (sym (bound_push config ls rs l r size ∙ ap (λ ks. all_bound config ls rs ++ ks) none ∙ append-nil (all_bound config ls rs)));
-    charged = λ c. agrees.charged c ∙ ap (λ xs. cond (nat_lt moment (window_end_of c)) (charged_in xs c) 0) (sym (ledger_push ls rs l r size ∙ ap (λ xs. ledger_of ls rs ++ xs) nothing ∙ append-nil (ledger_of ls rs)));
+    bound = λ c. agrees.bound c
+        ∙ ap (λ ks. nat_lt moment (window_end_of c) && list_any (λ k. same_counter c k) ks)
+        (sym (bound_push config ls rs l r size ∙ ap (λ ks. all_bound config ls rs ++ ks) none ∙ append-nil (all_bound config ls rs)));
+    charged = λ c. agrees.charged c
+        ∙ ap (λ xs. cond (nat_lt moment (window_end_of c)) (charged_in xs c) 0) (sym (ledger_push ls rs l r size ∙ ap (λ xs. ledger_of ls rs ++ xs) nothing
+        ∙ append-nil (ledger_of ls rs)));
   }
 
 -- a later moment
@@ -151,10 +169,13 @@ later_sum a b e n h = by (nat_lt b e) refl
     by true is = let early : nat_lt a e ≡ true = grind (arith, nat_tests) in rw (is, early) refl
     by false is = rw is refl
 
-pub agrees_later : (config : List FlatConfig) (ls : List Line) (rs : List Record) (now : ℕ) (old new : PlainState) → old.moment ≤ now → AgreesWith config ls rs old.moment old.sums → Drops now old new → AgreesWith config ls rs now new.sums
+pub agrees_later : (config : List FlatConfig) (ls : List Line) (rs : List Record) (now : ℕ) (old new : PlainState) → old.moment ≤ now → AgreesWith config ls rs old.moment old.sums
+    → Drops now old new → AgreesWith config ls rs now new.sums
 agrees_later config ls rs now old new h agrees drops = record {
-  bound = λ c. drops.bound c ∙ ap (λ b. b && nat_lt now (window_end_of c)) (agrees.bound c) ∙ later_first old.moment now (window_end_of c) (list_any (λ k. same_counter c k) (all_bound config ls rs)) h;
-  charged = λ c. drops.charged c ∙ ap (λ n. cond (nat_lt now (window_end_of c)) n 0) (agrees.charged c) ∙ later_sum old.moment now (window_end_of c) (charged_in (ledger_of ls rs) c) h;
+  bound = λ c. drops.bound c ∙ ap (λ b. b && nat_lt now (window_end_of c)) (agrees.bound c)
+      ∙ later_first old.moment now (window_end_of c) (list_any (λ k. same_counter c k) (all_bound config ls rs)) h;
+  charged = λ c. drops.charged c ∙ ap (λ n. cond (nat_lt now (window_end_of c)) n 0) (agrees.charged c)
+      ∙ later_sum old.moment now (window_end_of c) (charged_in (ledger_of ls rs) c) h;
 }
 
 -- an answered check
@@ -168,17 +189,23 @@ sum_open true old more h = refl
 sum_open false old more h = let none : more ≡ 0 = h refl in omega (arith, none)
 
 pub agrees_charged : (ls : List Line) (rs : List Record) (l : Line) (r : Record) (size : length rs ≡ length ls) (request : RequestParts) (ss : List Status) (old new : PlainState)
-    → counters_bound old.config l r.moment r.outcome ≡ counters_named old.config request old.moment → charges_shown l r.moment r.outcome ≡ charges_of request old.moment request.descriptors ss
+    → counters_bound old.config l r.moment r.outcome ≡ counters_named old.config request old.moment
+    → charges_shown l r.moment r.outcome ≡ charges_of request old.moment request.descriptors ss
     → AgreesWith old.config ls rs old.moment old.sums → Charges request ss old new → AgreesWith old.config (ls ++ l ∷ []) (rs ++ r ∷ []) old.moment new.sums
 agrees_charged ls rs l r size request ss old new named shown agrees charges = record {
   bound = λ c. charges.bound c
       ∙ ap (λ b. b || list_any (λ k. same_counter c k) (counters_named old.config request old.moment)) (agrees.bound c)
-      ∙ either_open (nat_lt old.moment (window_end_of c)) (list_any (λ k. same_counter c k) (all_bound old.config ls rs)) (list_any (λ k. same_counter c k) (counters_named old.config request old.moment)) (named_open old.config request old.moment request.descriptors c)
-      ∙ ap (λ b. nat_lt old.moment (window_end_of c) && b) (sym (list_any-append (λ k. same_counter c k) (all_bound old.config ls rs) (counters_named old.config request old.moment)))
-      ∙ ap (λ ks. nat_lt old.moment (window_end_of c) && list_any (λ k. same_counter c k) ks) (sym (bound_push old.config ls rs l r size ∙ ap (λ ks. all_bound old.config ls rs ++ ks) named));
+      ∙ either_open (nat_lt old.moment (window_end_of c)) (list_any (λ k. same_counter c k) (all_bound old.config ls rs))
+      (list_any (λ k. same_counter c k) (counters_named old.config request old.moment)) (named_open old.config request old.moment request.descriptors c)
+      ∙ ap (λ b. nat_lt old.moment (window_end_of c) && b)
+      (sym (list_any-append (λ k. same_counter c k) (all_bound old.config ls rs) (counters_named old.config request old.moment)))
+      ∙ ap (λ ks. nat_lt old.moment (window_end_of c) && list_any (λ k. same_counter c k) ks)
+      (sym (bound_push old.config ls rs l r size ∙ ap (λ ks. all_bound old.config ls rs ++ ks) named));
   charged = λ c. charges.charged c
       ∙ ap (λ n. n + charged_in (charges_of request old.moment request.descriptors ss) c) (agrees.charged c)
-      ∙ sum_open (nat_lt old.moment (window_end_of c)) (charged_in (ledger_of ls rs) c) (charged_in (charges_of request old.moment request.descriptors ss) c) (charges_closed request old.moment request.descriptors ss c)
-      ∙ ap (λ n. cond (nat_lt old.moment (window_end_of c)) n 0) (sym (sum_by-append (λ (x : Charge CounterKey). cond (same_counter x.counter c) x.hits 0) (ledger_of ls rs) (charges_of request old.moment request.descriptors ss)))
+      ∙ sum_open (nat_lt old.moment (window_end_of c)) (charged_in (ledger_of ls rs) c) (charged_in (charges_of request old.moment request.descriptors ss) c)
+      (charges_closed request old.moment request.descriptors ss c)
+      ∙ ap (λ n. cond (nat_lt old.moment (window_end_of c)) n 0)
+      (sym (sum_by-append (λ (x : Charge CounterKey). cond (same_counter x.counter c) x.hits 0) (ledger_of ls rs) (charges_of request old.moment request.descriptors ss)))
       ∙ ap (λ xs. cond (nat_lt old.moment (window_end_of c)) (charged_in xs c) 0) (sym (ledger_push ls rs l r size ∙ ap (λ xs. ledger_of ls rs ++ xs) shown));
 }

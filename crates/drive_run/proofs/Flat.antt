@@ -6,9 +6,8 @@ use Rattle.rate_types.specs.Requests.{RequestParts}
 use Rattle.rate_types.specs.declared.entries.Entry.{Entry}
 use Rattle.reply_text.specs.Flat.{pair_of, both_fields, only_field, only_item, name_of}
 use Rattle.reply_text.specs.Request.{flat_request, flat_descriptor, request_with}
-use Rattle.drive_run.specs.declared.line.Line.{Line}
-use Rattle.drive_run.specs.declared.line.Line.TheVariants.{Check, Tick, Bad}
-use Rattle.drive_run.specs.Script.{line_of, event_of, or_not_built, first_of, check_of, tick_of_data, IsFlatLine, AreFlatLines}
+use Rattle.drive_run.specs.declared.line.Line.TheVariants.{Check, Tick}
+use Rattle.drive_run.specs.Script.{line_of, event_of, or_not_built, first_of, IsFlatLine, AreFlatLines}
 
 abbrev IsFlatOption : Option RequestParts → Type 0
 IsFlatOption None = Unit {0}

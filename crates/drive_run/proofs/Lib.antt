@@ -1,6 +1,5 @@
 pub mod Cut
 pub mod Flat
-pub mod Counters
 pub mod Ledgers
 pub mod Bounds
 pub mod Nexts

@@ -1,5 +1,5 @@
 -- What an answered check of one descriptor charges is the next charge of the ledger.
-use Rattle.std.proofs.Common.{◌≡◌, ℕ, suc, ◌+◌, ◌<◌, ◌≤◌, ◌==◌, ◌||◌, Bool, true, false, cond, List, [], ◌∷◌, ◌++◌, length, Option, Some, None, nat_lt, refl, sym, ap, ◌∙◌, subst, arith, append-nil}
+use Rattle.std.proofs.Common.{◌≡◌, ℕ, ◌+◌, ◌≤◌, ◌==◌, ◌||◌, Bool, true, false, cond, List, [], ◌∷◌, ◌++◌, length, Some, None, nat_lt, refl, ap, ◌∙◌, subst, arith, append-nil}
 use Rattle.std.proofs.lemmas.Bool.Decides.{nat_tests}
 use Rattle.rate_types.specs.Counters.{same_counter}
 use Rattle.rate_types.specs.Ledger.{Charge, IsLawfulLedger}
@@ -15,7 +15,7 @@ use Rattle.rls_core.specs.declared.status.Count.TheVariants.{NoCount, Before, Se
 use Rattle.rls_core.specs.declared.status.Status.{Status}
 use Rattle.rls_core.specs.Status.{status_of, status_at, free_status}
 use Rattle.rls_core.specs.Reply.{hits_of, found_for, charge_shown, charges_of, AreStatuses}
-use Rattle.rls_core.specs.Sequential.{count_for, count_under, charged_under, AreSequential}
+use Rattle.rls_core.specs.Sequential.{count_for, charged_under, AreSequential}
 use Rattle.drive_run.specs.Totals.{charged_in}
 use Rattle.drive_run.proofs.Ledgers.{Reaches, lawful_push}
 
@@ -25,7 +25,8 @@ AreNext ledger [] = Unit {0}
 AreNext ledger (x ∷ []) = (x.before ≡ charged_in ledger x.counter) × (1 ≤ x.hits)
 AreNext ledger (x ∷ y ∷ more) = ⊥
 
-pub lawful_next : (ledger next : List (Charge CounterKey)) → IsLawfulLedger same_counter ledger → Reaches ledger → AreNext ledger next → IsLawfulLedger same_counter (ledger ++ next) × Reaches (ledger ++ next)
+pub lawful_next : (ledger next : List (Charge CounterKey)) → IsLawfulLedger same_counter ledger → Reaches ledger → AreNext ledger next
+    → IsLawfulLedger same_counter (ledger ++ next) × Reaches (ledger ++ next)
 lawful_next ledger [] lawful reaches are = rw (append-nil ledger) (lawful, reaches)
 lawful_next ledger (x ∷ []) lawful reaches are = lawful_push ledger x lawful reaches are.0 are.1
 lawful_next ledger (x ∷ y ∷ more) lawful reaches are = absurd are
@@ -53,7 +54,9 @@ module _ (ledger : List (Charge CounterKey)) (request : RequestParts) (moment : 
   one_next (Limited limit unit shadow rule) NoCount s is counts = cc
   one_next (Limited limit unit shadow rule) (Before b) s is counts =
       let both = if_some (nat_lt 0 (hits_of request d)) (status_at limit unit shadow rule moment (b + hits_of request d) (Before b)) s is in
-      let value : b ≡ charged_in ledger (counter_of request.domain d unit moment) = before_is ((hits_of request d == 0) || nat_lt limit (charged_in ledger (counter_of request.domain d unit moment))) b (charged_in ledger (counter_of request.domain d unit moment)) counts in
+      let value : b ≡ charged_in ledger (counter_of request.domain d unit moment) =
+      before_is ((hits_of request d == 0) || nat_lt limit (charged_in ledger (counter_of request.domain d unit moment))) b
+      (charged_in ledger (counter_of request.domain d unit moment)) counts in
       let some : 1 ≤ hits_of request d = let test : nat_lt 0 (hits_of request d) ≡ true = both.0 in grind (arith, nat_tests) in
       subst (λ t. AreNext ledger (shown t)) both.1 (value, some)
   one_next (Limited limit unit shadow rule) (Seen b) s is counts =

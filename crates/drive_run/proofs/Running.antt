@@ -1,5 +1,6 @@
 -- One more line in a run.
-use Rattle.std.proofs.Common.{◌≡◌, ℕ, zero, suc, ◌+◌, ◌<◌, ◌≤◌, max, nat_lt, true, cond, List, [], ◌∷◌, ◌++◌, length, take, Option, Some, None, slice_get, ◌⊎◌, inl, inr, ⊎_elim, refl, sym, ap, subst, ◌∙◌, arith, length-append}
+use Rattle.std.proofs.Common.{◌≡◌, ℕ, zero, suc, ◌+◌, ◌<◌, max, nat_lt, true, cond, List, [], ◌∷◌, ◌++◌, length, take, Some, slice_get, ◌⊎◌, inl, inr, ⊎_elim, refl, sym, ap, subst}
+use Rattle.std.proofs.Common.{◌∙◌, arith, length-append}
 use Rattle.std.proofs.lemmas.Bool.Decides.{nat_tests}
 use Rattle.std.proofs.lemmas.List.{take-append-le, take_all}
 use Rattle.rate_types.specs.Counters.{same_counter}
@@ -7,10 +8,9 @@ use Rattle.rate_types.specs.Ledger.{IsLawfulLedger}
 use Rattle.rate_types.specs.Requests.{RequestParts}
 use Rattle.rate_types.specs.declared.counter_key.CounterKey.{CounterKey}
 use Rattle.window_keys.specs.Counter.{window_end_of}
-use Rattle.rule_lookup.specs.declared.flat.FlatConfig.{FlatConfig}
 use Rattle.rls_core.specs.declared.totals.Total.{Total}
 use Rattle.rls_core.specs.Totals.{AreTotals}
-use Rattle.rls_core.specs.Reply.{IsReplyOf, counters_named, charges_of, found_for}
+use Rattle.rls_core.specs.Reply.{counters_named, charges_of, found_for}
 use Rattle.rls_core.specs.Sums.{sum_on, has_sum}
 use Rattle.rls_core.specs.Plain.{PlainState, Drops}
 use Rattle.reply_text.specs.Answer.{Answer}
@@ -48,11 +48,17 @@ each_push Fact ls rs l r size each next = λ i m s is_line is_record. ⊎_elim
     (snoc_get ls l m i is_line)
   where
     earlier : (i : ℕ) (m : Line) (s : Record) → i < length ls → slice_get ls i ≡ Some m → slice_get rs i ≡ Some s → Fact (take i (ls ++ l ∷ [])) (take i (rs ++ r ∷ [])) m s
-    earlier i m s below is_line is_record = rw (take-append-le i ls (l ∷ []) (omega (arith, below)), take-append-le i rs (r ∷ []) (omega (arith, below, size))) (each i m s is_line is_record)
+    earlier i m s below is_line is_record =
+        rw (take-append-le i ls (l ∷ []) (omega (arith, below)), take-append-le i rs (r ∷ []) (omega (arith, below, size))) (each i m s is_line is_record)
 
     latest : (i : ℕ) (m : Line) (s : Record) → i ≡ length ls → l ≡ m → r ≡ s → Fact (take i (ls ++ l ∷ [])) (take i (rs ++ r ∷ [])) m s
     latest i m s at is_line is_record =
-        rw (take-append-le i ls (l ∷ []) (omega (arith, at)), take-append-le i rs (r ∷ []) (omega (arith, at, size)), take_all i ls (omega (arith, at)), take_all i rs (omega (arith, at, size)))
+        rw (
+          take-append-le i ls (l ∷ []) (omega (arith, at)),
+          take-append-le i rs (r ∷ []) (omega (arith, at, size)),
+          take_all i ls (omega (arith, at)),
+          take_all i rs (omega (arith, at, size)),
+        )
         (subst (λ m. Fact ls rs m s) is_line (subst (λ s. Fact ls rs l s) is_record next))
 
 -- the lines so far are a run, and the limiter has what they left
@@ -79,7 +85,8 @@ module _ (start : ℕ) (ls : List Line) (rs : List Record) (old : PlainState) (r
       → IsLawfulLedger same_counter (ledger_of (ls ++ l ∷ []) (rs ++ r ∷ [])) × Reaches (ledger_of (ls ++ l ∷ []) (rs ++ r ∷ []))
   still_lawful l r none = rw (ledger_push ls rs l r runs.run.as_many, none) (lawful_next (ledger_of ls rs) [] runs.run.charges_form_ledger runs.reaches tt)
 
-  ticks : (now shown : ℕ) (r : Record) (new : PlainState) → r.outcome ≡ outcome.Ticked shown → (shown ≡ now) × Drops (max now old.moment) old new → Brings ls rs (Tick now) r old new
+  ticks : (now shown : ℕ) (r : Record) (new : PlainState) → r.outcome ≡ outcome.Ticked shown → (shown ≡ now) × Drops (max now old.moment) old new
+      → Brings ls rs (Tick now) r old new
   ticks now shown r new is h = record {
     config = h.1.config;
     cells = h.1.cells;
@@ -94,8 +101,10 @@ module _ (start : ℕ) (ls : List Line) (rs : List Record) (old : PlainState) (r
   }
 
   -- a line that leaves the limiter as it was
-  stays : (l : Line) (r : Record) (new : PlainState) → new ≡ old → tick_of l ≡ 0 → counters_bound old.config l r.moment r.outcome ≡ [] → charges_shown l r.moment r.outcome ≡ [] → IsOfKind l r.outcome
-      → IsByRule old.config l r.moment r.outcome → HasRefusalCause old.config old.cells ls rs l r.moment r.outcome → IsInTurn old.config old.cells ls rs l r.moment r.outcome → Brings ls rs l r old new
+  stays : (l : Line) (r : Record) (new : PlainState) → new ≡ old → tick_of l ≡ 0 → counters_bound old.config l r.moment r.outcome ≡ [] → charges_shown l r.moment r.outcome ≡ []
+      → IsOfKind l r.outcome
+      → IsByRule old.config l r.moment r.outcome → HasRefusalCause old.config old.cells ls rs l r.moment r.outcome → IsInTurn old.config old.cells ls rs l r.moment r.outcome
+      → Brings ls rs l r old new
   stays l r new same still none nothing kind rule cause turn = record {
     config = ap (λ s. s.config) same;
     cells = ap (λ s. s.cells) same;
@@ -109,14 +118,17 @@ module _ (start : ℕ) (ls : List Line) (rs : List Record) (old : PlainState) (r
     lawful = still_lawful l r nothing;
   }
 
-  refuses : (request : RequestParts) (live held wanted : ℕ) (r : Record) (new : PlainState) → r.outcome ≡ outcome.Full live held wanted → r.moment ≡ new.moment → IsRefused request live held wanted old new
+  refuses : (request : RequestParts) (live held wanted : ℕ) (r : Record) (new : PlainState) → r.outcome ≡ outcome.Full live held wanted → r.moment ≡ new.moment
+      → IsRefused request live held wanted old new
       → Brings ls rs (Check request) r old new
   refuses request live held wanted r new is at h =
       let moment : r.moment ≡ old.moment = at ∙ ap (λ s. s.moment) h.same in
       stays (Check request) r new h.same refl (rw is refl) (rw is refl) (rw is tt) (rw is tt)
-      (rw (is, moment) (h.nobody, lacks_by old.config old.cells request old.moment (has_sum old.sums) (is_bound old.config ls rs old.moment) live wanted runs.agrees.bound h.lacks)) (rw is tt)
+      (rw (is, moment) (h.nobody, lacks_by old.config old.cells request old.moment (has_sum old.sums) (is_bound old.config ls rs old.moment) live wanted runs.agrees.bound h.lacks))
+      (rw is tt)
 
-  answers : (request : RequestParts) (answer : Answer) (r : Record) (new : PlainState) → length request.descriptors ≡ 1 → r.outcome ≡ outcome.Checked answer → r.moment ≡ new.moment → IsAnswered request answer old new
+  answers : (request : RequestParts) (answer : Answer) (r : Record) (new : PlainState) → length request.descriptors ≡ 1 → r.outcome ≡ outcome.Checked answer → r.moment ≡ new.moment
+      → IsAnswered request answer old new
       → Brings ls rs (Check request) r old new
   answers request answer r new one is at h =
       let moment : r.moment ≡ old.moment = at ∙ h.charges.moment in
@@ -162,8 +174,12 @@ module _ (start : ℕ) (ls : List Line) (rs : List Record) (old : PlainState) (r
         one_record_per_line = each_push (λ before earlier l r. IsRecordOf start before l r) ls rs l r runs.run.as_many runs.run.one_record_per_line rec;
         replies_by_rule = each_push (λ before earlier l r. IsByRule old.config l r.moment r.outcome) ls rs l r runs.run.as_many runs.run.replies_by_rule b.rule;
         charges_form_ledger = b.lawful.0;
-        refusals_have_causes = each_push (λ before earlier l r. HasRefusalCause old.config old.cells before earlier l r.moment r.outcome) ls rs l r runs.run.as_many runs.run.refusals_have_causes b.cause;
-        sequential_with_one_worker = each_push (λ before earlier l r. IsInTurn old.config old.cells before earlier l r.moment r.outcome) ls rs l r runs.run.as_many runs.run.sequential_with_one_worker b.turn;
+        refusals_have_causes =
+            each_push (λ before earlier l r. HasRefusalCause old.config old.cells before earlier l r.moment r.outcome) ls rs l r runs.run.as_many runs.run.refusals_have_causes
+            b.cause;
+        sequential_with_one_worker =
+            each_push (λ before earlier l r. IsInTurn old.config old.cells before earlier l r.moment r.outcome) ls rs l r runs.run.as_many runs.run.sequential_with_one_worker
+            b.turn;
       } in
       record {
         moment = moment;
@@ -182,10 +198,12 @@ flat_among [] rest l h = h.0
 flat_among (m ∷ ls) rest l h = flat_among ls rest l h.1
 
 -- the totals of the sums are those of the ledger
-pub totals_of : (start : ℕ) (ls : List Line) (rs : List Record) (plain : PlainState) (ts : List Total) → Runs start ls rs plain → AreTotals (sum_on plain.sums) plain.moment ts → AreTotalsOf start ls rs ts
+pub totals_of : (start : ℕ) (ls : List Line) (rs : List Record) (plain : PlainState) (ts : List Total) → Runs start ls rs plain → AreTotals (sum_on plain.sums) plain.moment ts
+    → AreTotalsOf start ls rs ts
 totals_of start ls rs plain ts runs are = rw (← runs.moment) (record {
   in_order = are.in_order;
-  sums = all_map (λ t. (t.charged ≡ sum_on plain.sums t.key) × (0 < t.charged) × (plain.moment < window_end_of t.key)) (λ t. (t.charged ≡ charged_in (ledger_of ls rs) t.key) × (0 < t.charged) × (plain.moment < window_end_of t.key))
+  sums = all_map (λ t. (t.charged ≡ sum_on plain.sums t.key) × (0 < t.charged) × (plain.moment < window_end_of t.key)) (λ t. (t.charged ≡ charged_in (ledger_of ls rs) t.key)
+      × (0 < t.charged) × (plain.moment < window_end_of t.key))
       (λ t h. (h.0 ∙ open_sum t.key h.2, h.1, h.2)) ts are.sums;
   complete = λ c more live. are.complete c (let same : sum_on plain.sums c ≡ charged_in (ledger_of ls rs) c = open_sum c live in omega (arith, same, more)) live;
 })

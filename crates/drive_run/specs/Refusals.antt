@@ -11,34 +11,26 @@ use Rattle.reply_text.specs.declared.record.Record.{Record}
 use Rattle.reply_text.specs.declared.record.Outcome.{Outcome}
 use Rattle.reply_text.specs.declared.record.Outcome.TheVariants as outcome
 use Rattle.drive_run.specs.declared.line.Line.{Line}
-use Rattle.drive_run.specs.declared.line.Line.TheVariants.{Check, Tick, Bad}
+use Rattle.drive_run.specs.declared.line.Line.TheVariants.{Check}
 
 -- the counters to which an answered check gave cells
 abbrev pub counters_bound : List FlatConfig → Line → ℕ → Outcome → List CounterKey
 counters_bound config (Check request) moment (outcome.Checked answer) = counters_named config request moment
-counters_bound config (Check request) moment (outcome.Ticked shown) = []
-counters_bound config (Check request) moment (outcome.Bad shown) = []
-counters_bound config (Check request) moment (outcome.Full live held wanted) = []
-counters_bound config (Tick now) moment o = []
-counters_bound config (Bad refused) moment o = []
+counters_bound config line moment other = []
 
 -- the counters that were given cells, line after line
 abbrev pub all_bound : List FlatConfig → List Line → List Record → List CounterKey
-all_bound config [] rs = []
-all_bound config (l ∷ ls) [] = []
 all_bound config (l ∷ ls) (r ∷ rs) = counters_bound config l r.moment r.outcome ++ all_bound config ls rs
+all_bound config lines records = []
 
 -- whether a counter has a cell at a moment: it was given one, and its window isn't over
 abbrev pub is_bound : List FlatConfig → List Line → List Record → ℕ → CounterKey → Bool
-is_bound config lines records moment c = nat_lt moment (window_end_of c) && list_any (λ k. same_counter c k) (all_bound config lines records)
+is_bound config lines records moment c = nat_lt moment (window_end_of c)
+    && list_any (λ k. same_counter c k) (all_bound config lines records)
 
 -- A check is refused only where the counters that have cells, and those of the check that have none, are more than
 -- the cells; nobody holds a cell.
 abbrev pub HasRefusalCause : List FlatConfig → ℕ → List Line → List Record → Line → ℕ → Outcome → Type 0
 HasRefusalCause config cells before earlier (Check request) moment (outcome.Full live held wanted) =
     (held ≡ 0) × LacksRoom config cells request moment (is_bound config before earlier moment) live wanted
-HasRefusalCause config cells before earlier (Check request) moment (outcome.Checked answer) = ⊤
-HasRefusalCause config cells before earlier (Check request) moment (outcome.Ticked shown) = ⊤
-HasRefusalCause config cells before earlier (Check request) moment (outcome.Bad shown) = ⊤
-HasRefusalCause config cells before earlier (Tick now) moment o = ⊤
-HasRefusalCause config cells before earlier (Bad refused) moment o = ⊤
+HasRefusalCause config cells before earlier line moment other = ⊤

@@ -15,42 +15,28 @@ use Rattle.drive_run.specs.Refusals.{is_bound, HasRefusalCause}
 
 -- a fact about each line and its record, and about the lines and records before them
 abbrev pub EachLine : List Line → List Record → (List Line → List Record → Line → Record → Type 0) → Type 0
-EachLine lines records Fact = (i : ℕ) (l : Line) (r : Record) → slice_get lines i ≡ Some l → slice_get records i ≡ Some r → Fact (take i lines) (take i records) l r
+EachLine lines records Fact = (i : ℕ) (l : Line) (r : Record) → slice_get lines i ≡ Some l → slice_get records i ≡ Some r
+    → Fact (take i lines) (take i records) l r
 
 -- what came of a line is of its kind: only a check is answered, a tick shows its number, a refused line its refusal
 abbrev pub IsOfKind : Line → Outcome → Type 0
 IsOfKind (Check request) (outcome.Checked answer) = ⊤
 IsOfKind (Check request) (outcome.Full live held wanted) = ⊤
-IsOfKind (Check request) (outcome.Ticked shown) = ⊥
-IsOfKind (Check request) (outcome.Bad shown) = ⊥
 IsOfKind (Tick now) (outcome.Ticked shown) = shown ≡ now
-IsOfKind (Tick now) (outcome.Checked answer) = ⊥
-IsOfKind (Tick now) (outcome.Full live held wanted) = ⊥
-IsOfKind (Tick now) (outcome.Bad shown) = ⊥
 IsOfKind (Bad refused) (outcome.Bad shown) = shown ≡ refused
-IsOfKind (Bad refused) (outcome.Checked answer) = ⊥
-IsOfKind (Bad refused) (outcome.Full live held wanted) = ⊥
-IsOfKind (Bad refused) (outcome.Ticked shown) = ⊥
+IsOfKind line other = ⊥
 
 -- an answered check is the reply of its request by the configuration
 abbrev pub IsByRule : List FlatConfig → Line → ℕ → Outcome → Type 0
 IsByRule config (Check request) moment (outcome.Checked answer) = IsReplyOf config request moment false answer.over answer.statuses
-IsByRule config (Check request) moment (outcome.Full live held wanted) = ⊤
-IsByRule config (Check request) moment (outcome.Ticked shown) = ⊤
-IsByRule config (Check request) moment (outcome.Bad shown) = ⊤
-IsByRule config (Tick now) moment o = ⊤
-IsByRule config (Bad refused) moment o = ⊤
+IsByRule config line moment other = ⊤
 
 -- an answered check counts what the earlier lines charged, and there was room for its counters
 abbrev pub IsInTurn : List FlatConfig → ℕ → List Line → List Record → Line → ℕ → Outcome → Type 0
 IsInTurn config cells before earlier (Check request) moment (outcome.Checked answer) =
     AreSequential config request moment (charged_in (ledger_of before earlier)) request.descriptors answer.statuses
     × HasRoom config cells request moment (is_bound config before earlier moment)
-IsInTurn config cells before earlier (Check request) moment (outcome.Full live held wanted) = ⊤
-IsInTurn config cells before earlier (Check request) moment (outcome.Ticked shown) = ⊤
-IsInTurn config cells before earlier (Check request) moment (outcome.Bad shown) = ⊤
-IsInTurn config cells before earlier (Tick now) moment o = ⊤
-IsInTurn config cells before earlier (Bad refused) moment o = ⊤
+IsInTurn config cells before earlier line moment other = ⊤
 
 -- A record is that of its line: its number, of worker 0 by version 0, at the greatest of the start and the ticks up to
 -- the line, and with an outcome of the line's kind.

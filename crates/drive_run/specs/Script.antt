@@ -3,7 +3,8 @@ use Rattle.std.specs.Prelude.{◌≡◌, ℕ, ◌==◌, List, [], ◌∷◌, len
 use Rattle.std.specs.List.{slice_split, AllByRecursion}
 use Rattle.serde_json.specs.Data.{Data}
 use Rattle.proto_json.specs.Document.{json_of}
-use Rattle.rate_types.specs.declared.refused.Refused.{Refused}
+use Rattle.rate_types.specs.declared.limits.TheConstants.{LATEST_MOMENT}
+use Rattle.rate_types.specs.declared.refusals.TheConstants.{BAD_JSON, NOT_BUILT}
 use Rattle.reply_text.specs.Flat.{only_field, whole_of}
 use Rattle.reply_text.specs.Request.{flat_request}
 use Rattle.drive_run.specs.declared.line.Line.{Line}
@@ -38,16 +39,16 @@ check_of d = option_map Check (option_and_then flat_request (only_field (codes "
 
 -- {"tick":..} with a whole number of at most 1,000,000,000,000
 abbrev pub tick_of_data : Data → Option Line
-tick_of_data d = option_map Tick (option_and_then (whole_of 1000000000000) (only_field (codes "tick") d))
+tick_of_data d = option_map Tick (option_and_then (whole_of LATEST_MOMENT) (only_field (codes "tick") d))
 
--- another value is refused with 9 NotBuilt
+-- another value is refused as not built
 abbrev pub or_not_built : Option Line → Line
-or_not_built None = refused_with 9
+or_not_built None = refused_with NOT_BUILT
 or_not_built (Some line) = line
 
--- bytes that are no JSON are refused with 1 BadJson
+-- bytes that are no JSON are refused as such
 abbrev pub event_of : Option Data → Line
-event_of None = refused_with 1
+event_of None = refused_with BAD_JSON
 event_of (Some d) = or_not_built (first_of (check_of d) (tick_of_data d))
 
 -- A line by its bytes. One that is refused is a line too.
@@ -61,8 +62,7 @@ script_of bytes = map line_of (cut bytes)
 -- a check has one descriptor
 abbrev pub IsFlatLine : Line → Type 0
 IsFlatLine (Check request) = length request.descriptors ≡ 1
-IsFlatLine (Tick moment) = ⊤
-IsFlatLine (Bad refused) = ⊤
+IsFlatLine other = ⊤
 
 abbrev pub AreFlatLines : List Line → Type 0
 AreFlatLines lines = AllByRecursion IsFlatLine lines

@@ -1,4 +1,4 @@
--- What running one line does to a limiter of one worker.
+-- Inside: what running one line does to a limiter of one worker.
 use Rattle.std.specs.Prelude.{◌≡◌, ℕ, max, false}
 use Rattle.rls_core.specs.Reply.{IsReplyOf}
 use Rattle.rls_core.specs.Sequential.{AreSequential, HasRoom, LacksRoom}
@@ -29,16 +29,9 @@ pub record IsRefused (request : RequestParts) (live held wanted : ℕ) (old new 
 abbrev pub Outcomes : Line → Outcome → PlainState → PlainState → Type 0
 Outcomes (Check request) (outcome.Checked answer) old new = IsAnswered request answer old new
 Outcomes (Check request) (outcome.Full live held wanted) old new = IsRefused request live held wanted old new
-Outcomes (Check request) (outcome.Ticked shown) old new = ⊥
-Outcomes (Check request) (outcome.Bad shown) old new = ⊥
 Outcomes (Tick now) (outcome.Ticked shown) old new = (shown ≡ now) × Drops (max now old.moment) old new
-Outcomes (Tick now) (outcome.Checked answer) old new = ⊥
-Outcomes (Tick now) (outcome.Full live held wanted) old new = ⊥
-Outcomes (Tick now) (outcome.Bad shown) old new = ⊥
 Outcomes (Bad refused) (outcome.Bad shown) old new = (shown ≡ refused) × (new ≡ old)
-Outcomes (Bad refused) (outcome.Checked answer) old new = ⊥
-Outcomes (Bad refused) (outcome.Full live held wanted) old new = ⊥
-Outcomes (Bad refused) (outcome.Ticked shown) old new = ⊥
+Outcomes line other old new = ⊥
 
 -- the record of a line at this number
 pub record Steps (number : ℕ) (l : Line) (r : Record) (old new : PlainState) : Type 0 where

@@ -10,13 +10,12 @@ use Rattle.reply_text.specs.declared.record.Record.{Record}
 use Rattle.reply_text.specs.declared.record.Outcome.{Outcome}
 use Rattle.reply_text.specs.declared.record.Outcome.TheVariants as outcome
 use Rattle.drive_run.specs.declared.line.Line.{Line}
-use Rattle.drive_run.specs.declared.line.Line.TheVariants.{Check, Tick, Bad}
+use Rattle.drive_run.specs.declared.line.Line.TheVariants.{Check, Tick}
 
 -- the moment that a tick line offers
 abbrev pub tick_of : Line → ℕ
 tick_of (Tick moment) = moment
-tick_of (Check request) = 0
-tick_of (Bad refused) = 0
+tick_of other = 0
 
 -- the greatest of the start and the ticks of these lines
 abbrev pub moment_after : ℕ → List Line → ℕ
@@ -26,17 +25,12 @@ moment_after start (l ∷ ls) = max (tick_of l) (moment_after start ls)
 -- the charges that an answered check shows
 abbrev pub charges_shown : Line → ℕ → Outcome → List (Charge CounterKey)
 charges_shown (Check request) moment (outcome.Checked answer) = charges_of request moment request.descriptors answer.statuses
-charges_shown (Check request) moment (outcome.Ticked shown) = []
-charges_shown (Check request) moment (outcome.Bad shown) = []
-charges_shown (Check request) moment (outcome.Full live held wanted) = []
-charges_shown (Tick now) moment o = []
-charges_shown (Bad refused) moment o = []
+charges_shown line moment other = []
 
 -- The charges of all answered checks, line after line.
 abbrev pub ledger_of : List Line → List Record → List (Charge CounterKey)
-ledger_of [] rs = []
-ledger_of (l ∷ ls) [] = []
 ledger_of (l ∷ ls) (r ∷ rs) = charges_shown l r.moment r.outcome ++ ledger_of ls rs
+ledger_of lines records = []
 
 -- what a ledger has on a counter
 abbrev pub charged_in : List (Charge CounterKey) → CounterKey → ℕ

@@ -5,6 +5,8 @@ ghost use Rattle.drive_run.specs.Script as script;
 
 use crate::Line;
 use proto_json::{FormFault, parse};
+use rate_types::limits::LATEST_MOMENT;
+use rate_types::refusals::{BAD_JSON, NOT_BUILT};
 use rate_types::{OutOfMemory, Place, Refused, Seconds};
 use reply_text::{only_field, read_flat_request, whole_of};
 use serde_json::Value;
@@ -25,7 +27,7 @@ fn check_of(alloc: Global, value: &Value) -> Result<Option<Line>, OutOfMemory>
 fn tick_of(value: &Value) -> Option<Line>
     ensures { result ≡ script.tick_of_data (view value.now) }
 {
-    let number = whole_of(only_field(value, "tick")?, 1_000_000_000_000)?;
+    let number = whole_of(only_field(value, "tick")?, LATEST_MOMENT)?;
     Some(Line::Tick(Seconds::capped(number)))
 }
 
@@ -39,14 +41,15 @@ fn refused_with(alloc: Global, number: u32) -> Line
 }
 
 fn event_of(alloc: Global, value: &Value) -> Result<Line, OutOfMemory>
-    ensures { IfOk result (λ l. l ≡ script.or_not_built (script.first_of (script.check_of (view value.now)) (script.tick_of_data (view value.now)))) }
+    ensures { IfOk result (λ l. l
+        ≡ script.or_not_built (script.first_of (script.check_of (view value.now)) (script.tick_of_data (view value.now)))) }
 {
     if let Some(line) = check_of(alloc, value)? {
         return Ok(line);
     }
     match tick_of(value) {
         Some(line) => Ok(line),
-        None => Ok(refused_with(alloc, 9)),
+        None => Ok(refused_with(alloc, NOT_BUILT)),
     }
 }
 
@@ -57,7 +60,7 @@ pub fn read_line(alloc: Global, bytes: &[u8]) -> Result<Line, OutOfMemory>
 {
     match parse(alloc, bytes) {
         Ok(value) => Ok(event_of(alloc, &value)?),
-        Err(FormFault::Refused(_)) => Ok(refused_with(alloc, 1)),
+        Err(FormFault::Refused(_)) => Ok(refused_with(alloc, BAD_JSON)),
         Err(FormFault::OutOfMemory) => Err(OutOfMemory),
     }
 }

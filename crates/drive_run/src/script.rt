@@ -4,11 +4,9 @@ ghost use Rattle.drive_run.specs.declared.script.ScriptFault.TheVariants.{TooMan
 
 use crate::Line;
 use crate::reading::read_line;
-use rate_types::OutOfMemory;
+use rate_types::limits::MOST_LINES;
 use std::alloc::Global;
 use std::marker::Model;
-
-const MOST_LINES: usize = 1_048_576;
 
 /// Why a script isn't read.
 #[derive(Clone, Copy, Debug, PartialEq, Eq)]
@@ -27,6 +25,7 @@ pub struct Script {
 
 impl Model for Script {
     ghost use Rattle.std.specs.Prelude.{◌≤◌, List, length};
+    ghost use Rattle.rate_types.specs.declared.limits.TheConstants.{MOST_LINES};
     ghost use Rattle.drive_run.specs.declared.line.Line.{Line};
     ghost use Rattle.drive_run.specs.Script.{AreFlatLines};
 
@@ -34,7 +33,7 @@ impl Model for Script {
 
     ghost view = { λ s. s.lines.items };
 
-    ghost invariant = { λ s. AreFlatLines s.lines.items × (length s.lines.items ≤ 1048576) };
+    ghost invariant = { λ s. AreFlatLines s.lines.items × (length s.lines.items ≤ MOST_LINES) };
 }
 
 fn line_feed(bytes: &[u8]) -> Option<usize>
@@ -60,14 +59,14 @@ impl Script {
     /// The script of these bytes: one line per line feed, and one for what stands behind the last line feed.
     pub fn read(alloc: Global, bytes: &[u8]) -> Result<Script, ScriptFault>
         ensures script { IfOk result (λ s. s ≡ scripts.script_of bytes.now) }
-        ensures within { IfOk result (λ s. length s ≤ 1048576) }
-        ensures many { (lines : ℕ) → result ≡ Err (TooManyLines lines) → 1048576 < lines }
+        ensures within { IfOk result (λ s. length s ≤ MOST_LINES) }
+        ensures many { (lines : ℕ) → result ≡ Err (TooManyLines lines) → MOST_LINES < lines }
         ensures more { (lines : ℕ) → result ≡ Err (TooManyLines lines) → lines ≤ length (scripts.cut bytes.now) }
     {
         let mut lines = Vec::new(alloc);
         let mut rest = bytes;
         'lines: while rest.len() > 0 {
-            if lines.len() >= MOST_LINES {
+            if lines.len() >= MOST_LINES as usize {
                 return Err(ScriptFault::TooManyLines {
                     lines: lines.len() as u64 + 1,
                 });
@@ -88,7 +87,7 @@ impl Script {
     pub fn into_lines(self) -> Vec<Line>
         ensures lines { result.items ≡ self }
         ensures flat { scripts.AreFlatLines self }
-        ensures within { length self ≤ 1048576 }
+        ensures within { length self ≤ MOST_LINES }
     {
         self.lines
     }

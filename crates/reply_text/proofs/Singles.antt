@@ -10,6 +10,7 @@ pub one_entry : (entry : Entry) → 0 < length entry.key → entries_of (entry �
 unfolding entries_of
 one_entry entry some = let full : (length entry.key == 0) ≡ false = grind (arith, nat_tests) in rw full refl
 
-pub one_request : (domain : List ℕ) (descriptor : Descriptor) → 0 < length domain → request_of domain (descriptor ∷ []) 1 ≡ Ok (record { domain = domain; descriptors = descriptor ∷ []; hits = 1 })
+pub one_request : (domain : List ℕ) (descriptor : Descriptor) → 0 < length domain → request_of domain (descriptor ∷ []) 1
+    ≡ Ok (record { domain = domain; descriptors = descriptor ∷ []; hits = 1 })
 unfolding request_of
 one_request domain descriptor some = let full : (length domain == 0) ≡ false = grind (arith, nat_tests) in rw full refl

@@ -1,5 +1,5 @@
 -- The flat form of a request: one descriptor of one entry, whose hits are 1.
-use Rattle.std.specs.Prelude.{ℕ, List, [], ◌∷◌, Option, Some, None, option_map, option_and_then, codes}
+use Rattle.std.specs.Prelude.{ℕ, List, [], ◌∷◌, Option, None, option_map, option_and_then, codes}
 use Rattle.serde_json.specs.Data.{Data}
 use Rattle.rate_types.specs.Requests.{RequestParts}
 use Rattle.rate_types.specs.declared.entries.Entry.{Entry}
@@ -25,5 +25,6 @@ request_with domain entry = record { domain = domain; descriptors = descriptor_o
 
 -- {"descriptors":[..],"domain":..} with one descriptor
 unfoldable pub flat_request : Data → Option RequestParts
-flat_request d = option_and_then (λ fields. option_map (λ p. request_with p.0 p.1) (pair_of (name_of fields.0) (option_and_then flat_descriptor (only_item fields.1))))
+flat_request d = option_and_then
+    (λ fields. option_map (λ p. request_with p.0 p.1) (pair_of (name_of fields.0) (option_and_then flat_descriptor (only_item fields.1))))
     (both_fields (codes "domain") (codes "descriptors") d)

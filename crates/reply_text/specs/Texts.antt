@@ -1,5 +1,5 @@
 -- The JSON of replies, records and totals: compact, with the names of each object in byte order.
-use Rattle.std.specs.Prelude.{ℕ, ◌==◌, List, [], ◌∷◌, ◌++◌, map, Bool, if◌then◌else◌, Option, Some, None, codes, decimal}
+use Rattle.std.specs.Prelude.{ℕ, ◌==◌, List, ◌++◌, map, Bool, if◌then◌else◌, Option, Some, None, codes, decimal}
 use Rattle.serde_json.specs.Data.{Data, null, number, unsigned, string, array, object, Members, no_members, member}
 use Rattle.serde_json.specs.View.{items_of}
 use Rattle.serde_json.specs.Written.{compact_text}
@@ -44,12 +44,15 @@ overall_code over = if over then OverLimit else code.Ok
 
 -- a limit: its number, left out where it is 0, and its unit
 abbrev pub limit_data : OwnLimit → Data
-limit_data own = object (member_unless (own.limit == 0) (codes "requestsPerUnit") (whole own.limit) (member (codes "unit") (string (unit_name own.unit)) no_members))
+limit_data own = object
+    (member_unless (own.limit == 0) (codes "requestsPerUnit") (whole own.limit)
+    (member (codes "unit") (string (unit_name own.unit)) no_members))
 
 -- where there is a limit, that and the time to reset
 abbrev pub limit_members : Option OwnLimit → ℕ → Members → Members
 limit_members None reset ms = ms
-limit_members (Some own) reset ms = member (codes "currentLimit") (limit_data own) (member (codes "durationUntilReset") (string (decimal reset ++ codes "s")) ms)
+limit_members (Some own) reset ms =
+    member (codes "currentLimit") (limit_data own) (member (codes "durationUntilReset") (string (decimal reset ++ codes "s")) ms)
 
 -- a status: its code, its limit, and what remains, left out where it is 0
 unfoldable pub status_data : Status → Data
@@ -97,7 +100,8 @@ refused_line_data line moment version worker why = object (member (codes "line")
 
 -- a record, by what came of its line
 abbrev pub outcome_data : ℕ → ℕ → ℕ → ℕ → Outcome → Data
-outcome_data line moment version worker (Checked answer) = checked_line_data line moment version worker (counts_data answer.statuses) (reply_data answer)
+outcome_data line moment version worker (Checked answer) =
+    checked_line_data line moment version worker (counts_data answer.statuses) (reply_data answer)
 outcome_data line moment version worker (Ticked ticked) = ticked_line_data line moment version worker ticked
 outcome_data line moment version worker (Bad refused) = refused_line_data line moment version worker (refused_data refused)
 outcome_data line moment version worker (Full live held wanted) = refused_line_data line moment version worker (full_data live held wanted)
@@ -109,7 +113,8 @@ unfoldable pub entry_data : Entry → Data
 entry_data e = object (member (codes "key") (string e.key) (member (codes "value") (string e.value) no_members))
 
 unfoldable pub counter_data : CounterKey → Data
-counter_data c = object (member (codes "domain") (string c.name.domain) (member (codes "entries") (array (items_of (map entry_data c.name.entries)))
+counter_data c = object
+    (member (codes "domain") (string c.name.domain) (member (codes "entries") (array (items_of (map entry_data c.name.entries)))
     (member (codes "start") (whole c.start) (member (codes "unit") (string (unit_name c.name.unit)) no_members))))
 
 -- a total: what was charged on a counter

@@ -3,6 +3,7 @@ ghost use Rattle.std.specs.Prelude.{◌≡◌, ◌≤◌, ◌<◌, IfSome, lengt
 ghost use Rattle.serde_json.specs.View.{view};
 ghost use Rattle.reply_text.specs.Flat as flat;
 
+use rate_types::limits::LONGEST_TEXT;
 use serde_json::Value;
 
 /// The values of these two members of an object that has no others.
@@ -51,10 +52,10 @@ pub fn only_item(value: &Value) -> Option<&Value>
 /// A text of at most 1,024 bytes.
 pub fn text_of(value: &Value) -> Option<&str>
     ensures text { option_map (λ s. s.now) result ≡ flat.text_of (view value.now) }
-    ensures within { IfSome result (λ s. length s.now ≤ 1024) }
+    ensures within { IfSome result (λ s. length s.now ≤ LONGEST_TEXT) }
 {
     let text = value.as_str()?;
-    if text.len() > 1024 {
+    if text.len() > LONGEST_TEXT {
         return None;
     }
     Some(text)
@@ -63,7 +64,7 @@ pub fn text_of(value: &Value) -> Option<&str>
 /// A text of 1 to 1,024 bytes.
 pub fn name_of(value: &Value) -> Option<&str>
     ensures name { option_map (λ s. s.now) result ≡ flat.name_of (view value.now) }
-    ensures within { IfSome result (λ s. length s.now ≤ 1024) }
+    ensures within { IfSome result (λ s. length s.now ≤ LONGEST_TEXT) }
     ensures some { IfSome result (λ s. 0 < length s.now) }
 {
     let text = text_of(value)?;

@@ -45,7 +45,8 @@ fn checked_line_value(
 ) -> Result<Value, AllocError>
     requires counts { has_float (view counts) ≡ false }
     requires reply { has_float (view reply) ≡ false }
-    ensures value { IfOk result (λ v. view v ≡ texts.checked_line_data head.line head.moment head.version head.worker (view counts) (view reply)) }
+    ensures value { IfOk result (λ v. view v
+        ≡ texts.checked_line_data head.line head.moment head.version head.worker (view counts) (view reply)) }
     ensures whole { IfOk result (λ v. has_float (view v) ≡ false) }
 {
     let Head {
@@ -58,7 +59,9 @@ fn checked_line_value(
 }
 
 fn checked_value(alloc: Global, head: Head, answer: &Statuses) -> Result<Value, OutOfMemory>
-    ensures value { IfOk result (λ v. view v ≡ texts.checked_line_data head.line head.moment head.version head.worker (texts.counts_data answer.now.statuses) (texts.reply_data answer.now)) }
+    ensures value { IfOk result (λ v. view v
+        ≡ texts.checked_line_data head.line head.moment head.version head.worker (texts.counts_data answer.now.statuses)
+        (texts.reply_data answer.now)) }
     ensures whole { IfOk result (λ v. has_float (view v) ≡ false) }
 {
     let counts = counts_value(alloc, answer.items())?;

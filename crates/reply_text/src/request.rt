@@ -1,5 +1,6 @@
 ghost use Rattle.std.specs.Prelude.{◌≡◌, ◌≤◌, ◌<◌, length, IfOk, IfSome};
 ghost use Rattle.serde_json.specs.View.{view};
+ghost use Rattle.rate_types.specs.declared.limits.TheConstants.{LONGEST_TEXT};
 ghost use Rattle.reply_text.specs.Request as request;
 
 use crate::flat::{both_fields, name_of, only_field, only_item, text_of};
@@ -9,7 +10,7 @@ use std::alloc::Global;
 
 // A copy of a text that has room in a `Text`.
 fn copy_of(alloc: Global, text: &str) -> Result<Text, OutOfMemory>
-    requires { length text.now ≤ 1024 }
+    requires { length text.now ≤ LONGEST_TEXT }
     ensures { IfOk result (λ t. t ≡ text.now) }
 {
     let Ok(text) = String::from_str(alloc, text) else {

@@ -23,16 +23,20 @@ module _ (rule : FlatRule) (found : Found) (is : found ≡ limit_of rule) where
       → Updates entry_cmp old new (record { key = rule.key; value = value }) (Some found) → PutsFirst rule old new alone alone
   put_value value old new alone has updates = record {
     values = λ e. updates.0 e
-        ∙ ap (λ b. cond b (Some found) (get entry_cmp old e)) (sym (entry_ties (record { key = rule.key; value = value }) e) ∙ ap (λ v. same_text rule.key e.key && is_this v e.value) (sym has))
+        ∙ ap (λ b. cond b (Some found) (get entry_cmp old e)) (sym (entry_ties (record { key = rule.key; value = value }) e)
+        ∙ ap (λ v. same_text rule.key e.key && is_this v e.value) (sym has))
         ∙ ap (λ f. cond (has_value e rule) (Some f) (get entry_cmp old e)) is;
-    keys = λ e. sym (ap (λ b. cond b (Some (limit_of rule)) (get text_cmp alone e.key)) (ap (λ v. same_text rule.key e.key && is_absent v) has ∙ and_false (same_text rule.key e.key)));
+    keys = λ e. sym (ap (λ b. cond b (Some (limit_of rule)) (get text_cmp alone e.key)) (ap (λ v. same_text rule.key e.key && is_absent v) has
+        ∙ and_false (same_text rule.key e.key)));
   }
 
   pub put_alone : (old new : BTreeMap (List ℕ) Found) (valued : BTreeMap Entry Found) → rule.value ≡ None
       → Updates text_cmp old new rule.key (Some found) → PutsFirst rule valued valued old new
   put_alone old new valued has updates = record {
-    values = λ e. sym (ap (λ b. cond b (Some (limit_of rule)) (get entry_cmp valued e)) (ap (λ v. same_text rule.key e.key && is_this v e.value) has ∙ and_false (same_text rule.key e.key)));
+    values = λ e. sym (ap (λ b. cond b (Some (limit_of rule)) (get entry_cmp valued e)) (ap (λ v. same_text rule.key e.key && is_this v e.value) has
+        ∙ and_false (same_text rule.key e.key)));
     keys = λ e. updates.0 e.key
-        ∙ ap (λ b. cond b (Some found) (get text_cmp old e.key)) (sym (text_ties rule.key e.key) ∙ sym (ap (λ v. same_text rule.key e.key && is_absent v) has ∙ and_true (same_text rule.key e.key)))
+        ∙ ap (λ b. cond b (Some found) (get text_cmp old e.key)) (sym (text_ties rule.key e.key)
+        ∙ sym (ap (λ v. same_text rule.key e.key && is_absent v) has ∙ and_true (same_text rule.key e.key)))
         ∙ ap (λ f. cond (has_key_alone e rule) (Some f) (get text_cmp old e.key)) is;
   }

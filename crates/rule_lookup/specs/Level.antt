@@ -1,4 +1,4 @@
--- What the maps of a level hold: the first node of each key and value, and the first of each key alone.
+-- Inside: what the maps of a level hold: the first node of each key and value, and the first of each key alone.
 use Rattle.std.specs.Prelude.{◌≡◌, ℕ, List, find, option_map, Some, if◌then◌else◌}
 use Rattle.std.specs.BTreeMap.{BTreeMap, get}
 use Rattle.rate_types.specs.Counters.{text_cmp, entry_cmp}
@@ -12,6 +12,9 @@ pub record Indexes (rules : List FlatRule) (valued : BTreeMap Entry Found) (alon
   pub keys : (entry : Entry) → get text_cmp alone entry.key ≡ option_map limit_of (find (has_key_alone entry) rules)
 
 -- the maps after a node was put before those that they held
-pub record PutsFirst (rule : FlatRule) (valued valued_after : BTreeMap Entry Found) (alone alone_after : BTreeMap (List ℕ) Found) : Type 0 where
-  pub values : (entry : Entry) → get entry_cmp valued_after entry ≡ (if has_value entry rule then Some (limit_of rule) else get entry_cmp valued entry)
-  pub keys : (entry : Entry) → get text_cmp alone_after entry.key ≡ (if has_key_alone entry rule then Some (limit_of rule) else get text_cmp alone entry.key)
+pub record PutsFirst (rule : FlatRule) (valued valued_after : BTreeMap Entry Found) (alone alone_after : BTreeMap (List ℕ) Found) : Type 0
+  where
+    pub values : (entry : Entry) → get entry_cmp valued_after entry
+        ≡ (if has_value entry rule then Some (limit_of rule) else get entry_cmp valued entry)
+    pub keys : (entry : Entry) → get text_cmp alone_after entry.key
+        ≡ (if has_key_alone entry rule then Some (limit_of rule) else get text_cmp alone entry.key)

@@ -39,9 +39,8 @@ matching_node rules entry = first_found (find (has_value entry) rules) (first_fo
 
 -- the rule is that of the last entry's node: below the first level there is none
 abbrev pub rule_of_path : List FlatRule → List Entry → Found
-rule_of_path rules [] = NoRule
 rule_of_path rules (entry ∷ []) = matching_node rules entry
-rule_of_path rules (entry ∷ next ∷ more) = NoRule
+rule_of_path rules other = NoRule
 
 -- a limit of the descriptor's own replaces the look-up, and is never shadow
 abbrev pub own_or : Option OwnLimit → Found → Found

@@ -6,4 +6,5 @@ use Rattle.reply_text.proofs.Wholes.{items_whole, entry_whole}
 use Rattle.reply_text.proofs.total_json.entries_value.Goals as goal
 
 pub returns-clause-whole : goal.returns-clause-whole
-returns-clause-whole c = ap has_float c.array_value-value.ensures ∙ ap (λ ds. items_have_float (items_of ds)) c.entries.invariant ∙ items_whole texts.entry_data entry_whole (take c.entries.entry-index c.args.entries.now)
+returns-clause-whole c = ap has_float c.array_value-value.ensures ∙ ap (λ ds. items_have_float (items_of ds)) c.entries.invariant
+    ∙ items_whole texts.entry_data entry_whole (take c.entries.entry-index c.args.entries.now)
