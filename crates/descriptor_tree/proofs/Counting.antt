@@ -5,10 +5,12 @@ use Rattle.rate_types.specs.declared.refused.Refused.{Refused}
 use Rattle.rate_types.specs.declared.refused.At.{At}
 use Rattle.descriptor_tree.specs.Nodes.{PlacedNode}
 use Rattle.rate_types.specs.Reading.{first_or}
-use Rattle.descriptor_tree.specs.Faults.{next_number, in_file, nodes_faults, node_faults}
+use Rattle.descriptor_tree.specs.Faults.{in_file, nodes_faults, node_faults}
+use Rattle.descriptor_tree.specs.Numbering.{next_number}
 
 -- the first of some numbers at one place is the answer
-pub first_number : {X : Type 0} (ns : List ℕ) (n : ℕ) (at : ℕ → Refused) (to : Refused → At) (more : List Refused) (x : X) → slice_get ns 0 ≡ Some n → first_or (map to (map at ns ++ more)) x ≡ Err (to (at n))
+pub first_number : {X : Type 0} (ns : List ℕ) (n : ℕ) (at : ℕ → Refused) (to : Refused → At) (more : List Refused) (x : X) → slice_get ns 0 ≡ Some n
+    → first_or (map to (map at ns ++ more)) x ≡ Err (to (at n))
 first_number [] n at to more x is = cc
 first_number (m ∷ ns) n at to more x is = ap (λ k. Err (to (at k))) same
   where
@@ -52,7 +54,8 @@ none_first (f ∷ fs) x z is = cc
 pub counted_then : (file number : ℕ) (xs ys : List PlacedNode) (n : ℕ) → next_number file number xs ≡ Ok n → next_number file number (xs ++ ys) ≡ next_number file n ys
 counted_then file number xs ys n is =
     let none = none_first (map (in_file file) (nodes_faults number xs)) (number + length xs) n is in
-    ap (λ fs. first_or fs (number + length (xs ++ ys))) (ap (map (in_file file)) (faults_append number xs ys) ∙ map_append (in_file file) (nodes_faults number xs) (nodes_faults (number + length xs) ys))
+    ap (λ fs. first_or fs (number + length (xs ++ ys))) (ap (map (in_file file)) (faults_append number xs ys)
+    ∙ map_append (in_file file) (nodes_faults number xs) (nodes_faults (number + length xs) ys))
     ∙ ap (λ fs. first_or (fs ++ map (in_file file) (nodes_faults (number + length xs) ys)) (number + length (xs ++ ys))) none.0
     ∙ ap (λ m. first_or (map (in_file file) (nodes_faults m ys)) (number + length (xs ++ ys))) none.1
     ∙ ap (λ m. first_or (map (in_file file) (nodes_faults n ys)) m) rest
@@ -63,5 +66,6 @@ counted_then file number xs ys n is =
 -- nodes of which one is refused
 pub counted_refused : (file number : ℕ) (xs ys : List PlacedNode) (at : At) → next_number file number xs ≡ Err at → next_number file number (xs ++ ys) ≡ Err at
 counted_refused file number xs ys at is =
-    ap (λ fs. first_or fs (number + length (xs ++ ys))) (ap (map (in_file file)) (faults_append number xs ys) ∙ map_append (in_file file) (nodes_faults number xs) (nodes_faults (number + length xs) ys))
+    ap (λ fs. first_or fs (number + length (xs ++ ys))) (ap (map (in_file file)) (faults_append number xs ys)
+    ∙ map_append (in_file file) (nodes_faults number xs) (nodes_faults (number + length xs) ys))
     ∙ then_first (map (in_file file) (nodes_faults number xs)) _ (number + length xs) (number + length (xs ++ ys)) at is

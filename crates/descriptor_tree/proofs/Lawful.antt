@@ -1,5 +1,6 @@
 -- Trees without a fault, whose nodes are well-formed, are a lawful configuration.
-use Rattle.std.proofs.Common.{◌≡◌, ◌≢◌, ℕ, ◌+◌, ◌≤◌, ◌<◌, ◌&&◌, ◌||◌, List, [], ◌∷◌, ◌++◌, length, map, Bool, true, false, nat_lt, nat_le, Option, Some, None, refl, sym, ◌∙◌, true≢false, length-append, codes, arith}
+use Rattle.std.proofs.Common.{◌≡◌, ◌≢◌, ℕ, ◌+◌, ◌≤◌, ◌<◌, ◌&&◌, ◌||◌, List, [], ◌∷◌, ◌++◌, length, map, Bool, true, false, nat_lt, nat_le, Option, Some, None, refl, sym, ◌∙◌}
+use Rattle.std.proofs.Common.{true≢false, length-append, codes, arith}
 use Rattle.std.specs.List.{All, AllPairs, list_any}
 use Rattle.std.specs.Option.{option_eq}
 use Rattle.std.specs.Str.{bytes_eq}
@@ -12,7 +13,8 @@ use Rattle.rate_types.specs.declared.limits.TheConstants.{DEEPEST_LEVEL, MOST_NO
 use Rattle.rate_types.specs.declared.refusals.TheConstants.{EMPTY_DOMAIN, TWO_DOMAINS, EMPTY_KEY, TWO_NODES, TOO_DEEP, TOO_MANY_NODES}
 use Rattle.descriptor_tree.specs.Trees.{NodeFields, Branch, branch, Branches, no_branches, and_branch, fields_of, DomainTree}
 use Rattle.descriptor_tree.specs.Nodes.{PlacedNode, branch_nodes, forest_nodes, tree_nodes, config_nodes}
-use Rattle.descriptor_tree.specs.Faults.{is_empty, is_twin, where_true, node_numbers, node_faults, nodes_faults, domain_numbers, domain_faults, trees_faults, config_faults, in_file}
+use Rattle.descriptor_tree.specs.Faults.{is_empty, is_twin, where_true, node_numbers, node_faults, nodes_faults, domain_numbers, domain_faults, trees_faults, config_faults}
+use Rattle.descriptor_tree.specs.Faults.{in_file}
 use Rattle.descriptor_tree.specs.Config.{IsWellFormed, IsWellFormedBranch, AreWellFormed, IsLawfulNode, IsLawfulConfig}
 
 -- ---- lists that are empty
@@ -50,7 +52,9 @@ both_true true false p q = absurd (true≢false (sym q))
 both_true false b p q = absurd (true≢false (sym p))
 
 differs : (e node : NodeFields) → is_twin e node ≡ false → e.key ≡ node.key → e.value ≢ node.value
-differs e node is key = λ value. true≢false (sym (both_true (bytes_eq e.key node.key) (option_eq bytes_eq e.value node.value) ((bytes_eq-Decides e.key node.key).1 key) (option_eq_same e.value node.value value)) ∙ is)
+differs e node is key =
+    λ value. true≢false (sym
+    (both_true (bytes_eq e.key node.key) (option_eq bytes_eq e.value node.value) ((bytes_eq-Decides e.key node.key).1 key) (option_eq_same e.value node.value value)) ∙ is)
 
 or_false : (a b : Bool) → (a || b) ≡ false → (a ≡ false) × (b ≡ false)
 or_false true b is = absurd (true≢false is)
@@ -77,7 +81,8 @@ record Passes (keyless twin : Bool) (level number : ℕ) : Type 0 where
 
 passes : (keyless twin : Bool) (level number : ℕ) → node_numbers keyless twin level number ≡ [] → Passes keyless twin level number
 passes keyless twin level number is =
-    let one = append_empty (where_true keyless EMPTY_KEY ++ where_true twin TWO_NODES ++ where_true (nat_lt DEEPEST_LEVEL level) TOO_DEEP) (where_true (nat_le MOST_NODES number) TOO_MANY_NODES) is in
+    let one = append_empty (where_true keyless EMPTY_KEY ++ where_true twin TWO_NODES ++ where_true (nat_lt DEEPEST_LEVEL level) TOO_DEEP)
+    (where_true (nat_le MOST_NODES number) TOO_MANY_NODES) is in
     let two = append_empty (where_true keyless EMPTY_KEY ++ where_true twin TWO_NODES) (where_true (nat_lt DEEPEST_LEVEL level) TOO_DEEP) one.0 in
     let three = append_empty (where_true keyless EMPTY_KEY) (where_true twin TWO_NODES) two.0 in
     record {
@@ -106,7 +111,8 @@ nodes_lawful : (number : ℕ) (nodes : List PlacedNode) → nodes_faults number 
 nodes_lawful number [] is formed = All-nil IsLawfulNode
 nodes_lawful number (s ∷ more) is formed =
     let parts = append_empty (node_faults number s) (nodes_faults (number + 1) more) is in
-    All-cons IsLawfulNode s more (node_lawful number s parts.0 (All-head (λ x. IsWellFormed x.node) s more formed)) (nodes_lawful (number + 1) more parts.1 (All-tail (λ x. IsWellFormed x.node) s more formed))
+    All-cons IsLawfulNode s more (node_lawful number s parts.0 (All-head (λ x. IsWellFormed x.node) s more formed))
+    (nodes_lawful (number + 1) more parts.1 (All-tail (λ x. IsWellFormed x.node) s more formed))
 
 nodes_few : (number : ℕ) (nodes : List PlacedNode) → nodes_faults number nodes ≡ [] → number ≤ MOST_NODES → number + length nodes ≤ MOST_NODES
 nodes_few number [] is few = omega arith
@@ -138,12 +144,14 @@ domains_differ (d ∷ ds) domain is =
 heads : (d : List ℕ) (earlier : List (List ℕ)) (trees : List DomainTree) → All (λ t. All (λ x. x ≢ t.domain) (d ∷ earlier)) trees → All (λ t. d ≢ t.domain) trees
 heads d earlier [] all = All-nil (λ t. d ≢ t.domain)
 heads d earlier (t ∷ trees) all =
-    All-cons (λ u. d ≢ u.domain) t trees (All-head (λ x. x ≢ t.domain) d earlier (All-head (λ u. All (λ x. x ≢ u.domain) (d ∷ earlier)) t trees all)) (heads d earlier trees (All-tail (λ u. All (λ x. x ≢ u.domain) (d ∷ earlier)) t trees all))
+    All-cons (λ u. d ≢ u.domain) t trees (All-head (λ x. x ≢ t.domain) d earlier (All-head (λ u. All (λ x. x ≢ u.domain) (d ∷ earlier)) t trees all))
+    (heads d earlier trees (All-tail (λ u. All (λ x. x ≢ u.domain) (d ∷ earlier)) t trees all))
 
 tails : (d : List ℕ) (earlier : List (List ℕ)) (trees : List DomainTree) → All (λ t. All (λ x. x ≢ t.domain) (d ∷ earlier)) trees → All (λ t. All (λ x. x ≢ t.domain) earlier) trees
 tails d earlier [] all = All-nil (λ t. All (λ x. x ≢ t.domain) earlier)
 tails d earlier (t ∷ trees) all =
-    All-cons (λ u. All (λ x. x ≢ u.domain) earlier) t trees (All-tail (λ x. x ≢ t.domain) d earlier (All-head (λ u. All (λ x. x ≢ u.domain) (d ∷ earlier)) t trees all)) (tails d earlier trees (All-tail (λ u. All (λ x. x ≢ u.domain) (d ∷ earlier)) t trees all))
+    All-cons (λ u. All (λ x. x ≢ u.domain) earlier) t trees (All-tail (λ x. x ≢ t.domain) d earlier (All-head (λ u. All (λ x. x ≢ u.domain) (d ∷ earlier)) t trees all))
+    (tails d earlier trees (All-tail (λ u. All (λ x. x ≢ u.domain) (d ∷ earlier)) t trees all))
 
 pub All-first : {X : Type 0} (P : X → Type 0) (xs ys : List X) → All P (xs ++ ys) → All P xs
 All-first P [] ys all = All-nil P
@@ -156,16 +164,20 @@ All-second P (x ∷ xs) ys all = All-second P xs ys (All-tail P x (xs ++ ys) all
 tree_parts : (file : ℕ) (earlier : List (List ℕ)) (number : ℕ) (t : DomainTree) (more : List DomainTree) → trees_faults file earlier number (t ∷ more) ≡ []
     → (domain_faults earlier t ≡ []) × (nodes_faults number (tree_nodes t) ≡ []) × (trees_faults (file + 1) (t.domain ∷ earlier) (number + length (tree_nodes t)) more ≡ [])
 tree_parts file earlier number t more is =
-    let parts = append_empty (map (in_file file) (domain_faults earlier t ++ nodes_faults number (tree_nodes t))) (trees_faults (file + 1) (t.domain ∷ earlier) (number + length (tree_nodes t)) more) is in
-    let own = append_empty (domain_faults earlier t) (nodes_faults number (tree_nodes t)) (map_empty (in_file file) (domain_faults earlier t ++ nodes_faults number (tree_nodes t)) parts.0) in
+    let parts = append_empty (map (in_file file) (domain_faults earlier t ++ nodes_faults number (tree_nodes t)))
+    (trees_faults (file + 1) (t.domain ∷ earlier) (number + length (tree_nodes t)) more) is in
+    let own = append_empty (domain_faults earlier t) (nodes_faults number (tree_nodes t))
+    (map_empty (in_file file) (domain_faults earlier t ++ nodes_faults number (tree_nodes t)) parts.0) in
     (own.0, own.1, parts.1)
 
 domain_parts : (earlier : List (List ℕ)) (t : DomainTree) → domain_faults earlier t ≡ [] → (is_empty t.domain ≡ false) × (list_any (λ d. bytes_eq d t.domain) earlier ≡ false)
 domain_parts earlier t is =
-    let parts = append_empty (where_true (is_empty t.domain) EMPTY_DOMAIN) (where_true (list_any (λ d. bytes_eq d t.domain) earlier) TWO_DOMAINS) (map_empty (λ n. record { at = []; number = n }) (domain_numbers (is_empty t.domain) (list_any (λ d. bytes_eq d t.domain) earlier)) is) in
+    let parts = append_empty (where_true (is_empty t.domain) EMPTY_DOMAIN) (where_true (list_any (λ d. bytes_eq d t.domain) earlier) TWO_DOMAINS)
+    (map_empty (λ n. record { at = []; number = n }) (domain_numbers (is_empty t.domain) (list_any (λ d. bytes_eq d t.domain) earlier)) is) in
     (where_empty (is_empty t.domain) EMPTY_DOMAIN parts.0, where_empty (list_any (λ d. bytes_eq d t.domain) earlier) TWO_DOMAINS parts.1)
 
-behind : (file : ℕ) (earlier : List (List ℕ)) (number : ℕ) (trees : List DomainTree) → trees_faults file earlier number trees ≡ [] → All (λ s. IsWellFormed s.node) (config_nodes trees) → number ≤ MOST_NODES → Behind earlier number trees
+behind : (file : ℕ) (earlier : List (List ℕ)) (number : ℕ) (trees : List DomainTree) → trees_faults file earlier number trees ≡ []
+    → All (λ s. IsWellFormed s.node) (config_nodes trees) → number ≤ MOST_NODES → Behind earlier number trees
 behind file earlier number [] is formed few = record {
   named = All-nil (λ t. t.domain ≢ []);
   apart = All-nil (λ t. All (λ d. d ≢ t.domain) earlier);
@@ -177,12 +189,14 @@ behind file earlier number (t ∷ more) is formed few =
     let parts = tree_parts file earlier number t more is in
     let domain = domain_parts earlier t parts.0 in
     let rest : Behind (t.domain ∷ earlier) (number + length (tree_nodes t)) more =
-    behind (file + 1) (t.domain ∷ earlier) (number + length (tree_nodes t)) more parts.2 (All-second (λ s. IsWellFormed s.node) (tree_nodes t) (config_nodes more) formed) (nodes_few number (tree_nodes t) parts.1 few) in
+    behind (file + 1) (t.domain ∷ earlier) (number + length (tree_nodes t)) more parts.2 (All-second (λ s. IsWellFormed s.node) (tree_nodes t) (config_nodes more) formed)
+    (nodes_few number (tree_nodes t) parts.1 few) in
     record {
       named = All-cons (λ u. u.domain ≢ []) t more (not_empty t.domain domain.0) rest.named;
       apart = All-cons (λ u. All (λ d. d ≢ u.domain) earlier) t more (domains_differ earlier t.domain domain.1) (tails t.domain earlier more rest.apart);
       differ = AllPairs-cons (λ u v. u.domain ≢ v.domain) t more (heads t.domain earlier more rest.apart) rest.differ;
-      nodes = All-append IsLawfulNode (tree_nodes t) (config_nodes more) (nodes_lawful number (tree_nodes t) parts.1 (All-first (λ s. IsWellFormed s.node) (tree_nodes t) (config_nodes more) formed)) rest.nodes;
+      nodes = All-append IsLawfulNode (tree_nodes t) (config_nodes more)
+          (nodes_lawful number (tree_nodes t) parts.1 (All-first (λ s. IsWellFormed s.node) (tree_nodes t) (config_nodes more) formed)) rest.nodes;
       few = omega (arith, rest.few, length-append (tree_nodes t) (config_nodes more));
     }
 
@@ -197,10 +211,12 @@ faultless_is_lawful trees is formed =
 mutual
   branch_formed : (place : List ℕ) (level : ℕ) (earlier : List NodeFields) (b : Branch) → IsWellFormedBranch b → All (λ s. IsWellFormed s.node) (branch_nodes place level earlier b)
   branch_formed place level earlier (branch node below) formed =
-      All-cons (λ s. IsWellFormed s.node) (record { place = place; level = level; earlier = earlier; node = node }) (forest_nodes (child place (codes "descriptors")) (level + 1) 0 [] below) formed.0
+      All-cons (λ s. IsWellFormed s.node) (record { place = place; level = level; earlier = earlier; node = node })
+      (forest_nodes (child place (codes "descriptors")) (level + 1) 0 [] below) formed.0
       (forest_formed (child place (codes "descriptors")) (level + 1) 0 [] below formed.1)
 
-  forest_formed : (place : List ℕ) (level index : ℕ) (earlier : List NodeFields) (bs : Branches) → AreWellFormed bs → All (λ s. IsWellFormed s.node) (forest_nodes place level index earlier bs)
+  forest_formed : (place : List ℕ) (level index : ℕ) (earlier : List NodeFields) (bs : Branches) → AreWellFormed bs
+      → All (λ s. IsWellFormed s.node) (forest_nodes place level index earlier bs)
   forest_formed place level index earlier no_branches formed = All-nil (λ s. IsWellFormed s.node)
   forest_formed place level index earlier (and_branch b more) formed =
       All-append (λ s. IsWellFormed s.node) (branch_nodes (item place index) level earlier b) (forest_nodes place level (index + 1) (fields_of b ∷ earlier) more)
@@ -210,4 +226,5 @@ pub nodes_formed : (trees : List DomainTree) → All (λ t. AreWellFormed t.fore
 nodes_formed [] formed = All-nil (λ s. IsWellFormed s.node)
 nodes_formed (t ∷ more) formed =
     All-append (λ s. IsWellFormed s.node) (tree_nodes t) (config_nodes more)
-    (forest_formed (child [] (codes "descriptors")) 1 0 [] t.forest (All-head (λ u. AreWellFormed u.forest) t more formed)) (nodes_formed more (All-tail (λ u. AreWellFormed u.forest) t more formed))
+    (forest_formed (child [] (codes "descriptors")) 1 0 [] t.forest (All-head (λ u. AreWellFormed u.forest) t more formed))
+    (nodes_formed more (All-tail (λ u. AreWellFormed u.forest) t more formed))

@@ -1,5 +1,6 @@
 -- The walk over the nodes of a level: what is left to check answers as the whole level does.
-use Rattle.std.proofs.Common.{◌≡◌, ℕ, suc, ◌+◌, ◌≤◌, ◌<◌, ◌&&◌, List, [], ◌∷◌, ◌++◌, length, map, drop, get_or, Bool, true, Option, Some, None, option_map, Result, Ok, Err, Bor, codes, refl, sym, ap, ◌∙◌, subst, add-one, append-nil, arith, not}
+use Rattle.std.proofs.Common.{◌≡◌, ℕ, suc, ◌+◌, ◌≤◌, ◌<◌, ◌&&◌, List, [], ◌∷◌, length, map, drop, get_or, Bool, true, Option, Some, None, option_map, Result, Ok, Err, Bor}
+use Rattle.std.proofs.Common.{codes, refl, sym, ap, ◌∙◌, subst, add-one, append-nil, arith, not}
 use Rattle.std.proofs.Math.Seq.{drop-cons}
 use Rattle.std.specs.HashSet.{HashSet, Updates, contains}
 use Rattle.std.specs.List.{slice_get, list_any}
@@ -13,10 +14,11 @@ use Rattle.rate_types.specs.declared.refused.At.{At}
 use Rattle.descriptor_tree.specs.declared.node.Node.{Node}
 use Rattle.rate_types.specs.declared.fault.Fault.{Fault}
 use Rattle.rate_types.specs.declared.fault.Fault.TheVariants as fault
-use Rattle.descriptor_tree.specs.Trees.{NodeFields, Branch, branch, Branches, and_branch, branches_of, fields_of, below_of, node_view}
+use Rattle.descriptor_tree.specs.Trees.{NodeFields, Branch, branch, and_branch, branches_of, fields_of, below_of, node_view}
 use Rattle.descriptor_tree.specs.Nodes.{PlacedNode, branch_nodes, forest_nodes}
 use Rattle.rate_types.specs.Reading.{AnswersReading, first_or}
-use Rattle.descriptor_tree.specs.Faults.{next_number, in_file, is_empty, is_twin, node_numbers, nodes_faults}
+use Rattle.descriptor_tree.specs.Faults.{in_file, is_empty, is_twin, node_numbers, nodes_faults}
+use Rattle.descriptor_tree.specs.Numbering.{next_number}
 use Rattle.descriptor_tree.proofs.Seen.{Seen, seen_more, twin_from_new}
 use Rattle.descriptor_tree.proofs.Counting.{first_number, no_number, counted_then, counted_refused}
 
@@ -36,7 +38,8 @@ has_name e q = bytes_eq e.key q.0.now && option_eq bytes_eq e.value (option_map 
 pub record Walked (file : ℕ) (place : List ℕ) (level start : ℕ) (all : List Node) (index number : ℕ) (names : Names) : Type 0 where
   pub earlier : List NodeFields
   pub seen : Seen name_eq has_name names earlier
-  pub answer : next_number file number (forest_nodes place level index earlier (branches_of (map node_view (drop index all)))) ≡ next_number file start (forest_nodes place level 0 [] (branches_of (map node_view all)))
+  pub answer : next_number file number (forest_nodes place level index earlier (branches_of (map node_view (drop index all))))
+      ≡ next_number file start (forest_nodes place level 0 [] (branches_of (map node_view all)))
   pub few : number ≤ MOST_NODES
 
 option_eq_now : (a b : Option (Bor (List ℕ))) → option_eq (λ a b. bytes_eq a.now b.now) a b ≡ option_eq bytes_eq (option_map (λ v. v.now) a) (option_map (λ v. v.now) b)
@@ -51,7 +54,8 @@ named k e key value q = ap (λ b. bytes_eq k.0.now q.0.now && b) (option_eq_now 
     ∙ ap (λ x. bytes_eq e.key q.0.now && option_eq bytes_eq x (option_map (λ v. v.now) q.1)) value
 
 -- whether a node has a twin before it, from what the set answered
-pub twin_is : (names : Names) (earlier : List NodeFields) (k : Name) (node : NodeFields) (new : Bool) → Seen name_eq has_name names earlier → k.0.now ≡ node.key → option_map (λ v. v.now) k.1 ≡ node.value
+pub twin_is : (names : Names) (earlier : List NodeFields) (k : Name) (node : NodeFields) (new : Bool) → Seen name_eq has_name names earlier → k.0.now ≡ node.key
+    → option_map (λ v. v.now) k.1 ≡ node.value
     → not new ≡ list_any (λ e. has_name e k) earlier → not new ≡ list_any (λ e. is_twin e node) earlier
 twin_is names earlier k node new seen key value is = is
     ∙ ap (λ x. list_any (λ e. bytes_eq e.key x && option_eq bytes_eq e.value (option_map (λ v. v.now) k.1)) earlier) key
@@ -96,8 +100,10 @@ lone_node file number place level (x ∷ []) node one is =
 lone_node file number place level (x ∷ y ∷ more) node one is = absurd (omega (arith, one))
 
 -- what is left, with its first node apart
-pub walked_node : (file : ℕ) (place : List ℕ) (level start : ℕ) (all : List Node) (i number : ℕ) (names : Names) (node : Node) (w : Walked file place level start all i number names) → i < length all → node ≡ get_or all i node
-    → next_number file number (forest_nodes place level i w.earlier (and_branch (node_view node) (branches_of (map node_view (drop (i + 1) all))))) ≡ next_number file start (forest_nodes place level 0 [] (branches_of (map node_view all)))
+pub walked_node : (file : ℕ) (place : List ℕ) (level start : ℕ) (all : List Node) (i number : ℕ) (names : Names) (node : Node)
+    (w : Walked file place level start all i number names) → i < length all → node ≡ get_or all i node
+    → next_number file number (forest_nodes place level i w.earlier (and_branch (node_view node) (branches_of (map node_view (drop (i + 1) all)))))
+    ≡ next_number file start (forest_nodes place level 0 [] (branches_of (map node_view all)))
 walked_node file place level start all i number names node w within is =
     let rest : drop i all ≡ node ∷ drop (i + 1) all = rw (add-one i) (drop-cons all i node within ∙ ap (λ (x : Node). x ∷ drop (suc i) all) (sym is)) in
     ap (λ (ns : List Node). next_number file number (forest_nodes place level i w.earlier (branches_of (map node_view ns)))) (sym rest) ∙ w.answer
@@ -110,9 +116,11 @@ pub record Step (names : Names) (all : List Node) (i : ℕ) (node : Node) (k : N
   pub value : option_map (λ v. v.now) k.1 ≡ (fields_of (node_view node)).value
   pub new_is : new ≡ not (contains name_eq names k)
 
-twin_of : (file : ℕ) (place : List ℕ) (level start : ℕ) (all : List Node) (i number : ℕ) (names : Names) (node : Node) (k : Name) (new : Bool) (w : Walked file place level start all i number names) → Step names all i node k new
+twin_of : (file : ℕ) (place : List ℕ) (level start : ℕ) (all : List Node) (i number : ℕ) (names : Names) (node : Node) (k : Name) (new : Bool)
+    (w : Walked file place level start all i number names) → Step names all i node k new
     → not new ≡ list_any (λ e. is_twin e (fields_of (node_view node))) w.earlier
-twin_of file place level start all i number names node k new w s = twin_is names w.earlier k (fields_of (node_view node)) new w.seen s.key s.value (twin_from_new name_eq has_name names w.earlier k new w.seen s.new_is)
+twin_of file place level start all i number names node k new w s =
+    twin_is names w.earlier k (fields_of (node_view node)) new w.seen s.key s.value (twin_from_new name_eq has_name names w.earlier k new w.seen s.new_is)
 
 pub is_answer : (e : Fault At) (at : At) (read : Result ℕ At) → ((x : At) → e ≡ fault.Refused x → x ≡ at) → read ≡ Err at
     → AnswersReading {X = ℕ} {Y = ℕ} (λ n. n) (Err e) read

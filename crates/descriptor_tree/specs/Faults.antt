@@ -1,9 +1,8 @@
 -- The faults of a configuration's trees, in order: tree by tree, first those of its domain, then its nodes in preorder.
-use Rattle.std.specs.Prelude.{◌≡◌, ℕ, ◌+◌, ◌&&◌, List, [], ◌∷◌, ◌++◌, length, map, Bool, true, false, nat_lt, nat_le, if◌then◌else◌, Result, Ok, Err, ⊤}
+use Rattle.std.specs.Prelude.{ℕ, ◌+◌, ◌&&◌, List, [], ◌∷◌, ◌++◌, length, map, Bool, true, false, nat_lt, nat_le, if◌then◌else◌}
 use Rattle.std.specs.List.{list_any}
 use Rattle.std.specs.Option.{option_eq}
 use Rattle.std.specs.Str.{bytes_eq}
-use Rattle.rate_types.specs.Reading.{first_or}
 use Rattle.rate_types.specs.declared.limits.TheConstants.{DEEPEST_LEVEL, MOST_NODES}
 use Rattle.rate_types.specs.declared.refusals.TheConstants.{EMPTY_DOMAIN, TWO_DOMAINS, EMPTY_KEY, TWO_NODES, TOO_DEEP, TOO_MANY_NODES}
 use Rattle.rate_types.specs.declared.refused.Refused.{Refused}
@@ -63,7 +62,3 @@ trees_faults file earlier number (tree ∷ more) =
 -- all faults of a configuration's trees
 unfoldable pub config_faults : List DomainTree → List At
 config_faults trees = trees_faults 0 [] 0 trees
-
--- the number of the node after these nodes of a file, the first of them of this number, or their first fault
-abbrev pub next_number : ℕ → ℕ → List PlacedNode → Result ℕ At
-next_number file number nodes = first_or (map (in_file file) (nodes_faults number nodes)) (number + length nodes)

@@ -3,3 +3,4 @@ pub mod Nodes
 pub mod Faults
 pub mod Config
 pub mod Views
+pub mod Numbering

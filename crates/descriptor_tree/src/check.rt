@@ -6,12 +6,15 @@ ghost use Rattle.rate_types.specs.declared.refused.At.{At};
 ghost use Rattle.descriptor_tree.specs.Trees.{NodeFields, node_view, forest_view, fields_of, below_of, tree_view};
 ghost use Rattle.descriptor_tree.specs.Nodes.{branch_nodes, forest_nodes, tree_nodes};
 ghost use Rattle.rate_types.specs.Reading.{AnswersReading, first_or};
-ghost use Rattle.descriptor_tree.specs.Faults.{next_number, in_file, is_empty, is_twin, node_numbers, domain_numbers, config_faults};
+ghost use Rattle.descriptor_tree.specs.Faults.{in_file, is_empty, is_twin, node_numbers, domain_numbers, config_faults};
+ghost use Rattle.descriptor_tree.specs.Numbering.{next_number};
 
 use crate::siblings::name_of;
 use crate::{ConfigFault, Forest, Node, Tree};
 use rate_types::limits::{DEEPEST_LEVEL, MOST_NODES};
-use rate_types::refusals::{EMPTY_DOMAIN, EMPTY_KEY, TOO_DEEP, TOO_MANY_NODES, TWO_DOMAINS, TWO_NODES};
+use rate_types::refusals::{
+    EMPTY_DOMAIN, EMPTY_KEY, TOO_DEEP, TOO_MANY_NODES, TWO_DOMAINS, TWO_NODES,
+};
 use rate_types::{At, Fault, Place, Refused};
 use std::alloc::Global;
 use std::collections::HashSet;
@@ -74,7 +77,16 @@ pub fn check_forest(
     'nodes: for index in 0..nodes.len() {
         let node = &nodes[index];
         let is_new = names.insert(name_of(node))?;
-        match check_node(alloc, file, place, index as u64, level, node, !is_new, number) {
+        match check_node(
+            alloc,
+            file,
+            place,
+            index as u64,
+            level,
+            node,
+            !is_new,
+            number,
+        ) {
             Ok(next) => number = next,
             Err(fault) => return Err(fault),
         }
