@@ -16,20 +16,21 @@ top=$(cd "$(dirname "$0")/.." && pwd)
 work=$(mktemp -d)
 trap 'rm -rf "$work"' EXIT
 mkdir -p "$work/crates/quota_bench/src"
-for crate in rate_types proto_json agenda quota_bucket quota_settings quota_buckets; do
+for crate in rate_types proto_json agenda quota_bucket quota_settings quota_settings_json quota_buckets; do
     mkdir -p "$work/crates/$crate"
     for part in src specs proofs; do
         if [ -d "$top/crates/$crate/$part" ]; then cp -r "$top/crates/$crate/$part" "$work/crates/$crate/"; fi
     done
     grep "^$crate:" "$top/crates.txt" >> "$work/crates.txt"
 done
-echo 'quota_bench: rate_types quota_buckets' >> "$work/crates.txt"
+echo 'quota_bench: rate_types quota_settings_json quota_buckets' >> "$work/crates.txt"
 
 cat > "$work/crates/quota_bench/src/main.rt" <<'RT'
 //! Times decisions and reports of quota buckets.
 #![tactic(auto)]
 
-use quota_buckets::{Attributes, BucketId, Buckets, Pair, read_settings};
+use quota_buckets::{Attributes, BucketId, Buckets, Pair};
+use quota_settings_json::read_settings;
 use rate_types::{Millis, Text};
 use std::alloc::Global;
 use std::time::{Clock, Instant};

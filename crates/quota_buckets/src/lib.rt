@@ -25,8 +25,7 @@ pub use buckets::Buckets;
 pub use phase::Phase;
 pub use quota_bucket::{AtExpiry, BucketRules, Strategy};
 pub use quota_settings::{
-    Attributes, BucketId, BucketSettings, Pair, Part, PartSource, Parts, Settings, read_settings,
-    read_strategy,
+    Attributes, BucketId, BucketSettings, Pair, Part, PartSource, Parts, Settings,
 };
 pub use report::{Report, Reports};
 

@@ -1,5 +1,1 @@
 pub mod Naming
-pub mod Members
-pub mod Rising
-pub mod Intervals
-pub mod Items

@@ -1,10 +1,3 @@
 pub mod Pairs
 pub mod Parts
 pub mod Covering
-pub mod FieldNames
-pub mod NamedMembers
-pub mod ReadAttributes
-pub mod ReadStrategy
-pub mod ReadParts
-pub mod ReadBehaviors
-pub mod ReadSettings

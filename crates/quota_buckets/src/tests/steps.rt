@@ -1,7 +1,8 @@
 use crate::{
     AdvanceFault, Assigned, Attributes, BucketId, Buckets, Decided, NoBucket, Pair, Report,
-    Reports, Strategy, read_settings,
+    Reports, Strategy,
 };
+use quota_settings_json::read_settings;
 use rate_types::{Millis, Text};
 use std::alloc::Global;
 use std::process::Abort;

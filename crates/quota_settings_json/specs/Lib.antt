@@ -1,0 +1,7 @@
+pub mod FieldNames
+pub mod NamedMembers
+pub mod ReadAttributes
+pub mod ReadStrategy
+pub mod ReadParts
+pub mod ReadBehaviors
+pub mod ReadSettings

@@ -1,0 +1,93 @@
+ghost use Rattle.std.specs.Prelude.{◌≡◌, [], Some, unwrap_or};
+ghost use Rattle.serde_json.specs.View.{view};
+ghost use Rattle.proto_json.specs.Held.{object_of};
+ghost use Rattle.rate_types.specs.Reading.{AnswersReading};
+ghost use Rattle.proto_json.specs.Said.{reading_of};
+ghost use Rattle.quota_settings_json.specs.ReadSettings as reading;
+
+use crate::attributes::take_match;
+use crate::behaviors::{take_expiry, take_unassigned};
+use crate::expiry::Expiry;
+use crate::fields::take_reporting_interval;
+use crate::part_list::PartList;
+use crate::read_parts::take_builder;
+use quota_bucket::{AtExpiry, BucketRules, Strategy};
+use proto_json::{Fields, FormFault};
+use quota_settings::{Attributes, BucketSettings};
+use rate_types::{Millis, Place, Refused};
+use serde_json::Value;
+use std::alloc::Global;
+use std::num::NonZeroU64;
+
+// The milliseconds of an interval that isn't absent or 0.
+fn positive(interval: Option<Millis>) -> Option<NonZeroU64>
+    ensures { result ≡ reading.positive (unwrap_or interval 0) }
+{
+    match interval {
+        Some(millis) => NonZeroU64::new(millis.get()),
+        None => None,
+    }
+}
+
+// The settings of these values.
+#[tactic(auto, using(proto_json::specs::Laws::reading_then), unfolding(crate::specs::ReadSettings::bucket_rules, crate::specs::ReadSettings::few_parts, crate::specs::ReadStrategy::unless_zero))]
+fn bucket_of(
+    at: Place,
+    matches: Attributes,
+    parts: PartList,
+    interval: Option<Millis>,
+    unassigned: Strategy,
+    expiry: Expiry,
+) -> Result<BucketSettings, FormFault>
+    ensures { AnswersReading (λ s. Some s) result
+        (reading_of (reading.bucket_rules at matches parts (unwrap_or interval 0) unassigned expiry)) }
+{
+    let Some(reporting) = positive(interval) else {
+        return Err(FormFault::Refused(Refused { at, number: 31 }));
+    };
+    if parts.len() == 0 {
+        return Err(FormFault::Refused(Refused { at, number: 32 }));
+    }
+    if parts.len() > 32 {
+        return Err(FormFault::Refused(Refused { at, number: 37 }));
+    }
+    let rules = BucketRules {
+        reporting,
+        unassigned,
+        expired: expiry.behavior,
+        timeout: expiry.timeout,
+    };
+    Ok(BucketSettings::of(matches, parts.into_parts(), rules))
+}
+
+// The settings of one kind of bucket, of their fields.
+#[tactic(auto, using(proto_json::specs::Laws::reading_then), unfolding(crate::specs::ReadSettings::bucket_in))]
+fn bucket_in(alloc: Global, mut fields: Fields) -> Result<BucketSettings, FormFault>
+    ensures { AnswersReading (λ s. Some s) result (reading_of (reading.bucket_in (object_of fields))) }
+{
+    let matches = take_match(alloc, &mut fields)?;
+    let parts = take_builder(alloc, &mut fields)?;
+    let interval = take_reporting_interval(&mut fields)?;
+    let unassigned = take_unassigned(&mut fields)?;
+    let expiry = take_expiry(&mut fields)?;
+    let at = fields.end()?;
+    let matches = matches.unwrap_or(Attributes::sorted(Vec::new(alloc)));
+    let parts = parts.unwrap_or(PartList::none(alloc));
+    let unassigned = unassigned.unwrap_or(Strategy::AllowAll);
+    let expiry = expiry.unwrap_or(Expiry {
+        behavior: AtExpiry::Abandon,
+        timeout: None,
+    });
+    let bucket = bucket_of(at, matches, parts, interval, unassigned, expiry)?;
+    Ok(bucket)
+}
+
+/// Reads the settings of one kind of bucket.
+#[tactic(auto, using(proto_json::specs::Laws::reading_then), unfolding(proto_json::specs::Kinds::and_read))]
+pub fn read_bucket(alloc: Global, value: Value, at: Place) -> Result<BucketSettings, FormFault>
+    ensures { AnswersReading (λ s. Some s) result (reading_of (reading.bucket at (view value))) }
+{
+    let fields = Fields::of(value, at)?;
+    let bucket = bucket_in(alloc, fields)?;
+    Ok(bucket)
+}
