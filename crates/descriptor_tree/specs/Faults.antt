@@ -10,6 +10,7 @@ use Rattle.rate_types.specs.declared.refused.At.{At}
 use Rattle.descriptor_tree.specs.Trees.{NodeFields, DomainTree}
 use Rattle.descriptor_tree.specs.Nodes.{PlacedNode, tree_nodes}
 
+-- the text has no byte
 abbrev pub is_empty : List ℕ → Bool
 is_empty [] = true
 is_empty (x ∷ xs) = false
