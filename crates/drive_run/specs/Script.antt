@@ -15,6 +15,7 @@ abbrev pub unless_empty : List ℕ → List (List ℕ)
 unless_empty [] = []
 unless_empty (b ∷ bs) = (b ∷ bs) ∷ []
 
+-- the parts between line feeds are the lines, but for an empty last part
 abbrev pub lines_of_parts : List (List ℕ) → List (List ℕ)
 lines_of_parts [] = []
 lines_of_parts (x ∷ []) = unless_empty x
@@ -64,5 +65,6 @@ abbrev pub IsFlatLine : Line → Type 0
 IsFlatLine (Check request) = length request.descriptors ≡ 1
 IsFlatLine other = ⊤
 
+-- each check of these lines has one descriptor
 abbrev pub AreFlatLines : List Line → Type 0
 AreFlatLines lines = AllByRecursion IsFlatLine lines

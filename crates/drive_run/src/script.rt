@@ -7,13 +7,16 @@ use crate::reading::read_line;
 use rate_types::limits::MOST_LINES;
 use std::alloc::Global;
 use std::marker::Model;
+use thiserror::Error;
 
 /// Why a script isn't read.
-#[derive(Clone, Copy, Debug, PartialEq, Eq)]
+#[derive(Clone, Copy, Debug, PartialEq, Eq, Error)]
 pub enum ScriptFault {
     /// It has more than 1,048,576 lines; `lines` were seen.
+    #[error("more than {MOST_LINES} lines: {lines} were seen")]
     TooManyLines { lines: u64 },
     /// There was no memory to read the lines.
+    #[error("out of memory")]
     OutOfMemory,
 }
 

@@ -1,5 +1,6 @@
 -- What is told of bytes, and how a call changes it. None stands where nothing is told.
-use Rattle.std.specs.Prelude.{◌≡◌, ℕ, ◌==◌, ◌&&◌, List, [], ◌∷◌, ◌++◌, length, take, Bool, false, nat_lt, Option, None, Some, Result, Ok, Err, ⊤}
+use Rattle.std.specs.Prelude.{◌≡◌, ℕ, ◌==◌, ◌&&◌, List, [], ◌∷◌, ◌++◌, length, take, Bool, false, nat_lt, Option, None, Some, Result, Ok}
+use Rattle.std.specs.Prelude.{Err, ⊤}
 
 -- a fact about a content, where it is told
 abbrev pub Told : Option (List ℕ) → (List ℕ → Type 0) → Type 0

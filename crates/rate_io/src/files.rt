@@ -1,18 +1,22 @@
 ghost use Rattle.std.specs.Prelude.{◌≡◌, ◌≤◌, ◌<◌, Option, List, ℕ, length, IfOk, Err};
-ghost use Rattle.rate_io.specs.Causes.{Rose, counted};
+ghost use Rattle.rate_io.specs.Causes.{Rose, count_after};
 ghost use Rattle.rate_io.specs.Content.{Told};
 ghost use Rattle.rate_io.specs.declared.files.FileFault.TheVariants.{TooLong};
 
 use std::alloc::Global;
+use thiserror::Error;
 
 /// Why a file, or the bytes that a source has left, wasn't read whole.
-#[derive(Clone, Copy, Debug, PartialEq, Eq)]
+#[derive(Clone, Copy, Debug, PartialEq, Eq, Error)]
 pub enum FileFault {
     /// It couldn't be read, and the count of faults rose.
+    #[error("read failed")]
     Failed,
     /// It has more bytes than the limit; `read` bytes were seen.
+    #[error("too long: {read} bytes were seen")]
     TooLong { read: u64 },
     /// There was no memory for its bytes.
+    #[error("out of memory")]
     OutOfMemory,
 }
 
@@ -29,7 +33,7 @@ pub trait Files {
 
     /// The content of a file of at most `limit` bytes.
     fn read(&mut self, alloc: Global, name: &str, limit: u64) -> Result<Vec<u8>, FileFault>
-        ensures counts { calls self.new ≡ counted (calls self.old) 1 }
+        ensures counts { calls self.new ≡ count_after (calls self.old) 1 }
         ensures same { content self.new ≡ content self.old }
         ensures bytes { IfOk result (λ v. Told (content self.old name.now) (λ bytes. v.items ≡ bytes)) }
         ensures within { IfOk result (λ v. length v.items ≤ limit) }

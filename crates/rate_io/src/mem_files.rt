@@ -27,7 +27,8 @@ pub struct MemFiles {
 impl MemFiles {
     /// These files. It takes no memory.
     pub fn new(files: Vec<MemFile>, failing: Vec<u64>) -> MemFiles
-        ensures content { (name : List ℕ) → ⟦<MemFiles as Files>⟧.content result name ≡ option_map (λ f. f.content) (find (λ f. bytes_eq f.name name) files.items) }
+        ensures content { (name : List ℕ) → ⟦<MemFiles as Files>⟧.content result name
+            ≡ option_map (λ f. f.content) (find (λ f. bytes_eq f.name name) files.items) }
         ensures calls { ⟦<MemFiles as Files>⟧.calls result ≡ 0 }
         ensures faults { ⟦<MemFiles as Files>⟧.faults result ≡ 0 }
     {

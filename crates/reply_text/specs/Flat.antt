@@ -28,6 +28,7 @@ abbrev pub the_one : Items → Option Data
 the_one (item e no_items) = Some e
 the_one other = None
 
+-- the value in a JSON array of one
 abbrev pub only_item : Data → Option Data
 only_item d = option_and_then the_one (as_array d)
 

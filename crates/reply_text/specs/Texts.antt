@@ -29,16 +29,19 @@ whole n = number (unsigned n)
 abbrev pub member_unless : Bool → List ℕ → Data → Members → Members
 member_unless b name value ms = if b then ms else member name value ms
 
+-- the name of a unit
 abbrev pub unit_name : Unit → List ℕ
 unit_name Second = codes "SECOND"
 unit_name Minute = codes "MINUTE"
 unit_name Hour = codes "HOUR"
 unit_name Day = codes "DAY"
 
+-- the name of a code
 abbrev pub code_name : Code → List ℕ
 code_name code.Ok = codes "OK"
 code_name OverLimit = codes "OVER_LIMIT"
 
+-- the overall code of a reply that is over, or is not
 abbrev pub overall_code : Bool → Code
 overall_code over = if over then OverLimit else code.Ok
 
@@ -70,6 +73,7 @@ count_data NoCount = null
 count_data (Before before) = object (member (codes "before") (whole before) no_members)
 count_data (Seen seen) = object (member (codes "seen") (whole seen) no_members)
 
+-- what each status found, in order
 unfoldable pub counts_data : List Status → Data
 counts_data statuses = array (items_of (map (λ s. count_data s.count) statuses))
 
@@ -86,14 +90,17 @@ full_data live held wanted = object (member (codes "held") (whole held) (member 
 abbrev pub by_worker : ℕ → ℕ → Members
 by_worker version worker = member (codes "version") (whole version) (member (codes "worker") (whole worker) no_members)
 
+-- the record of an answered check, from its counts and its reply
 unfoldable pub checked_line_data : ℕ → ℕ → ℕ → ℕ → Data → Data → Data
 checked_line_data line moment version worker counts reply = object (member (codes "counts") counts
     (member (codes "line") (whole line) (member (codes "moment") (whole moment) (member (codes "reply") reply (by_worker version worker)))))
 
+-- the record of a tick
 unfoldable pub ticked_line_data : ℕ → ℕ → ℕ → ℕ → ℕ → Data
 ticked_line_data line moment version worker ticked = object (member (codes "line") (whole line) (member (codes "moment") (whole moment)
     (member (codes "ticked") (whole ticked) (by_worker version worker))))
 
+-- the record of a refused line, from the reason
 unfoldable pub refused_line_data : ℕ → ℕ → ℕ → ℕ → Data → Data
 refused_line_data line moment version worker why = object (member (codes "line") (whole line) (member (codes "moment") (whole moment)
     (member (codes "refused") why (by_worker version worker))))
@@ -106,12 +113,15 @@ outcome_data line moment version worker (Ticked ticked) = ticked_line_data line 
 outcome_data line moment version worker (Bad refused) = refused_line_data line moment version worker (refused_data refused)
 outcome_data line moment version worker (Full live held wanted) = refused_line_data line moment version worker (full_data live held wanted)
 
+-- a record, by its line, its moment, its version and its worker
 unfoldable pub record_data : Shown → Data
 record_data r = outcome_data r.line r.moment r.version r.worker r.outcome
 
+-- an entry: its key and its value
 unfoldable pub entry_data : Entry → Data
 entry_data e = object (member (codes "key") (string e.key) (member (codes "value") (string e.value) no_members))
 
+-- a counter: its domain, its entries, the start of its window and its unit
 unfoldable pub counter_data : CounterKey → Data
 counter_data c = object
     (member (codes "domain") (string c.name.domain) (member (codes "entries") (array (items_of (map entry_data c.name.entries)))
@@ -121,12 +131,14 @@ counter_data c = object
 unfoldable pub total_data : Total → Data
 total_data t = object (member (codes "charged") (whole t.charged) (member (codes "counter") (counter_data t.key) no_members))
 
--- the texts
+-- the text of a reply
 abbrev pub reply_text_of : Answer → List ℕ
 reply_text_of answer = compact_text (reply_data answer)
 
+-- the text of a record
 abbrev pub record_text_of : Shown → List ℕ
 record_text_of r = compact_text (record_data r)
 
+-- the text of a total
 abbrev pub total_text_of : Total → List ℕ
 total_text_of t = compact_text (total_data t)

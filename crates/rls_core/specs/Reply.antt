@@ -27,6 +27,7 @@ hits_of request descriptor = unwrap_or descriptor.hits request.hits
 abbrev pub found_for : List FlatConfig → RequestParts → Descriptor → Found
 found_for config request descriptor = rule_of config request.domain descriptor
 
+-- the code is OVER_LIMIT
 abbrev pub is_over_limit : Code → Bool
 is_over_limit OverLimit = true
 is_over_limit code.Ok = false

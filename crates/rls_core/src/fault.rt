@@ -1,10 +1,12 @@
 use rate_types::{OutOfMemory, Seconds};
+use thiserror::Error;
 
 /// Why a check isn't answered. Nothing is charged then.
-#[derive(Clone, Copy, Debug, PartialEq, Eq)]
+#[derive(Clone, Copy, Debug, PartialEq, Eq, Error)]
 pub enum CheckFault {
     /// There is no cell for the counters of the check: at `moment`, `live` counters have cells whose windows aren't
     /// over, `held` cells are held by others, and `wanted` counters of the check have none.
+    #[error("counters full: {live} have cells, {held} cells are held and {wanted} counters have none")]
     CountersFull {
         moment: Seconds,
         live: u32,
@@ -12,11 +14,13 @@ pub enum CheckFault {
         wanted: u32,
     },
     /// `claims` counters were given cells, and `wanted` more are above what the limiter was made for.
+    #[error("claims spent: {claims} counters were given cells and {wanted} have none")]
     ClaimsSpent {
         claims: u64,
         wanted: u32,
     },
     /// There was no memory for the check.
+    #[error("out of memory")]
     OutOfMemory,
 }
 

@@ -18,3 +18,6 @@ pub use reply::Reply;
 pub use rule_lookup::{FlatConfig, FlatConfigs, FlatRule, FlatRules};
 pub use status::{Code, Count, Status, status_for};
 pub use totals::{Total, Totals};
+
+#[cfg(test)]
+mod tests;

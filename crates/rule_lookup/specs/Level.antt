@@ -7,6 +7,7 @@ use Rattle.rule_lookup.specs.declared.flat.FlatRule.{FlatRule}
 use Rattle.rule_lookup.specs.declared.found.Found.{Found}
 use Rattle.rule_lookup.specs.Rule.{has_value, has_key_alone, limit_of}
 
+-- the maps find what the first such node of the rules says
 pub record Indexes (rules : List FlatRule) (valued : BTreeMap Entry Found) (alone : BTreeMap (List ℕ) Found) : Type 0 where
   pub values : (entry : Entry) → get entry_cmp valued entry ≡ option_map limit_of (find (has_value entry) rules)
   pub keys : (entry : Entry) → get text_cmp alone entry.key ≡ option_map limit_of (find (has_key_alone entry) rules)

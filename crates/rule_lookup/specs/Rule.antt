@@ -9,10 +9,12 @@ use Rattle.rule_lookup.specs.declared.flat.FlatConfig.{FlatConfig}
 use Rattle.rule_lookup.specs.declared.found.Found.{Found}
 use Rattle.rule_lookup.specs.declared.found.Found.TheVariants.{NoRule, Limited}
 
+-- the value is there, and it is this text
 abbrev pub is_this : Option (List ℕ) → List ℕ → Bool
 is_this None text = false
 is_this (Some value) text = same_text value text
 
+-- no value is there
 abbrev pub is_absent : Option (List ℕ) → Bool
 is_absent None = true
 is_absent (Some value) = false
@@ -29,6 +31,7 @@ has_key_alone entry rule = same_text rule.key entry.key && is_absent rule.value
 abbrev pub limit_of : FlatRule → Found
 limit_of rule = Limited rule.limit rule.unit false (Some rule.rule)
 
+-- what this node says, or the other where there is no node
 abbrev pub first_found : Option FlatRule → Found → Found
 first_found None other = other
 first_found (Some rule) other = limit_of rule
