@@ -1,5 +1,6 @@
 -- The walk over the nodes of a level: the rules so far before those of the nodes that are left are those of the level.
-use Rattle.std.proofs.Common.{◌≡◌, ℕ, suc, ◌+◌, ◌≤◌, ◌<◌, List, [], ◌∷◌, ◌++◌, length, map, drop, get_or, false, Option, Some, None, option_map, refl, sym, ap, ◌∙◌, add-one, append_assoc, append-nil, arith}
+use Rattle.std.proofs.Common.{◌≡◌, ℕ, suc, ◌+◌, ◌≤◌, ◌<◌, List, [], ◌∷◌, ◌++◌, length, map, drop, get_or, false, Option, Some, None, option_map, refl, sym, ap, ◌∙◌, add-one}
+use Rattle.std.proofs.Common.{append_assoc, append-nil, arith}
 use Rattle.std.proofs.Math.Seq.{drop-cons}
 use Rattle.std.proofs.lemmas.List.{drop_all}
 use Rattle.descriptor_tree.specs.declared.node.Node.{Node}
@@ -33,7 +34,8 @@ level_starts number all = record {
 
 -- what is left, with its first node apart
 walked_node : (number : ℕ) (all : List Node) (i : ℕ) (made : List FlatRule) (node : Node) → LevelWalked number all i made → i < length all → node ≡ get_or all i node
-    → behind made (before (rule_of (number + i) (node_view node)) (rules_of (number + i + 1) (branches_of (map node_view (drop (i + 1) all))))) ≡ rules_of number (branches_of (map node_view all))
+    → behind made (before (rule_of (number + i) (node_view node)) (rules_of (number + i + 1) (branches_of (map node_view (drop (i + 1) all)))))
+    ≡ rules_of number (branches_of (map node_view all))
 walked_node number all i made node w within is =
     let rest : drop i all ≡ node ∷ drop (i + 1) all = rw (add-one i) (drop-cons all i node within ∙ ap (λ (x : Node). x ∷ drop (suc i) all) (sym is)) in
     ap (λ (ns : List Node). behind made (rules_of (number + i) (branches_of (map node_view ns)))) (sym rest) ∙ w.answer
@@ -43,7 +45,8 @@ behind-before made rule None = refl
 behind-before made rule (Some rules) = ap Some (append_assoc made (rule ∷ []) rules)
 
 -- the node at hand is flat
-pub level_goes_on : (number : ℕ) (all : List Node) (i : ℕ) (made : List FlatRule) (node : Node) (rule : FlatRule) → LevelWalked number all i made → i < length all → node ≡ get_or all i node
+pub level_goes_on : (number : ℕ) (all : List Node) (i : ℕ) (made : List FlatRule) (node : Node) (rule : FlatRule) → LevelWalked number all i made → i < length all
+    → node ≡ get_or all i node
     → Some rule ≡ rule_of (number + i) (node_view node) → LevelWalked number all (i + 1) (made ++ rule ∷ [])
 level_goes_on number all i made node rule w within at is = record {
   answer = ap (λ n. behind (made ++ rule ∷ []) (rules_of n rest)) same
@@ -66,7 +69,8 @@ level_stops number all i made node w within at is =
     ∙ walked_node number all i made node w within at
 
 -- no node is left
-pub level_ends : (number : ℕ) (all : List Node) (i : ℕ) (made : List FlatRule) → LevelWalked number all i made → length all ≤ i → Some made ≡ rules_of number (branches_of (map node_view all))
+pub level_ends : (number : ℕ) (all : List Node) (i : ℕ) (made : List FlatRule) → LevelWalked number all i made → length all ≤ i
+    → Some made ≡ rules_of number (branches_of (map node_view all))
 level_ends number all i made w over =
     ap Some (sym (append-nil made))
     ∙ ap (λ (ns : List Node). behind made (rules_of (number + i) (branches_of (map node_view ns)))) (sym (drop_all i all over))

@@ -1,5 +1,6 @@
 -- The flat form of a configuration's trees: for each tree its domain, and a rule for each node of its only level.
-use Rattle.std.specs.Prelude.{ℕ, ◌+◌, ◌==◌, ◌&&◌, List, [], ◌∷◌, length, codes, Bool, true, false, not, if◌then◌else◌, Option, None, Some, Result, Ok, Err}
+use Rattle.std.specs.Prelude.{ℕ, ◌+◌, ◌==◌, ◌&&◌, List, [], ◌∷◌, length, codes, Bool, true, false, not, if◌then◌else◌, Option, None, Some}
+use Rattle.std.specs.Prelude.{Result, Ok, Err}
 use Rattle.std.specs.List.{ends_with}
 use Rattle.std.specs.Option.{is_none}
 use Rattle.descriptor_tree.specs.declared.policy.Policy.{Policy}
@@ -28,7 +29,8 @@ is_plain node below = not node.shadow && is_none node.name && (length node.repla
 abbrev pub limit_rule : ℕ → NodeFields → Option Policy → Option FlatRule
 limit_rule number node None = None
 limit_rule number node (Some Unlimited) = None
-limit_rule number node (Some (Limited limit unit)) = Some (record { key = node.key; value = node.value; limit = limit; unit = unit; rule = record { 0 = number } })
+limit_rule number node (Some (Limited limit unit)) =
+    Some (record { key = node.key; value = node.value; limit = limit; unit = unit; rule = record { 0 = number } })
 
 -- the rule of a node of this number, where the node is flat: it is plain and has a limit
 abbrev pub rule_of : ℕ → Branch → Option FlatRule
@@ -54,7 +56,8 @@ tree_before index domain (Some rules) (Ok more) = Ok (record { domain = domain; 
 -- the flat form of trees from this index on, the first of their nodes having this number
 abbrev pub flat_from : ℕ → ℕ → List DomainTree → Result (List FlatConfig) NotFlat
 flat_from index number [] = Ok []
-flat_from index number (tree ∷ more) = tree_before index tree.domain (rules_of number tree.forest) (flat_from (index + 1) (number + length (tree_nodes tree)) more)
+flat_from index number (tree ∷ more) =
+    tree_before index tree.domain (rules_of number tree.forest) (flat_from (index + 1) (number + length (tree_nodes tree)) more)
 
 -- The flat form of a configuration's trees, or the index of the first tree with a node that isn't flat. A rule's number
 -- is its node's place among the nodes of all trees in preorder.

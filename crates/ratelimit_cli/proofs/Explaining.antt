@@ -9,7 +9,8 @@ use Rattle.ratelimit_cli.specs.Parts.{IsOfFiles, IsOfInput, IsOfOutput, Wrote}
 use Rattle.ratelimit_cli.specs.declared.exit.Exit.{Exit}
 use Rattle.ratelimit_cli.specs.declared.exit.Exit.TheVariants.{Done, Usage, ConfigRefused, TooLong, ReadFault, WriteFault, FileFault, OutOfMemory}
 
-pub explain_files : (w : World) (names : List (List ℕ)) → command_of w.words ≡ Some names → NothingWritten w → (e : Exit) → IsOfFiles w.content names w.file_calls w.file_faults e → Explains e w
+pub explain_files : (w : World) (names : List (List ℕ)) → command_of w.words ≡ Some names → NothingWritten w → (e : Exit) → IsOfFiles w.content names w.file_calls w.file_faults e
+    → Explains e w
 explain_files w names is none TooLong h = (inl (record { names = names; command = is; name = h.name; index = h.index; named = h.named; long = h.long }), none)
 explain_files w names is none (FileFault index) h = ((names, is, h), none)
 explain_files w names is none OutOfMemory h = ((names, is), none)

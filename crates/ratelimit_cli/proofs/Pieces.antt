@@ -34,12 +34,14 @@ concat_append [] qs = refl
 concat_append (p ∷ ps) qs = ap (λ l. p ++ l) (concat_append ps qs) ∙ sym (append_assoc p (concat ps) (concat qs))
 
 -- a line that was written in part
-pub front_of : (a b c : Option (List ℕ)) (before : List (List ℕ)) (p : List ℕ) (after : List (List ℕ)) → Appends a b (concat before) → AppendsPart b c p → AppendsFront a c (concat (before ++ p ∷ after))
+pub front_of : (a b c : Option (List ℕ)) (before : List (List ℕ)) (p : List ℕ) (after : List (List ℕ)) → Appends a b (concat before) → AppendsPart b c p
+    → AppendsFront a c (concat (before ++ p ∷ after))
 front_of a b c before p after so_far part = (
   concat before ++ take part.0 p,
   drop part.0 p ++ concat after,
   concat_append before (p ∷ after) ∙ ap (λ l. concat before ++ (l ++ concat after)) (sym (take-append-drop part.0 p))
-      ∙ ap (λ l. concat before ++ l) (append_assoc (take part.0 p) (drop part.0 p) (concat after)) ∙ sym (append_assoc (concat before) (take part.0 p) (drop part.0 p ++ concat after)),
+      ∙ ap (λ l. concat before ++ l) (append_assoc (take part.0 p) (drop part.0 p) (concat after))
+      ∙ sym (append_assoc (concat before) (take part.0 p) (drop part.0 p ++ concat after)),
   appends_more a b c (concat before) (take part.0 p) so_far part.1,
 )
 

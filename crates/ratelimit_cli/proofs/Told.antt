@@ -1,6 +1,7 @@
 -- Facts about told contents, and the bytes of several files.
 use Rattle.std.proofs.Common.{◌≡◌, ℕ, ◌≤◌, List, [], ◌∷◌, ◌++◌, length, Option, Some, None, ◌+◌, arith}
-use Rattle.rate_io.specs.Causes.{counted}
+use Rattle.rate_types.specs.declared.limits.TheConstants.{MOST_BYTES}
+use Rattle.rate_io.specs.Causes.{count_after}
 use Rattle.rate_io.specs.Content.{Told}
 use Rattle.ratelimit_cli.specs.Exits.{AreFilesOf}
 
@@ -17,7 +18,8 @@ pub told_all : (o : Option (List ℕ)) (P : List ℕ → Type 0) → ((bytes : L
 told_all None P f = tt
 told_all (Some bytes) P f = f bytes
 
-pub files_push : (content : List ℕ → Option (List ℕ)) (names files : List (List ℕ)) (name bytes : List ℕ) → AreFilesOf content names files → Told (content name) (λ told. bytes ≡ told) → length bytes ≤ 67108864
+pub files_push : (content : List ℕ → Option (List ℕ)) (names files : List (List ℕ)) (name bytes : List ℕ) → AreFilesOf content names files
+    → Told (content name) (λ told. bytes ≡ told) → length bytes ≤ MOST_BYTES
     → AreFilesOf content (names ++ name ∷ []) (files ++ bytes ∷ [])
 files_push content [] [] name bytes h is within = (is, within, tt)
 files_push content [] (b ∷ files) name bytes h is within = absurd h
@@ -25,5 +27,5 @@ files_push content (n ∷ names) [] name bytes h is within = absurd h
 files_push content (n ∷ names) (b ∷ files) name bytes h is within = (h.0, h.1, files_push content names files name bytes h.2 is within)
 
 -- one more after so many
-pub counted_more : (before more now next : ℕ) → now ≡ counted before more → next ≡ counted now 1 → next ≡ counted before (more + 1)
-counted_more before more now next is then = omega (arith, is, then)
+pub count_more : (before more now next : ℕ) → now ≡ count_after before more → next ≡ count_after now 1 → next ≡ count_after before (more + 1)
+count_more before more now next is then = omega (arith, is, then)

@@ -13,6 +13,7 @@ abbrev pub or_not_built : Result (List FlatConfig) NotFlat → Result (List Flat
 or_not_built (Ok configs) = Ok configs
 or_not_built (Err fault) = Err (record { file = fault.tree; refused = record { at = []; number = NOT_BUILT } })
 
+-- the flat trees of a reading, or its refusal
 abbrev pub flat_or_first : Result (List DomainTree) At → Result (List FlatConfig) At
 flat_or_first (Ok trees) = or_not_built (flat_of trees)
 flat_or_first (Err at) = Err at

@@ -1,9 +1,11 @@
 -- What each exit of the program says.
-use Rattle.std.specs.Prelude.{◌≡◌, ℕ, ◌+◌, ◌<◌, ◌≤◌, ◌⊎◌, List, [], ◌∷◌, length, take, Bool, true, Option, None, Some, slice_get, Result, Ok, Err, ⊤}
+use Rattle.std.specs.Prelude.{◌≡◌, ℕ, ◌+◌, ◌<◌, ◌≤◌, ◌⊎◌, List, [], ◌∷◌, length, take, Bool, true, Option, None, Some, slice_get, Result}
+use Rattle.std.specs.Prelude.{Ok, Err, ⊤}
 use Rattle.std.specs.List.{concat}
 use Rattle.std.specs.Io.KnownBytes.{IsAtEnd}
 use Rattle.rate_types.specs.declared.refused.At.{At}
-use Rattle.rate_io.specs.Causes.{Rose, counted}
+use Rattle.rate_types.specs.declared.limits.TheConstants.{MOST_BYTES, MOST_LINES, DEFAULT_CELLS}
+use Rattle.rate_io.specs.Causes.{Rose, count_after}
 use Rattle.rate_io.specs.Content.{Told, Appends}
 use Rattle.rule_lookup.specs.declared.flat.FlatConfig.{FlatConfig}
 use Rattle.rls_core.specs.declared.totals.Total.{Total}
@@ -16,7 +18,8 @@ use Rattle.ratelimit_cli.specs.Output.{lines_of, AddsPieces, AppendsFront}
 use Rattle.ratelimit_cli.specs.Words.{command_of}
 use Rattle.ratelimit_cli.specs.Configs.{configuration_of}
 use Rattle.ratelimit_cli.specs.declared.exit.Exit.{Exit}
-use Rattle.ratelimit_cli.specs.declared.exit.Exit.TheVariants.{Done, Usage, ConfigRefused, TooLong, ReadFault, WriteFault, FileFault, OutOfMemory}
+use Rattle.ratelimit_cli.specs.declared.exit.Exit.TheVariants.{Done, Usage, ConfigRefused, TooLong, ReadFault, WriteFault, FileFault}
+use Rattle.ratelimit_cli.specs.declared.exit.Exit.TheVariants.{OutOfMemory}
 
 -- What the call found and left: the words, what is told of files, source and sink before and after it, whether a read
 -- has answered the end, and the counts of faults, and of the reads asked of the files, before and after.
@@ -38,9 +41,9 @@ pub record World : Type 0 where
 -- these are the bytes of the files of these names, each of at most 67,108,864 bytes
 abbrev pub AreFilesOf : (List ℕ → Option (List ℕ)) → List (List ℕ) → List (List ℕ) → Type 0
 AreFilesOf content [] [] = ⊤
-AreFilesOf content (name ∷ names) (bytes ∷ files) = Told (content name) (λ told. bytes ≡ told) × (length bytes ≤ 67108864) × AreFilesOf content names files
-AreFilesOf content [] (bytes ∷ files) = ⊥
-AreFilesOf content (name ∷ names) [] = ⊥
+AreFilesOf content (name ∷ names) (bytes ∷ files) =
+    Told (content name) (λ told. bytes ≡ told) × (length bytes ≤ MOST_BYTES) × AreFilesOf content names files
+AreFilesOf content names files = ⊥
 
 -- all files were read, and this is the configuration that they spell, or their first refusal
 pub record FilesSay (w : World) (reading : Result (List FlatConfig) At) : Type 0 where
@@ -55,7 +58,7 @@ pub record FailsAt (content : List ℕ → Option (List ℕ)) (names : List (Lis
   pub within : index < length names
   pub files : List (List ℕ)
   pub earlier : AreFilesOf content (take index names) files
-  pub asked : calls.1 ≡ counted calls.0 (index + 1)
+  pub asked : calls.1 ≡ count_after calls.0 (index + 1)
   pub rose : Rose faults.0 faults.1
 
 -- a file has more than 67,108,864 bytes
@@ -65,15 +68,16 @@ pub record HasLongFile (w : World) : Type 0 where
   pub name : List ℕ
   pub index : ℕ
   pub named : slice_get names index ≡ Some name
-  pub long : Told (w.content name) (λ bytes. 67108864 < length bytes)
+  pub long : Told (w.content name) (λ bytes. MOST_BYTES < length bytes)
 
 -- the input has more bytes, or its script has more lines, than may be
 abbrev pub IsTooLong : List ℕ → Type 0
-IsTooLong bytes = (67108864 < length bytes) ⊎ (1048576 < length (cut bytes))
+IsTooLong bytes = (MOST_BYTES < length bytes) ⊎ (MOST_LINES < length (cut bytes))
 
 -- the lines of the input, which isn't too long
 abbrev pub IsInput : World → List Line → Type 0
-IsInput w lines = Told w.left (λ bytes. lines ≡ script_of bytes) × Told w.left (λ bytes. length bytes ≤ 67108864) × (length lines ≤ 1048576)
+IsInput w lines = Told w.left (λ bytes. lines ≡ script_of bytes) × Told w.left (λ bytes. length bytes ≤ MOST_BYTES)
+    × (length lines ≤ MOST_LINES)
 
 -- a lawful run of the input by the configuration, with 262,144 cells from moment 0, and its totals
 pub record HasRun (w : World) (records : List Record) (totals : List Total) : Type 0 where
@@ -81,7 +85,7 @@ pub record HasRun (w : World) (records : List Record) (totals : List Total) : Ty
   pub configuration : FilesSay w (Ok config)
   pub lines : List Line
   pub input : IsInput w lines
-  pub run : IsRun config 262144 0 lines records
+  pub run : IsRun config DEFAULT_CELLS 0 lines records
   pub sums : AreTotalsOf 0 lines records totals
 
 -- The source was read to its end, and the texts of a lawful run and of its totals were written, each line by one call,
@@ -101,6 +105,7 @@ pub record DrivesFront (w : World) : Type 0 where
   pub run : HasRun w records totals
   pub bytes : AppendsFront w.written w.after (concat (lines_of records totals))
 
+-- the sink has the bytes and the pieces that it had
 abbrev pub NothingWritten : World → Type 0
 NothingWritten w = (w.after ≡ w.written) × (w.more ≡ w.pieces)
 
@@ -124,9 +129,9 @@ exit_of (Err exit) = exit
 -- these are the bytes of the files of these names, all of which are told, each of at most 67,108,864 bytes
 abbrev pub AreToldFiles : (List ℕ → Option (List ℕ)) → List (List ℕ) → List (List ℕ) → Type 0
 AreToldFiles content [] [] = ⊤
-AreToldFiles content (name ∷ names) (bytes ∷ files) = (content name ≡ Some bytes) × (length bytes ≤ 67108864) × AreToldFiles content names files
-AreToldFiles content [] (bytes ∷ files) = ⊥
-AreToldFiles content (name ∷ names) [] = ⊥
+AreToldFiles content (name ∷ names) (bytes ∷ files) =
+    (content name ≡ Some bytes) × (length bytes ≤ MOST_BYTES) × AreToldFiles content names files
+AreToldFiles content names files = ⊥
 
 -- The words are a command, files and input are told and within the limits, the files spell a configuration, and no count
 -- of faults rose.
@@ -157,6 +162,6 @@ Explains (FileFault index) w = FileFails w index × NothingWritten w
 Explains OutOfMemory w = IsCommand w × NothingWritten w
 
 -- What the call answers: the exit's cause, and that it is Done, or want of memory, where there is no other cause.
-pub record Answers (exit : Exit) (w : World) : Type 0 where
+pub record IsExitOf (exit : Exit) (w : World) : Type 0 where
   pub cause : Explains exit w
   pub complete : HasNoCause w → (exit ≡ Done) ⊎ (exit ≡ OutOfMemory)

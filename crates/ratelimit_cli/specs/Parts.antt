@@ -1,7 +1,8 @@
--- What the parts of the top call answer: reading the files, the configuration and the input, and writing the output.
+-- Inside: what the parts of the top call answer: reading the files, the configuration and the input, and writing the output.
 use Rattle.std.specs.Prelude.{◌≡◌, ℕ, ◌<◌, List, length, Option, Some, slice_get, Result, Err, ⊤}
 use Rattle.std.specs.List.{concat}
 use Rattle.rate_types.specs.declared.refused.At.{At}
+use Rattle.rate_types.specs.declared.limits.TheConstants.{MOST_BYTES, DEFAULT_CELLS}
 use Rattle.rate_io.specs.Causes.{Rose}
 use Rattle.rate_io.specs.Content.{Told, Appends}
 use Rattle.rule_lookup.specs.declared.flat.FlatConfig.{FlatConfig}
@@ -13,47 +14,34 @@ use Rattle.drive_run.specs.Run.{IsRun}
 use Rattle.ratelimit_cli.specs.Output.{lines_of, AddsPieces, AppendsFront}
 use Rattle.ratelimit_cli.specs.Exits.{FailsAt, IsTooLong}
 use Rattle.ratelimit_cli.specs.declared.exit.Exit.{Exit}
-use Rattle.ratelimit_cli.specs.declared.exit.Exit.TheVariants.{Done, Usage, ConfigRefused, TooLong, ReadFault, WriteFault, FileFault, OutOfMemory}
+use Rattle.ratelimit_cli.specs.declared.exit.Exit.TheVariants.{Done, ConfigRefused, TooLong, ReadFault, WriteFault, FileFault, OutOfMemory}
 
 -- one of the files of these names has more than 67,108,864 bytes
 pub record HasLong (content : List ℕ → Option (List ℕ)) (names : List (List ℕ)) : Type 0 where
   pub name : List ℕ
   pub index : ℕ
   pub named : slice_get names index ≡ Some name
-  pub long : Told (content name) (λ bytes. 67108864 < length bytes)
+  pub long : Told (content name) (λ bytes. MOST_BYTES < length bytes)
 
 -- why the files of these names weren't read
 abbrev pub IsOfFiles : (List ℕ → Option (List ℕ)) → List (List ℕ) → ℕ × ℕ → ℕ × ℕ → Exit → Type 0
 IsOfFiles content names calls faults TooLong = HasLong content names
 IsOfFiles content names calls faults (FileFault index) = FailsAt content names calls faults index
 IsOfFiles content names calls faults OutOfMemory = ⊤
-IsOfFiles content names calls faults Done = ⊥
-IsOfFiles content names calls faults Usage = ⊥
-IsOfFiles content names calls faults (ConfigRefused at) = ⊥
-IsOfFiles content names calls faults ReadFault = ⊥
-IsOfFiles content names calls faults WriteFault = ⊥
+IsOfFiles content names calls faults other = ⊥
 
 -- why the files are no configuration
 abbrev pub IsOfConfig : Result (List FlatConfig) At → Exit → Type 0
 IsOfConfig reading (ConfigRefused at) = reading ≡ Err at
 IsOfConfig reading OutOfMemory = ⊤
-IsOfConfig reading Done = ⊥
-IsOfConfig reading Usage = ⊥
-IsOfConfig reading TooLong = ⊥
-IsOfConfig reading ReadFault = ⊥
-IsOfConfig reading WriteFault = ⊥
-IsOfConfig reading (FileFault index) = ⊥
+IsOfConfig reading other = ⊥
 
 -- why the input wasn't read
 abbrev pub IsOfInput : Option (List ℕ) → ℕ → ℕ → Exit → Type 0
 IsOfInput left before after TooLong = Told left IsTooLong
 IsOfInput left before after ReadFault = Rose before after
 IsOfInput left before after OutOfMemory = ⊤
-IsOfInput left before after Done = ⊥
-IsOfInput left before after Usage = ⊥
-IsOfInput left before after (ConfigRefused at) = ⊥
-IsOfInput left before after WriteFault = ⊥
-IsOfInput left before after (FileFault index) = ⊥
+IsOfInput left before after other = ⊥
 
 -- what a sink had and has: its bytes, its pieces and its count of faults
 pub record Wrote : Type 0 where
@@ -66,7 +54,7 @@ pub record Wrote : Type 0 where
 
 -- a lawful run of these lines, and its totals
 pub record AreOfRun (config : List FlatConfig) (lines : List Line) (records : List Record) (totals : List Total) : Type 0 where
-  pub run : IsRun config 262144 0 lines records
+  pub run : IsRun config DEFAULT_CELLS 0 lines records
   pub sums : AreTotalsOf 0 lines records totals
 
 -- the texts of such a run were written
@@ -89,8 +77,4 @@ abbrev pub IsOfOutput : List FlatConfig → List Line → Wrote → Exit → Typ
 IsOfOutput config lines s Done = Writes config lines s
 IsOfOutput config lines s WriteFault = WritesFront config lines s × Rose s.before_faults s.after_faults
 IsOfOutput config lines s OutOfMemory = (s.after ≡ s.written) × (s.more ≡ s.pieces)
-IsOfOutput config lines s Usage = ⊥
-IsOfOutput config lines s (ConfigRefused at) = ⊥
-IsOfOutput config lines s TooLong = ⊥
-IsOfOutput config lines s ReadFault = ⊥
-IsOfOutput config lines s (FileFault index) = ⊥
+IsOfOutput config lines s other = ⊥

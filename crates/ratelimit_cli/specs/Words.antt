@@ -10,6 +10,6 @@ is_name (b ∷ bs) = not (b == 45)
 
 -- the names of the configuration files, where the words are `drive` and one name or more
 abbrev pub command_of : List (List ℕ) → Option (List (List ℕ))
-command_of [] = None
-command_of (command ∷ []) = None
-command_of (command ∷ name ∷ more) = if bytes_eq command (codes "drive") && list_all is_name (name ∷ more) then Some (name ∷ more) else None
+command_of (command ∷ name ∷ more) =
+    if bytes_eq command (codes "drive") && list_all is_name (name ∷ more) then Some (name ∷ more) else None
+command_of words = None

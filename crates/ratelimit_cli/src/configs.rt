@@ -10,18 +10,17 @@ use config_json::read_config;
 use descriptor_tree::{Config, ConfigFault};
 use flat_config::{FlatFault, NotFlat, flatten};
 use rate_io::{FileFault, Files};
+use rate_types::limits::MOST_BYTES;
 use rate_types::refusals::NOT_BUILT;
 use rate_types::{At, Blob, Blobs, Place, Refused, Word};
 use rls_core::FlatConfigs;
 use std::alloc::Global;
 
-/// The most bytes that a file or the input may have.
-pub const MOST_BYTES: u64 = 67_108_864;
-
 /// The bytes of the files of these names, in order. The first that can't be read ends it.
 pub fn read_files<F: Files>(alloc: Global, files: &mut F, names: &[Word]) -> Result<Blobs, Exit>
     ensures contents { IfOk result (λ b. AreFilesOf (F.content files.old) names.now b) }
-    ensures fault { IfErr result (IsOfFiles (F.content files.old) names.now (F.calls files.old, F.calls files.new) (F.faults files.old, F.faults files.new)) }
+    ensures fault { IfErr result (IsOfFiles (F.content files.old) names.now
+        (F.calls files.old, F.calls files.new) (F.faults files.old, F.faults files.new)) }
 {
     let mut blobs = Vec::new(alloc);
     'names: for index in 0..names.len() {
@@ -38,7 +37,7 @@ pub fn read_files<F: Files>(alloc: Global, files: &mut F, names: &[Word]) -> Res
     Ok(Blobs::of(blobs))
 }
 
-// The flat trees of a configuration. The first tree that isn't flat is refused with 9 at the empty place.
+// The flat trees of a configuration. The first tree that isn't flat is refused as not built, at the empty place.
 fn flat_trees(alloc: Global, config: &Config) -> Result<FlatConfigs, Exit>
     ensures trees { IfOk result (λ c. flat_or_first (Ok (config_view config.now)) ≡ Ok c) }
     ensures fault { IfErr result (IsOfConfig (flat_or_first (Ok (config_view config.now)))) }

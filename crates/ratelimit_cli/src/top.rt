@@ -1,5 +1,5 @@
 ghost use Rattle.std.specs.Prelude.{◌≡◌};
-ghost use Rattle.ratelimit_cli.specs.Exits.{Explains, Answers, exit_of};
+ghost use Rattle.ratelimit_cli.specs.Exits.{Explains, IsExitOf, exit_of};
 ghost use Rattle.ratelimit_cli.specs.Parts.{IsOfOutput};
 
 use crate::Exit;
@@ -9,11 +9,10 @@ use crate::output::{all_lines, write_lines};
 use crate::words::command_of;
 use drive_run::{Script, drive_script};
 use rate_io::{Files, Sink, Source};
+use rate_types::limits::DEFAULT_CELLS;
 use rate_types::{Names, Seconds};
 use rls_core::FlatConfigs;
 use std::alloc::Global;
-
-const CELLS: u32 = 262_144;
 
 // Runs a script by a configuration, and writes the texts of its records and totals.
 fn run_and_write<K: Sink>(
@@ -31,7 +30,7 @@ fn run_and_write<K: Sink>(
       after_faults = K.faults sink.new;
     }) (exit_of result) }
 {
-    let Ok(driven) = drive_script(alloc, script, config, CELLS, Seconds::capped(0)) else {
+    let Ok(driven) = drive_script(alloc, script, config, DEFAULT_CELLS, Seconds::capped(0)) else {
         return Err(Exit::OutOfMemory);
     };
     let Ok(lines) = all_lines(alloc, driven.records.items(), driven.totals.items()) else {
@@ -97,7 +96,7 @@ pub fn ratelimit<F: Files, S: Source, K: Sink>(
     source: &mut S,
     sink: &mut K,
 ) -> Exit
-    ensures { Answers result (record {
+    ensures { IsExitOf result (record {
       words = words.now;
       content = F.content files.old;
       left = S.left source.old;

@@ -16,7 +16,8 @@ lines-preserved g c =
     let taken : take (c.lines.line-index + 1) c.args.lines.now ≡ take c.lines.line-index c.args.lines.now ++ c.line-item.result ∷ [] =
     take_more c.args.lines.now c.lines.line-index c.line-item.result (omega arith) ∙ ap (λ l. take c.lines.line-index c.args.lines.now ++ l ∷ []) (sym c.line-item.is) in
     let list : texts_of (take (c.lines.line-index + 1) c.args.lines.now) ≡ texts_of (take c.lines.line-index c.args.lines.now) ++ c.as_bytes.result.now ∷ [] =
-    ap texts_of taken ∙ pushed (take c.lines.line-index c.args.lines.now) c.line-item.result ∙ ap (λ b. texts_of (take c.lines.line-index c.args.lines.now) ++ b ∷ []) (sym c.as_bytes.ensures.value) in
+    ap texts_of taken ∙ pushed (take c.lines.line-index c.args.lines.now) c.line-item.result
+    ∙ ap (λ b. texts_of (take c.lines.line-index c.args.lines.now) ++ b ∷ []) (sym c.as_bytes.ensures.value) in
     record {
       bytes = rw (list, concat_push) (appends_more _ _ _ _ _ inv.bytes c.in-Ok.ensures.bytes);
       each = rw list (adds_more _ _ _ _ _ inv.each c.in-Ok.ensures.piece);
@@ -26,7 +27,9 @@ lines-preserved g c =
 pub returns-in_default-clause-part : goal.returns-in_default-clause-part
 returns-in_default-clause-part g c =
     let cut : texts_of c.args.lines.now ≡ texts_of (take c.lines.line-index c.args.lines.now) ++ c.as_bytes.result.now ∷ texts_of (drop (c.lines.line-index + 1) c.args.lines.now) =
-    ap texts_of (cut_list c.args.lines.now c.lines.line-index c.line-item.result (omega arith) ∙ ap (λ t. take c.lines.line-index c.args.lines.now ++ t ∷ drop (c.lines.line-index + 1) c.args.lines.now) (sym c.line-item.is))
+    ap texts_of (cut_list c.args.lines.now c.lines.line-index c.line-item.result (omega arith)
+    ∙ ap (λ t. take c.lines.line-index c.args.lines.now ++ t ∷ drop (c.lines.line-index + 1) c.args.lines.now) (sym c.line-item.is))
     ∙ map-append (λ (t : String Global). string_bytes t) (take c.lines.line-index c.args.lines.now) (c.line-item.result ∷ drop (c.lines.line-index + 1) c.args.lines.now)
     ∙ ap (λ b. texts_of (take c.lines.line-index c.args.lines.now) ++ b ∷ texts_of (drop (c.lines.line-index + 1) c.args.lines.now)) (sym c.as_bytes.ensures.value) in
-    rw cut (front_of _ _ _ (texts_of (take c.lines.line-index c.args.lines.now)) c.as_bytes.result.now (texts_of (drop (c.lines.line-index + 1) c.args.lines.now)) c.lines.invariant.bytes c.in_default.ensures.part)
+    rw cut (front_of _ _ _ (texts_of (take c.lines.line-index c.args.lines.now)) c.as_bytes.result.now (texts_of (drop (c.lines.line-index + 1) c.args.lines.now))
+    c.lines.invariant.bytes c.in_default.ensures.part)
