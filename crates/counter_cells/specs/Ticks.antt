@@ -1,5 +1,5 @@
 -- Where the moments of ticks come from.
-use Rattle.std.specs.Prelude.{◌≡◌, ℕ, ◌+◌, ◌≤◌, ◌⊎◌, ◌==◌, List, [], ◌∷◌, ◌++◌, if◌then◌else◌}
+use Rattle.std.specs.Prelude.{◌≡◌, ℕ, ◌≤◌, ◌⊎◌, ◌==◌, List, [], ◌∷◌, ◌++◌, if◌then◌else◌}
 use Rattle.counter_cells.specs.declared.view.Tick.{Tick}
 use Rattle.rate_types.specs.Sums.{total}
 use Rattle.counter_cells.specs.Views.{offered}

@@ -1,5 +1,5 @@
 -- Sums over a list, and places of a list.
-use Rattle.std.specs.Prelude.{◌≡◌, ℕ, zero, suc, ◌+◌, ◌≤◌, ◌<◌, ◌==◌, List, [], ◌∷◌, Bool, cond}
+use Rattle.std.specs.Prelude.{◌≡◌, ℕ, zero, suc, ◌≤◌, ◌<◌, List, [], ◌∷◌}
 
 -- the k numbers from n on
 abbrev pub count_from : ℕ → ℕ → List ℕ
