@@ -10,7 +10,8 @@ use Rattle.told_list.specs.declared.rule.TokenView.{TokenView}
 use Rattle.told_list.specs.declared.seen.Seen.{Seen}
 use Rattle.rate_types.specs.Sums.{times}
 use Rattle.told_list.specs.Rule.{joined}
-use Rattle.told_list.specs.Tokens.{view, known, JoinsTokens}
+use Rattle.told_list.specs.Tokens.{view, known}
+use Rattle.told_list.specs.Joins.{JoinsTokens}
 use Rattle.rate_types.proofs.Sums.{total_append}
 use Rattle.told_list.proofs.Sums.{times_append}
 

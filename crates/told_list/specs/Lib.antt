@@ -1,3 +1,4 @@
 pub mod Lists
 pub mod Rule
 pub mod Tokens
+pub mod Joins

@@ -1,11 +1,10 @@
 -- What contracts see of a list and of its tokens.
-use Rattle.std.specs.Prelude.{◌≡◌, ℕ, ◌+◌, ◌-◌, ◌≤◌, List, [], ◌++◌, length, map, false}
+use Rattle.std.specs.Prelude.{◌≡◌, ℕ, ◌+◌, ◌-◌, ◌≤◌, List, [], ◌++◌, length}
 use mathlib.Core.List.{IsPrefix}
 use Rattle.atomic_table.specs.Seated.{TableId}
 use Rattle.told_list.specs.declared.rule.TokenView.{TokenView}
 use Rattle.told_list.specs.declared.seen.Seen.{Seen}
 use Rattle.told_list.specs.declared.told.Told.{Told}
-use Rattle.rate_types.specs.Sums.{total, times}
 use Rattle.told_list.specs.Lists.{count_from}
 
 module _ {K T : Type 0} where
@@ -32,13 +31,6 @@ module _ {K T : Type 0} where
   -- the list that a token knows
   abbrev pub known : Seen K T → List T
   known seen = seen.seat.me.0.known
-
-  -- a view that stands for these tokens
-  pub record JoinsTokens (seats : List (Seen K T)) (v : TokenView T) : Type 0 where
-    pub tokens : v.tokens ≡ length seats
-    pub joined_lists : v.joined_lists ≡ map known seats
-    pub own : (p : ℕ) → times p v.own ≡ total (λ s. times p (view s).own) seats
-    pub rests : (v.holds ≡ false) × (v.unfilled ≡ false)
 
 module _ {T : Type 0} where
   -- a token that knows this list and has done nothing yet

@@ -1,7 +1,8 @@
 // How tokens are split off when a list is made, and joined when it is closed.
 ghost use Rattle.std.specs.Prelude.{◌≡◌, ◌-◌, ◌≤◌, [], length, false, All, IfOk, vec_len};
 ghost use Rattle.told_list.specs.Rule.{IsSeatOf, first_view, idle_view, IsIdle, IsLast};
-ghost use Rattle.told_list.specs.Tokens.{list_of, view, IsFresh, JoinsTokens};
+ghost use Rattle.told_list.specs.Tokens.{list_of, view, IsFresh};
+ghost use Rattle.told_list.specs.Joins.{JoinsTokens};
 
 use crate::kept::Kept;
 use crate::rule::{Enters, LENGTH, LOCK, TAKEN, TakesSlot, Tokens};

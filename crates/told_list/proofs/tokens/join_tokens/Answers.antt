@@ -1,5 +1,6 @@
 use Rattle.std.proofs.Common.{◌≡◌, ◌∙◌, [], ◌∷◌, ◌++◌, ap, sym, subst, arith, append_assoc}
-use Rattle.told_list.specs.Tokens.{list_of, JoinsTokens}
+use Rattle.told_list.specs.Tokens.{list_of}
+use Rattle.told_list.specs.Joins.{JoinsTokens}
 use Rattle.told_list.proofs.Steps.{enters, joins}
 use Rattle.told_list.proofs.Joining.{joins_more, all_next}
 use Rattle.told_list.proofs.tokens.join_tokens.Goals as goal

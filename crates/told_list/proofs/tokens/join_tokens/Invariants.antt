@@ -1,5 +1,5 @@
 use Rattle.std.proofs.Common.{◌≡◌, [], ◌++◌}
-use Rattle.told_list.specs.Tokens.{JoinsTokens}
+use Rattle.told_list.specs.Joins.{JoinsTokens}
 use Rattle.told_list.proofs.tokens.join_tokens.Given as goal
 
 abbrev pub invariant-loop-seen : goal.invariant-loop-seen
