@@ -1,22 +1,20 @@
 -- The meter answers as the whole list of requests does.
-use Rattle.std.proofs.Common.{◌≡◌, ℕ, ◌+◌, ◌-◌, ◌*◌, ◌/◌, ◌<◌, ◌≤◌, ◌==◌, ◌&&◌, Bool, true, false, List, [], ◌∷◌, refl, ap, arith, lit<, count_by, if◌then◌else◌, nat_lt}
-use Rattle.std.proofs.Common.{nat_le, inl, inr, sym, ◌∙◌}
+use Rattle.std.proofs.Common.{◌≡◌, ℕ, ◌+◌, ◌-◌, ◌*◌, ◌/◌, ◌<◌, ◌≤◌, ◌==◌, ◌&&◌, Bool, true, false, List, [], ◌∷◌, refl, ap, arith, lit<, if◌then◌else◌, nat_lt}
+use Rattle.std.proofs.Common.{inl, inr, sym, ◌∙◌}
 use Rattle.std.proofs.Math.Bool.{and-true}
 use Rattle.std.proofs.Math.Nat.{add_comm}
 use Rattle.std.proofs.lemmas.List.Sums.{sum_by-cons}
 use Rattle.std.proofs.Math.Nat.{div-mul-le_self}
 use Rattle.std.proofs.lemmas.Nat.{le-div}
 use Rattle.std.proofs.lemmas.Bool.{cases_eq, ne_eqb, eq-eqb, and_right}
-use Rattle.std.proofs.lemmas.Bool.Decides.{nat_tests}
-use Rattle.std.proofs.lemmas.Grind.{common_steps}
 use Rattle.rate_types.specs.declared.unit.Unit.{Unit}
 use Rattle.rate_types.specs.declared.unit.Unit.TheVariants.{Second, Minute, Hour, Day}
 use Rattle.quota_bucket.specs.declared.strategy.Strategy.{Strategy}
 use Rattle.quota_bucket.specs.declared.strategy.Strategy.TheVariants.{AllowAll, DenyAll, PerUnit, TokenBucket}
 use Rattle.quota_bucket.specs.declared.meter.Meter.TheVariants.{Counted}
 use Rattle.quota_bucket.specs.declared.meter.Verdict.{Verdict}
-use Rattle.quota_bucket.specs.Strategies.{Decision, allows, allowed_in, interval_at, tokens_before, millis_of}
-use Rattle.quota_bucket.specs.Meters.{judged, metered, tokens}
+use Rattle.quota_bucket.specs.Strategies.{Decision, allows, allowed_in, interval_at, millis_of}
+use Rattle.quota_bucket.specs.Meters.{judged, metered}
 use Rattle.quota_bucket.specs.State.{meter_of}
 use Rattle.quota_bucket.specs.TimeOrder.{Falls}
 

@@ -1,6 +1,6 @@
 -- Until a bucket is due, an advance changes nothing that is kept of it.
-use Rattle.std.proofs.Common.{◌≡◌, ℕ, ◌+◌, ◌-◌, ◌*◌, ◌/◌, ◌^◌, ◌<◌, ◌≤◌, ◌&&◌, ◌||◌, Bool, true, false, not, refl, arith, ap, sym, ◌∙◌, Some, None, Option, if◌then◌else◌}
-use Rattle.std.proofs.Common.{nat_lt, nat_le, min}
+use Rattle.std.proofs.Common.{◌≡◌, ℕ, ◌+◌, ◌-◌, ◌*◌, ◌/◌, ◌<◌, ◌≤◌, ◌&&◌, Bool, true, false, refl, arith, Some, None, Option, if◌then◌else◌}
+use Rattle.std.proofs.Common.{nat_le, min}
 use Rattle.std.proofs.lemmas.Bool.Decides.{nat_tests}
 use Rattle.std.proofs.lemmas.Nat.{div_below}
 use Rattle.std.proofs.Math.Nat.{add-mul}
@@ -10,12 +10,11 @@ use Rattle.quota_bucket.specs.declared.timed_phase.TimedPhase.{TimedPhase}
 use Rattle.quota_bucket.specs.declared.timed_phase.TimedPhase.TheVariants.{Gone, Unassigned, Live, Expired}
 use Rattle.quota_bucket.specs.declared.bucket_state.BucketState.{BucketState}
 use Rattle.quota_bucket.specs.declared.bucket_state.Advance.{Advance}
-use Rattle.quota_bucket.specs.declared.meter.Meter.TheVariants.{Fresh}
-use Rattle.quota_bucket.specs.History.{is_gone, after_advance, after_timeout, ended, begins_by_expiry}
-use Rattle.quota_bucket.specs.Reports.{next_report, outlives, erasure, reported_by_advance}
-use Rattle.quota_bucket.specs.Machine.{is_waiting, advanced, report_moment, advance_report, after_report}
+use Rattle.quota_bucket.specs.History.{is_gone, after_advance, ended, begins_by_expiry}
+use Rattle.quota_bucket.specs.Reports.{next_report}
+use Rattle.quota_bucket.specs.Machine.{is_waiting, report_moment}
 use Rattle.quota_bucket.proofs.Meters.{div-le}
-use Rattle.quota_bucket.specs.Due.{never, or_never, timeout_due, phase_due, report_due, due}
+use Rattle.quota_bucket.specs.Due.{never, timeout_due, phase_due, report_due, due, IsQuiet}
 
 -- what an advance before the next change of the phase leaves
 record PhaseStays (rules : BucketRules) (phase : TimedPhase) (to : ℕ) : Type 0 where
@@ -63,12 +62,8 @@ report_stays rules state advance lt =
     (not_both (is_waiting state) (next_report state.first rules.reporting.value advance.from) advance.to lt)
 
 -- a bucket that is there and isn't due stays as it is and sends nothing
-pub record Quiet (rules : BucketRules) (state : BucketState) (advance : Advance) : Type 0 where
-  pub same : advanced rules advance state ≡ state
-  pub silent : advance_report rules advance state ≡ None
-
 pub quiet : (rules : BucketRules) (state : BucketState) (advance : Advance) → is_gone state.phase ≡ false
-    → advance.to < due rules state advance.from → Quiet rules state advance
+    → advance.to < due rules state advance.from → IsQuiet rules state advance
 quiet rules state advance there lt =
     let phase = phase_stays rules state.phase advance.to (omega arith) in
     let silent : report_moment rules advance state ≡ None = report_stays rules state advance (omega arith) in

@@ -1,7 +1,6 @@
 -- Each step of the state is the event on the history.
-use Rattle.std.proofs.Common.{◌≡◌, ℕ, ◌+◌, ◌-◌, ◌*◌, ◌/◌, ◌<◌, ◌≤◌, ◌==◌, ◌&&◌, ◌||◌, ◌^◌, ◌⊎◌, inl, inr, Bool, true, false, not, List, [], ◌∷◌, refl, ap, sym, ◌∙◌}
-use Rattle.std.proofs.Common.{arith, lit<, count_by, min, if◌then◌else◌, nat_lt, nat_le, Some, None, Option, is_some, unwrap_or, option_map}
-use Rattle.std.proofs.lemmas.Bool.{cases_Bool, true≢false}
+use Rattle.std.proofs.Common.{◌≡◌, ℕ, ◌+◌, ◌-◌, ◌<◌, ◌≤◌, ◌&&◌, ◌||◌, ◌^◌, ◌⊎◌, inl, inr, Bool, true, false, not, List, [], ◌∷◌, refl, sym}
+use Rattle.std.proofs.Common.{arith, count_by, min, if◌then◌else◌, nat_lt, nat_le, Some, None, Option, is_some, unwrap_or, option_map}
 use Rattle.std.proofs.lemmas.Bool.Decides.{nat_tests}
 use Rattle.std.proofs.lemmas.List.Sums.{sum_by-cons}
 use Rattle.quota_bucket.specs.declared.strategy.Strategy.{Strategy}
@@ -14,18 +13,15 @@ use Rattle.quota_bucket.specs.declared.timed_phase.TimedPhase.TheVariants.{Gone,
 use Rattle.quota_bucket.specs.declared.meter.Meter.{Meter}
 use Rattle.quota_bucket.specs.declared.meter.Meter.TheVariants.{Fresh}
 use Rattle.quota_bucket.specs.declared.bucket_state.BucketState.{BucketState}
-use Rattle.quota_bucket.specs.declared.bucket_state.Usage.{Usage}
 use Rattle.quota_bucket.specs.declared.bucket_state.Asked.{Asked}
-use Rattle.quota_bucket.specs.declared.bucket_state.Advance.{Advance as AdvanceOf}
-use Rattle.quota_bucket.specs.Strategies.{Decision, allows, same_strategy}
+use Rattle.quota_bucket.specs.Strategies.{Decision, allows}
 use Rattle.quota_bucket.specs.History.{Event}
 use Rattle.quota_bucket.specs.History.{Advance, Request, Assignment, Abandonment}
-use Rattle.quota_bucket.specs.History.{moment_of, phase_after, decided, is_allowed, is_gone, after_advance, after_expiry, after_timeout, ended, at_expiry, has_fallback}
+use Rattle.quota_bucket.specs.History.{moment_of, phase_after, decided, is_allowed, is_gone, after_advance, after_timeout, ended, at_expiry, has_fallback}
 use Rattle.quota_bucket.specs.History.{after_request, after_assignment, renewed, begins, begins_by_expiry, begins_by_assignment, with_event, strategy_in, effect_in}
-use Rattle.quota_bucket.specs.Reports.{unreported, first_at, last_report, shown, waits, present, reported_by_advance, report_of_advance, report_of_request}
-use Rattle.quota_bucket.specs.Meters.{judged}
+use Rattle.quota_bucket.specs.Reports.{unreported, first_at, last_report, shown, waits, present, report_of_advance, report_of_request}
 use Rattle.quota_bucket.specs.State.{meter_of, state_from, state_after}
-use Rattle.quota_bucket.specs.Machine.{advanced, advance_report, report_moment, after_report, asked, assigned, one_if}
+use Rattle.quota_bucket.specs.Machine.{advanced, advance_report, after_report, asked, assigned, one_if}
 use Rattle.quota_bucket.specs.TimeOrder.{Falls, IsInOrder}
 use Rattle.quota_bucket.proofs.Meters.{judged-meter_of}
 

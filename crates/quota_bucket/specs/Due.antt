@@ -1,11 +1,12 @@
 -- When a bucket next wants work: until then an advance changes nothing that is kept of it.
-use Rattle.std.specs.Prelude.{ℕ, ◌+◌, ◌-◌, ◌^◌, Bool, true, false, min, if◌then◌else◌, Some, None, Option}
+use Rattle.std.specs.Prelude.{◌≡◌, ℕ, ◌+◌, ◌-◌, ◌^◌, min, if◌then◌else◌, Some, None, Option}
 use Rattle.quota_bucket.specs.Reports.{next_report}
-use Rattle.quota_bucket.specs.Machine.{is_waiting}
+use Rattle.quota_bucket.specs.Machine.{is_waiting, advanced, advance_report}
+use Rattle.quota_bucket.specs.declared.bucket_state.Advance.{Advance}
 use Rattle.quota_bucket.specs.declared.rules.BucketRules.{BucketRules}
 use Rattle.quota_bucket.specs.declared.bucket_state.BucketState.{BucketState}
 use Rattle.quota_bucket.specs.declared.timed_phase.TimedPhase.{TimedPhase}
-use Rattle.quota_bucket.specs.declared.timed_phase.TimedPhase.TheVariants.{Gone, Unassigned, Live, Expired}
+use Rattle.quota_bucket.specs.declared.timed_phase.TimedPhase.TheVariants.{Live, Expired}
 
 -- a moment that no advance reaches
 abbrev pub never : ℕ
@@ -35,3 +36,8 @@ report_due rules state time =
 -- the first moment at which an advance changes something
 abbrev pub due : BucketRules → BucketState → ℕ → ℕ
 due rules state time = min (phase_due rules state.phase) (report_due rules state time)
+
+-- an advance leaves a state as it is and sends no report of it
+pub record IsQuiet (rules : BucketRules) (state : BucketState) (advance : Advance) : Type 0 where
+  pub same : advanced rules advance state ≡ state
+  pub silent : advance_report rules advance state ≡ None

@@ -1,9 +1,9 @@
 -- What happened to a bucket, the latest event first, and its phase and decisions after that.
-use Rattle.std.specs.Prelude.{◌==◌, ℕ, ◌+◌, ◌&&◌, Bool, true, false, not, List, [], ◌∷◌, nat_le, if◌then◌else◌, Some, None}
+use Rattle.std.specs.Prelude.{ℕ, ◌+◌, ◌&&◌, Bool, true, false, not, List, [], ◌∷◌, nat_le, if◌then◌else◌, Some, None}
 use Rattle.std.specs.Prelude.{Option, option_map}
 use Rattle.quota_bucket.specs.Strategies.{Decision, allows, same_strategy}
 use Rattle.quota_bucket.specs.declared.strategy.Strategy.{Strategy}
-use Rattle.quota_bucket.specs.declared.strategy.Strategy.TheVariants.{AllowAll, DenyAll, PerUnit, TokenBucket}
+use Rattle.quota_bucket.specs.declared.strategy.Strategy.TheVariants.{AllowAll}
 use Rattle.quota_bucket.specs.declared.rules.BucketRules.{BucketRules}
 use Rattle.quota_bucket.specs.declared.rules.AtExpiry.{AtExpiry}
 use Rattle.quota_bucket.specs.declared.rules.AtExpiry.TheVariants.{Abandon, Fallback, Reuse}

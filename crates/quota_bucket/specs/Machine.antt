@@ -1,5 +1,5 @@
 -- What each step makes of the state of a bucket.
-use Rattle.std.specs.Prelude.{ℕ, ◌+◌, ◌-◌, ◌^◌, ◌&&◌, ◌||◌, Bool, true, false, not, min, nat_lt, nat_le, if◌then◌else◌, Some}
+use Rattle.std.specs.Prelude.{ℕ, ◌+◌, ◌-◌, ◌||◌, Bool, not, nat_lt, if◌then◌else◌, Some}
 use Rattle.std.specs.Prelude.{None, Option, option_map}
 use Rattle.quota_bucket.specs.History.{after_advance, after_request, after_assignment, begins_by_expiry, begins_by_assignment}
 use Rattle.quota_bucket.specs.History.{strategy_in, effect_in, is_gone}

@@ -1,5 +1,5 @@
 -- How a request is decided by the meter of the requests before it.
-use Rattle.std.specs.Prelude.{◌==◌, ℕ, ◌+◌, ◌-◌, ◌*◌, ◌/◌, Bool, true, false, min, nat_lt, nat_le, if◌then◌else◌}
+use Rattle.std.specs.Prelude.{◌==◌, ℕ, ◌+◌, ◌-◌, ◌*◌, ◌/◌, true, false, min, nat_lt, nat_le, if◌then◌else◌}
 use Rattle.quota_bucket.specs.Strategies.{tokens_left, millis_of}
 use Rattle.quota_bucket.specs.declared.strategy.Strategy.{Strategy}
 use Rattle.quota_bucket.specs.declared.strategy.Strategy.TheVariants.{AllowAll, DenyAll, PerUnit, TokenBucket}

@@ -1,17 +1,16 @@
 -- When a bucket reports, and what.
-use Rattle.std.specs.Prelude.{◌==◌, ℕ, ◌+◌, ◌-◌, ◌*◌, ◌/◌, ◌^◌, ◌&&◌, Bool, true, false, not, List, [], ◌∷◌, min, nat_lt, nat_le}
+use Rattle.std.specs.Prelude.{ℕ, ◌+◌, ◌-◌, ◌*◌, ◌/◌, ◌^◌, ◌&&◌, Bool, true, false, not, List, [], ◌∷◌, min, nat_lt, nat_le}
 use Rattle.std.specs.Prelude.{if◌then◌else◌, Some, None, Option, option_map, is_some, unwrap_or, count_by}
-use Rattle.quota_bucket.specs.Strategies.{Decision, allows}
+use Rattle.quota_bucket.specs.Strategies.{Decision}
 use Rattle.quota_bucket.specs.History.{Event}
-use Rattle.quota_bucket.specs.History.{Advance, Request, Assignment, Abandonment}
-use Rattle.quota_bucket.specs.History.{moment_of, phase_after, decided, is_allowed, is_gone, after_request, strategy_in, effect_in}
-use Rattle.quota_bucket.specs.declared.strategy.Strategy.{Strategy}
+use Rattle.quota_bucket.specs.History.{Advance, Request}
+use Rattle.quota_bucket.specs.History.{moment_of, phase_after, is_allowed, is_gone}
 use Rattle.quota_bucket.specs.declared.rules.BucketRules.{BucketRules}
 use Rattle.quota_bucket.specs.declared.rules.AtExpiry.{AtExpiry}
 use Rattle.quota_bucket.specs.declared.rules.AtExpiry.TheVariants.{Abandon, Fallback, Reuse}
 use Rattle.quota_bucket.specs.declared.bucket_state.Usage.{Usage}
 use Rattle.quota_bucket.specs.declared.timed_phase.TimedPhase.{TimedPhase}
-use Rattle.quota_bucket.specs.declared.timed_phase.TimedPhase.TheVariants.{Gone, Unassigned, Live, Expired}
+use Rattle.quota_bucket.specs.declared.timed_phase.TimedPhase.TheVariants.{Live, Expired}
 
 -- the moment of the latest event
 abbrev pub present : List Event → ℕ

@@ -1,16 +1,17 @@
--- Inside: the state that is kept of a history.
-use Rattle.std.specs.Prelude.{◌==◌, ℕ, ◌+◌, ◌-◌, ◌*◌, ◌/◌, ◌&&◌, Bool, true, false, not, List, [], ◌∷◌, min, nat_lt, nat_le}
-use Rattle.std.specs.Prelude.{if◌then◌else◌, count_by}
-use Rattle.quota_bucket.specs.Strategies.{Decision, allows, allowed_in, interval_at, fills_at, tokens_left, tokens_before, millis_of}
-use Rattle.quota_bucket.specs.History.{Event, phase_after, decided, strategy_in, effect_in}
-use Rattle.quota_bucket.specs.Reports.{unreported, first_at, last_report, shown}
+-- The state that is kept of a history.
+use Rattle.std.specs.Prelude.{◌≡◌, ℕ, Bool, not, List, ◌∷◌}
+use Rattle.std.specs.Prelude.{count_by}
+use Rattle.quota_bucket.specs.Strategies.{Decision, allowed_in, interval_at, fills_at, tokens_left, tokens_before, millis_of}
+use Rattle.quota_bucket.specs.History.{Event, Request, is_allowed, phase_after, decided, strategy_in, effect_in}
+use Rattle.quota_bucket.specs.TimeOrder.{IsInOrder}
+use Rattle.quota_bucket.specs.Reports.{report_of_request, unreported, first_at, last_report, shown}
 use Rattle.quota_bucket.specs.declared.rules.BucketRules.{BucketRules}
 use Rattle.quota_bucket.specs.declared.timed_phase.TimedPhase.{TimedPhase}
 use Rattle.quota_bucket.specs.declared.bucket_state.BucketState.{BucketState}
+use Rattle.quota_bucket.specs.declared.bucket_state.Asked.{Asked}
 use Rattle.quota_bucket.specs.declared.strategy.Strategy.{Strategy}
-use Rattle.quota_bucket.specs.declared.strategy.Strategy.TheVariants.{AllowAll, DenyAll, PerUnit, TokenBucket}
+use Rattle.quota_bucket.specs.declared.strategy.Strategy.TheVariants.{PerUnit, TokenBucket}
 use Rattle.quota_bucket.specs.declared.meter.Meter.{Meter}
-use Rattle.quota_bucket.specs.declared.meter.Verdict.{Verdict}
 use Rattle.quota_bucket.specs.declared.meter.Meter.TheVariants.{Fresh, Counted, Filled}
 
 -- the meter after these requests, the latest first
@@ -38,3 +39,16 @@ abbrev pub state_after : BucketRules → List Event → BucketState
 state_after rules history =
     state_from rules (phase_after rules history) (decided rules history) (unreported rules history)
     (first_at rules history) (last_report rules history)
+
+-- the answer to a request, the report that follows at once, and the state after it, by the whole history
+abbrev pub asked_after : BucketRules → List Event → ℕ → Bool → Asked
+asked_after rules history at up = record {
+  allowed = is_allowed rules history at;
+  report = report_of_request rules history at up;
+  state = state_after rules (Request at up ∷ history);
+}
+
+-- the state is that of this history, which is in order of time
+pub record IsStateOf (rules : BucketRules) (history : List Event) (state : BucketState) : Type 0 where
+  pub is : state ≡ state_after rules history
+  pub in_order : IsInOrder history

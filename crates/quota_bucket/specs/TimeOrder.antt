@@ -1,4 +1,4 @@
--- Inside: histories in order of time.
+-- Histories in order of time.
 use Rattle.std.specs.Prelude.{ℕ, ◌≤◌, List, [], ◌∷◌, ⊤}
 use Rattle.quota_bucket.specs.Strategies.{Decision}
 use Rattle.quota_bucket.specs.History.{Event, moment_of}

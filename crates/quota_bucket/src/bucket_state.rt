@@ -1,4 +1,4 @@
-ghost use Rattle.std.specs.Prelude.{◌≡◌, ◌+◌, option_map};
+ghost use Rattle.std.specs.Prelude.{◌≡◌, ◌≤◌, ◌+◌, ◌∷◌, List, option_map};
 ghost use Rattle.quota_bucket.specs.Reports.{outlives, erasure};
 
 use crate::meter::Meter;
@@ -77,6 +77,12 @@ fn is_within(since: u64, rules: &BucketRules, moment: Millis) -> bool
 
 impl BucketState {
     ghost use Rattle.quota_bucket.specs.Machine.{new_state, is_waiting, advanced, advance_report, asked, assigned};
+    ghost use Rattle.quota_bucket.specs.History.{Event, Advance as AdvanceOf, Request, Assignment};
+    ghost use Rattle.quota_bucket.specs.State.{state_after, asked_after, IsStateOf};
+    ghost use Rattle.quota_bucket.specs.Reports.{present, report_of_advance};
+    ghost use Rattle.quota_bucket.specs.TimeOrder.{IsInOrder};
+    ghost use Rattle.quota_bucket.specs.Allowance.{KeepsAllowance};
+    ghost use Rattle.quota_bucket.specs.declared.rules.BucketRules.{BucketRules};
 
     /// What is kept before the request at `at` that makes the bucket.
     pub fn new(at: Millis) -> BucketState
@@ -99,9 +105,11 @@ impl BucketState {
         self.allowed > 0 || self.denied > 0
     }
 
-    /// The report that an advance sends.
+    /// The report that an advance sends. Of the state of a history it is the report that the history says.
     pub fn advance_report(&self, rules: &BucketRules, advance: &Advance) -> Option<Usage>
-        ensures { result ≡ advance_report rules.now advance.now self.now }
+        ensures report { result ≡ advance_report rules.now advance.now self.now }
+        ensures history { (history : List Event) → IsStateOf rules.now history self.now → present history ≡ advance.now.from
+            → result ≡ report_of_advance rules.now history advance.now.to advance.now.up }
     {
         let moment = reached(
             next_report(self.first, rules.reporting.get(), advance.from),
@@ -119,9 +127,11 @@ impl BucketState {
         }
     }
 
-    /// What is kept after an advance.
+    /// What is kept after an advance. The state of a history becomes that of the history with this event.
     pub fn advanced(&self, rules: &BucketRules, advance: &Advance) -> BucketState
-        ensures { result ≡ advanced rules.now advance.now self.now }
+        ensures state { result ≡ advanced rules.now advance.now self.now }
+        ensures history { (history : List Event) → IsStateOf rules.now history self.now → present history ≡ advance.now.from
+            → result ≡ state_after rules.now (AdvanceOf advance.now.to advance.now.up ∷ history) }
     {
         let phase = self.phase.after_advance(rules, advance.to);
         let begins = self.phase.begins_by_expiry(rules, advance.to) || phase.is_gone();
@@ -146,9 +156,14 @@ impl BucketState {
         }
     }
 
-    /// Decides and counts a request.
+    /// Decides and counts a request. By the state of a history it is answered as the whole history says, and no effect has then
+    /// allowed more than its strategy's number.
     pub fn asked(&self, rules: &BucketRules, at: Millis, up: bool) -> Asked
-        ensures { result ≡ asked rules.now at up self.now }
+        ensures asked { result ≡ asked rules.now at up self.now }
+        ensures history { (history : List Event) → IsStateOf rules.now history self.now → present history ≤ at
+            → result ≡ asked_after rules.now history at up }
+        ensures allowance { (history : List Event) → IsInOrder history → present history ≤ at
+            → KeepsAllowance rules.now (Request at up ∷ history) }
     {
         let phase = self.phase.after_request(at);
         let elapsed = at.get().saturating_sub(phase.effect());
@@ -188,9 +203,12 @@ impl BucketState {
         }
     }
 
-    /// What is kept after an assignment at `at`, which lasts for its lifetime or for ever.
+    /// What is kept after an assignment at `at`, which lasts for its lifetime or for ever. The state of a history becomes that
+    /// of the history with this event.
     pub fn assigned(&self, at: Millis, lifetime: Option<Millis>, strategy: Strategy) -> BucketState
-        ensures { result ≡ assigned at lifetime strategy self.now }
+        ensures state { result ≡ assigned at lifetime strategy self.now }
+        ensures history { (rules : BucketRules) (history : List Event) → IsStateOf rules history self.now
+            → result ≡ state_after rules (Assignment at lifetime strategy ∷ history) }
     {
         let begins = self.phase.begins_by_assignment(&strategy);
         BucketState {

@@ -1,5 +1,5 @@
-ghost use Rattle.std.specs.Prelude.{◌≡◌, ◌≤◌, ◌^◌, ◌-◌};
-ghost use Rattle.quota_bucket.specs.Due.{due, phase_due, report_due, timeout_due, or_never};
+ghost use Rattle.std.specs.Prelude.{◌≡◌, ◌≤◌, ◌<◌, ◌^◌, ◌-◌, ℕ, false};
+ghost use Rattle.quota_bucket.specs.Due.{due, phase_due, report_due, timeout_due, or_never, IsQuiet};
 
 use crate::bucket_state::BucketState;
 use crate::moments::next_report;
@@ -29,6 +29,9 @@ fn phase_due(rules: &BucketRules, phase: &TimedPhase) -> u64
 }
 
 impl BucketState {
+    ghost use Rattle.quota_bucket.specs.History.{is_gone};
+    ghost use Rattle.quota_bucket.specs.declared.bucket_state.Advance.{Advance};
+
     /// The next moment for a report after `time`; the greatest u64 if no request waits for one.
     fn report_due(&self, rules: &BucketRules, time: Millis) -> u64
         ensures { result ≡ report_due rules.now self.now time }
@@ -40,9 +43,13 @@ impl BucketState {
         }
     }
 
-    /// The first moment after `time` at which an advance changes something; the greatest u64 if there is none.
+    /// The first moment after `time` at which an advance changes something; the greatest u64 if there is none. A bucket that
+    /// is there stays as it is until then, sends no report, and is due at the same moment.
     pub fn due(&self, rules: &BucketRules, time: Millis) -> u64
-        ensures { result ≡ due rules.now self.now time }
+        ensures due { result ≡ due rules.now self.now time }
+        ensures quiet { (advance : Advance) → advance.from ≡ time → advance.to < result → is_gone self.now.phase ≡ false
+            → IsQuiet rules.now self.now advance }
+        ensures stays { (later : ℕ) → time ≤ later → later < result → due rules.now self.now later ≡ result }
     {
         phase_due(rules, &self.phase).min(self.report_due(rules, time))
     }
