@@ -8,8 +8,8 @@ ghost use Rattle.quota_settings_json.specs.ReadBehaviors as reading;
 use crate::expiry::Expiry;
 use crate::fields::{take_expiry_fields, take_reuse_fields, take_timeout, take_unassigned_fields};
 use crate::strategies::take_fallback;
-use quota_bucket::{AtExpiry, Strategy};
 use proto_json::{Fields, FormFault};
+use quota_bucket::{AtExpiry, Strategy};
 use rate_types::{Millis, Place, Refused};
 
 // The strategy before the first assignment.

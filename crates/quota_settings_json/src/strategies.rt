@@ -11,8 +11,8 @@ use crate::fields::{
     take_count, take_fallback_fields, take_fill_interval, take_max_tokens, take_per_unit_fields,
     take_rule_name, take_time_unit, take_token_fields, take_tokens_per_fill,
 };
-use quota_bucket::Strategy;
 use proto_json::{Fields, FormFault};
+use quota_bucket::Strategy;
 use rate_types::{Millis, OutOfMemory, Place, Refused, Unit};
 use serde_json::Value;
 

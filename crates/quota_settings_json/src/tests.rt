@@ -3,8 +3,8 @@ mod meanings;
 mod refusals;
 
 use crate::{read_settings, read_strategy};
-use quota_bucket::Strategy;
 use proto_json::{FormFault, parse};
+use quota_bucket::Strategy;
 use rate_types::{Place, Unit};
 use std::alloc::Global;
 use std::test::Fail;

@@ -1,7 +1,7 @@
 use crate::tests::{strategy_said, strategy_text};
 use crate::{read_attributes, read_settings};
-use quota_bucket::{AtExpiry, BucketRules};
 use proto_json::{FormFault, parse};
+use quota_bucket::{AtExpiry, BucketRules};
 use quota_settings::{Attributes, BucketId, Settings};
 use rate_types::{Millis, Place};
 use std::alloc::Global;
