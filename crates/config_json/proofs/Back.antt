@@ -1,5 +1,5 @@
 -- What the printed objects of a configuration read as.
-use Rattle.std.proofs.Common.{◌≡◌, ◌≢◌, ℕ, zero, suc, ◌+◌, ◌≤◌, ◌<◌, List, [], ◌∷◌, ◌++◌, length, filter, Bool, true, false, cond, nat_lt, Option, Some, None, option_map, unwrap_or, codes, Result, Ok, Err, refl, sym, ap, subst, ◌∙◌, arith}
+use Rattle.std.proofs.Common.{◌≡◌, ◌≢◌, ℕ, zero, suc, ◌+◌, ◌≤◌, List, [], ◌∷◌, length, filter, Bool, true, false, cond, nat_lt, Option, Some, None, option_map, unwrap_or, codes, Result, Ok, refl, ap, ◌∙◌, arith}
 use Rattle.std.specs.List.{All}
 use Rattle.std.proofs.lemmas.Bool.Decides.{nat_tests}
 use Rattle.std.proofs.lemmas.List.Elements.{All-head, All-tail}
@@ -7,20 +7,18 @@ use Rattle.rate_types.specs.Places as places
 use Rattle.rate_types.specs.declared.refused.Refused.{Refused}
 use Rattle.rate_types.specs.declared.unit.Unit.{Unit}
 use Rattle.rate_types.specs.declared.unit.Unit.TheVariants as unit
-use Rattle.serde_json.specs.Data.{Data, boolean, number, unsigned, string, array, object, Items, no_items, item, no_members}
+use Rattle.serde_json.specs.Data.{Data, string, array, object, no_members}
 use Rattle.serde_json.specs.Events.{items_len}
 use Rattle.proto_json.specs.Said.{Said, says, refuses, reading_of, ◌>>=◌}
 use Rattle.proto_json.specs.Fields.{Object, take, ends}
 use Rattle.proto_json.specs.Kinds as kinds
 use Rattle.proto_json.specs.Lists.{items_from, each_item, with_first}
 use Rattle.proto_json.specs.Laws.{then_read, reading_then}
-use Rattle.descriptor_tree.specs.declared.policy.Policy.{Policy}
-use Rattle.descriptor_tree.specs.declared.policy.Policy.TheVariants.{Limited, Unlimited}
 use Rattle.config_json.specs.FieldNames as names
-use Rattle.config_json.specs.Rules.{Rule, unless_empty, is_there, named, object_named, replaced, those_there, names_in, all_replaced, replaced_kind, replaces_itself, policy_rules, policy, policy_kind}
-use Rattle.config_json.specs.Printed.{members_there, text_there, number_there, true_there, list_there, unit_json, names_json, rule_json}
+use Rattle.config_json.specs.Rules.{is_there, named, object_named, replaced, those_there, names_in, all_replaced, replaced_kind}
+use Rattle.config_json.specs.Printed.{members_there, text_there, number_there, true_there, list_there, unit_json, names_json}
 use Rattle.config_json.specs.Bounds.{IsShort}
-use Rattle.config_json.proofs.Chains.{Chain, ReadsAs, take_there}
+use Rattle.config_json.proofs.Chains.{ReadsAs, take_there}
 
 -- ---- single values
 
@@ -136,15 +134,15 @@ pub record AreReplaced (ns : List (List ℕ)) : Type 0 where
 are_few : (n : ℕ) → n ≤ 32 → nat_lt 32 n ≡ false
 are_few n few = grind (arith, nat_tests)
 
-names_all : (place : List ℕ) (ns : List (List ℕ)) → AreReplaced ns → reading_of (all_replaced place (names_json ns)) ≡ Ok (Some ns)
-unfolding all_replaced names_in
+names_all : (place : List ℕ) (ns : List (List ℕ)) → AreReplaced ns → reading_of (all_replaced (record { place = place; items = names_json ns })) ≡ Ok (Some ns)
+unfolding all_replaced names_in each_item
 names_all place ns r =
-    ap (λ b. reading_of (cond b (refuses 30 place) (names_in place (names_json ns)))) (ap (nat_lt 32) (names_len ns) ∙ are_few (length ns) r.few)
-    ∙ reading_then (each_item replaced place (names_json ns)) (λ xs. says (those_there xs))
+    ap (λ b. reading_of (cond b (refuses 30 place) (names_in (record { place = place; items = names_json ns })))) (ap (nat_lt 32) (names_len ns) ∙ are_few (length ns) r.few)
+    ∙ reading_then (each_item replaced (record { place = place; items = names_json ns })) (λ xs. says (those_there xs))
     ∙ then_ok _ (Some ns) (λ xs. Ok (those_there xs)) (names_items place 0 ns r.short)
     ∙ ap (λ xs. Ok (Some xs)) (filter_all ns r.there)
 
 pub names_reads : (place : List ℕ) (ns : List (List ℕ)) → AreReplaced ns → ReadsAs replaced_kind place (list_there (names_json ns)) (names_back ns)
 unfolding ReadsAs kinds.and_read kinds.list
 names_reads place [] r = refl
-names_reads place (n ∷ ns) r = (refl, reading_then (kinds.list place (array (names_json (n ∷ ns)))) (kinds.read_some (all_replaced place)) ∙ names_all place (n ∷ ns) r)
+names_reads place (n ∷ ns) r = (refl, reading_then (kinds.list place (array (names_json (n ∷ ns)))) (kinds.read_some all_replaced) ∙ names_all place (n ∷ ns) r)

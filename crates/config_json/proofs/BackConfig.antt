@@ -1,19 +1,17 @@
 -- A lawful configuration is printed to texts that nest no deeper than is read, and read back as it is.
-use Rattle.std.proofs.Common.{◌≡◌, ℕ, zero, suc, String, Global, string_bytes, ◌+◌, ◌*◌, ◌≤◌, ◌<◌, max, Bool, true, false, codes, List, [], ◌∷◌, ◌++◌, map, length, take, get_or, Option, Some, None, option_map, Result, Ok, Err, refl, sym, ap, subst, ◌∙◌, add-one, append_assoc, arith}
+use Rattle.std.proofs.Common.{◌≡◌, ℕ, zero, suc, String, Global, string_bytes, ◌+◌, ◌*◌, ◌≤◌, ◌<◌, max, Bool, true, false, codes, List, [], ◌∷◌, ◌++◌, map, length, take, get_or, Option, Some, None, option_map, Ok, refl, sym, ap, subst, ◌∙◌, add-one, append_assoc, arith}
 use Rattle.std.specs.Prelude.{⊤}
-use Rattle.std.specs.List.{All, flat_map}
-use Rattle.std.specs.Option.{option_to_list}
+use Rattle.std.specs.List.{All}
 use Rattle.std.proofs.Math.Seq.{take-suc}
 use Rattle.std.proofs.lemmas.List.{map_push}
-use Rattle.std.proofs.lemmas.List.Elements.{All-nil, All-cons, All-head, All-tail, All-push}
+use Rattle.std.proofs.lemmas.List.Elements.{All-nil, All-cons, All-head, All-tail}
 use Rattle.std.specs.Str.{IsUtf8}
 use Rattle.std.proofs.lemmas.Str.{is_utf8-from_IsUtf8}
-use Rattle.rate_types.specs.declared.refused.At.{At}
-use Rattle.serde_json.specs.Data.{Data, boolean, string, object, array, Items, no_items, item, Members, depth, items_depth, members_depth}
+use Rattle.serde_json.specs.Data.{Data, boolean, string, array, Items, no_items, item, Members, depth, items_depth, members_depth}
 use Rattle.serde_json.specs.Read.{read}
 use Rattle.serde_json.specs.Written.{compact_text}
 use Rattle.proto_json.specs.Document.{json_of}
-use Rattle.proto_json.specs.Said.{Said, said, reading_of}
+use Rattle.proto_json.specs.Said.{reading_of}
 use Rattle.descriptor_tree.specs.declared.policy.Policy.{Policy}
 use Rattle.descriptor_tree.specs.declared.policy.Policy.TheVariants.{Limited, Unlimited}
 use Rattle.descriptor_tree.specs.declared.tree.Tree.{Tree}
@@ -24,13 +22,12 @@ use Rattle.rate_types.specs.Reading.{first_or}
 use Rattle.descriptor_tree.specs.Faults.{config_faults}
 use Rattle.rate_types.specs.declared.unit.Unit.{Unit}
 use Rattle.rate_types.specs.declared.unit.Unit.TheVariants.{Second, Minute, Hour, Day}
-use Rattle.config_json.specs.Bounds.{IsBoundedBranch, AreBounded}
-use Rattle.config_json.specs.Printed.{and_member, members_there, text_there, number_there, true_there, list_there, names_json, unit_json, rule_json, rule_there, node_members, branch_json, branches_json, tree_json}
+use Rattle.config_json.specs.Printed.{and_member, members_there, text_there, number_there, true_there, list_there, names_json, unit_json, rule_json, node_members, branch_json, branches_json, tree_json}
 use Rattle.config_json.specs.Trees.{file}
 use Rattle.config_json.specs.Reading as files
 use Rattle.config_json.proofs.Chains.{Chain}
 use Rattle.config_json.proofs.Printing.{texts_push}
-use Rattle.config_json.proofs.Files.{Read, behind, behind_more, reading_of_trees}
+use Rattle.config_json.proofs.Files.{behind, behind_more, reading_of_trees}
 
 -- ---- levels
 

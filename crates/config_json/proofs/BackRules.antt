@@ -1,20 +1,19 @@
 -- What a printed rule reads as.
-use Rattle.std.proofs.Common.{◌≡◌, ◌≢◌, ℕ, zero, suc, ◌≤◌, List, [], ◌∷◌, length, Bool, true, false, cond, Option, Some, None, option_map, unwrap_or, codes, Result, Ok, Err, refl, sym, ap, ◌∙◌}
+use Rattle.std.proofs.Common.{◌≡◌, ◌≢◌, ℕ, zero, suc, ◌≤◌, List, [], ◌∷◌, true, false, Option, Some, None, option_map, unwrap_or, codes, Ok, refl, ◌∙◌}
 use Rattle.rate_types.specs.Places as places
-use Rattle.rate_types.specs.declared.refused.Refused.{Refused}
 use Rattle.rate_types.specs.declared.unit.Unit.{Unit}
-use Rattle.serde_json.specs.Data.{Data, boolean, string, object, no_members}
-use Rattle.proto_json.specs.Said.{Said, says, reading_of, ◌>>=◌}
+use Rattle.serde_json.specs.Data.{Data, boolean, string}
+use Rattle.proto_json.specs.Said.{reading_of}
 use Rattle.proto_json.specs.Fields.{Object, take, ends}
 use Rattle.proto_json.specs.Kinds as kinds
 use Rattle.proto_json.specs.Laws.{then_read, reading_then}
 use Rattle.descriptor_tree.specs.declared.policy.Policy.{Policy}
 use Rattle.descriptor_tree.specs.declared.policy.Policy.TheVariants.{Limited, Unlimited}
 use Rattle.config_json.specs.FieldNames as names
-use Rattle.config_json.specs.Rules.{Rule, unless_empty, replaced_kind, replaces_itself, policy_rules, policy, policy_kind}
+use Rattle.config_json.specs.Rules.{unless_empty, replaced_kind, replaces_itself, policy_rules, policy, policy_kind}
 use Rattle.config_json.specs.Printed.{members_there, number_there, list_there, unit_json, names_json, rule_json}
 use Rattle.config_json.specs.Bounds.{IsShort, IsSmall}
-use Rattle.config_json.proofs.Chains.{Chain, ReadsAs, take_there, clear}
+use Rattle.config_json.proofs.Chains.{Chain, ReadsAs, take_there}
 use Rattle.config_json.proofs.Back.{AreReplaced, number_back, names_back, string_reads, number_reads, unit_reads, names_reads}
 
 policy_reads : (o : Object) → reading_of (policy o) ≡ then_read (reading_of (take kinds.unit names.unit o)) (λ u.

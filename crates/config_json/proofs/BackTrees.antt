@@ -1,11 +1,11 @@
 -- What a printed node and a printed file read as.
-use Rattle.std.proofs.Common.{◌≡◌, ◌≢◌, ℕ, ◌+◌, ◌≤◌, ◌||◌, List, [], ◌∷◌, length, Bool, true, false, cond, Option, Some, None, option_map, unwrap_or, bytes_eq, codes, Result, Ok, Err, true≢false, refl, sym, ap, ◌∙◌}
+use Rattle.std.proofs.Common.{◌≡◌, ◌≢◌, ℕ, ◌+◌, ◌≤◌, ◌||◌, List, [], ◌∷◌, length, Bool, true, false, Option, Some, None, option_map, unwrap_or, bytes_eq, codes, Result, Ok, refl, sym, ap, ◌∙◌}
 use Rattle.std.specs.List.{All, list_any}
 use Rattle.std.proofs.lemmas.List.Elements.{All-head, All-tail}
 use Rattle.std.proofs.lemmas.Slice.Eq.{bytes_eq-Decides}
 use Rattle.rate_types.specs.Places as places
 use Rattle.rate_types.specs.declared.refused.Refused.{Refused}
-use Rattle.serde_json.specs.Data.{Data, boolean, string, array, object, Items, no_items, item, no_members}
+use Rattle.serde_json.specs.Data.{string, array, no_items, item}
 use Rattle.proto_json.specs.Said.{Said, says, reading_of, ◌>>=◌}
 use Rattle.proto_json.specs.Fields.{Object, take, ends, unless_null}
 use Rattle.proto_json.specs.Kinds as kinds
@@ -15,13 +15,13 @@ use Rattle.descriptor_tree.specs.declared.policy.Policy.{Policy}
 use Rattle.descriptor_tree.specs.declared.policy.Policy.TheVariants.{Limited, Unlimited}
 use Rattle.descriptor_tree.specs.Config.{IsWellFormed, IsWellFormedBranch, AreWellFormed}
 use Rattle.descriptor_tree.specs.Trees.{NodeFields, Branch, branch, Branches, no_branches, and_branch, DomainTree}
-use Rattle.config_json.specs.Bounds.{IsShort, IsSmall, IsBounded, IsBoundedBranch, AreBounded}
+use Rattle.config_json.specs.Bounds.{IsSmall, IsBounded, IsBoundedBranch, AreBounded}
 use Rattle.config_json.specs.FieldNames as names
-use Rattle.config_json.specs.Rules.{Rule, unless_empty, replaces_itself, policy_kind}
-use Rattle.config_json.specs.Trees.{node_in, node_at, nodes_at, below_in, nodes_kind, fields_with, or_none, with_branch, file_in, file_at, file}
+use Rattle.config_json.specs.Rules.{Rule, replaces_itself, policy_kind}
+use Rattle.config_json.specs.Trees.{node_at, nodes_at, nodes_in, nodes_kind, fields_with, or_none, with_branch, file_in, file_at, file}
 use Rattle.config_json.specs.Printed.{members_there, text_there, true_there, list_there, rule_json, node_members, branch_json, branches_json, tree_json}
-use Rattle.config_json.proofs.Chains.{Chain, ReadsAs, take_there}
-use Rattle.config_json.proofs.Back.{AreReplaced, text_back, true_back, text_reads, string_reads, true_reads}
+use Rattle.config_json.proofs.Chains.{ReadsAs, take_there}
+use Rattle.config_json.proofs.Back.{text_back, true_back, text_reads, string_reads, true_reads}
 use Rattle.config_json.proofs.BackRules.{IsNamed, name_is, rule_back}
 use Rattle.config_json.proofs.Readings.{node_at_reads, node_reads}
 
@@ -66,7 +66,7 @@ below_back (and_branch b more) = Some (and_branch b more)
 below_reads : (place : List ℕ) (bs : Branches) → ((at : List ℕ) → reading_of (nodes_at at 0 (branches_json bs)) ≡ Ok (Some bs)) → ReadsAs nodes_kind place (list_there (branches_json bs)) (below_back bs)
 unfolding ReadsAs kinds.and_read kinds.list
 below_reads place no_branches back = refl
-below_reads place (and_branch b more) back = (refl, reading_then (kinds.list place (array (branches_json (and_branch b more)))) (kinds.read_some (nodes_at place 0)) ∙ back place)
+below_reads place (and_branch b more) back = (refl, reading_then (kinds.list place (array (branches_json (and_branch b more)))) (kinds.read_some nodes_in) ∙ back place)
 
 text_is : (s : List ℕ) → unwrap_or (text_back s) [] ≡ s
 text_is [] = refl

@@ -1,14 +1,14 @@
 -- The fields of an object whose members are given one by one, each there or not.
-use Rattle.std.proofs.Common.{◌≡◌, ℕ, ◌||◌, List, [], ◌∷◌, Bool, true, false, not, cond, Option, Some, None, Result, Ok, Err, Ordering, Less, Equal, Greater, bytes_eq, is_eq, nat_cmp, true≢false, refl, sym, ap, subst, ◌∙◌}
+use Rattle.std.proofs.Common.{◌≡◌, ℕ, ◌||◌, List, [], ◌∷◌, Bool, true, false, not, cond, Option, Some, None, Result, Ok, Ordering, Less, Equal, Greater, bytes_eq, is_eq, nat_cmp, true≢false, refl, sym, ap, ◌∙◌}
 use Rattle.std.specs.Cmp.Lexicographic.{slice_cmp}
 use Rattle.std.specs.Ordering.{match_ordering}
 use Rattle.std.proofs.lemmas.Map.Text.{is_eq-slice_cmp}
-use Rattle.serde_json.specs.Data.{Data, null, boolean, number, string, array, object, Members, no_members, member}
+use Rattle.serde_json.specs.Data.{Data, null, boolean, number, string, array, object, Members, member}
 use Rattle.serde_json.specs.Find.{get_member}
 use Rattle.rate_types.specs.declared.refused.Refused.{Refused}
 use Rattle.rate_types.specs.Places.{child}
 use Rattle.proto_json.specs.Said.{Said, reading_of}
-use Rattle.proto_json.specs.Fields.{Name, Object, found_by, find, without, without_both, unless_null, standing_of, standing, take, after, read_as}
+use Rattle.proto_json.specs.Fields.{Object, found_by, without, without_both, unless_null, standing_of, standing, take, after, read_as}
 use Rattle.proto_json.specs.Laws.{then_read, take_reads}
 use Rattle.config_json.specs.Printed.{and_member, members_there}
 

@@ -2,7 +2,7 @@
 use Rattle.std.proofs.Common.{◌≡◌, ℕ, suc, ◌≤◌, max, List, [], ◌∷◌, ◌++◌, Option, Some, None, Bool, true, false, Result, Ok, Err, Ordering, Less, Equal, Greater, bytes_eq, codes, cond, nat_cmp, arith, refl, sym, ap, subst, ◌∙◌}
 use Rattle.std.specs.Cmp.Lexicographic.{slice_cmp}
 use Rattle.std.specs.Ordering.{match_ordering}
-use Rattle.serde_json.specs.Data.{Data, null, boolean, number, string, array, object, Items, Members, no_members, member, depth, items_depth, members_depth}
+use Rattle.serde_json.specs.Data.{Data, null, boolean, number, string, array, object, Members, no_members, member, depth, items_depth, members_depth}
 use Rattle.serde_json.specs.Find.{get_member}
 use Rattle.serde_json.specs.View.{view, items_view}
 use Rattle.serde_json.specs.declared.value.Value.{Value}
@@ -10,7 +10,8 @@ use Rattle.rate_types.specs.Places as places
 use Rattle.rate_types.specs.declared.refused.Refused.{Refused}
 use Rattle.proto_json.specs.Said.{Said, reading_of}
 use Rattle.proto_json.specs.Laws.{then_read}
-use Rattle.proto_json.specs.Fields.{Object, Name, take, field, standing, after, without}
+use Rattle.rate_types.specs.declared.refusals.TheConstants.{WRONG_KIND}
+use Rattle.proto_json.specs.Fields.{Object, Listed, Name, take, field, standing, after, without}
 use Rattle.proto_json.specs.Kinds as kinds
 use Rattle.proto_json.specs.Laws.{take_field}
 use Rattle.config_json.specs.FieldNames.{descriptors}
@@ -28,10 +29,10 @@ none_some {A = A} {B = B} r a b c is other =
 err_some : {A B : Type 0} (r : Read A B) (e : Refused) (a : A) (c : B) → r ≡ Err e → r ≡ Ok (Some a, c) → ⊥
 err_some r e a c is other = cc
 
-same_items : {B : Type 0} (r : Read Items B) (xs ys : Items) (b c : B) → r ≡ Ok (Some xs, b) → r ≡ Ok (Some ys, c) → xs ≡ ys
-same_items {B = B} r xs ys b c is other =
-    let pair : ◌≡◌ {A = Option Items × B} (Some xs, b) (Some ys, c) = cc in
-    let value : ◌≡◌ {A = Option Items} (Some xs) (Some ys) = ap (λ (x : Option Items × B). x.0) pair in
+same_list : {B : Type 0} (r : Read Listed B) (xs ys : Listed) (b c : B) → r ≡ Ok (Some xs, b) → r ≡ Ok (Some ys, c) → xs ≡ ys
+same_list {B = B} r xs ys b c is other =
+    let pair : ◌≡◌ {A = Option Listed × B} (Some xs, b) (Some ys, c) = cc in
+    let value : ◌≡◌ {A = Option Listed} (Some xs) (Some ys) = ap (λ (x : Option Listed × B). x.0) pair in
     cc
 
 same_left : {A B : Type 0} (r : Read A B) (v w : Option A) (b c : B) → r ≡ Ok (v, b) → r ≡ Ok (w, c) → b ≡ c
@@ -91,20 +92,22 @@ get_depth name no_members d is = absurd (none d is)
 get_depth name (member k e ms) d is = get_or_depth (slice_cmp nat_cmp name k) d (get_member name ms) e (members_depth ms) is (λ x h. get_depth name ms x h)
 
 -- the list of nodes nests less deep than the object
-pub list_depth : (o : Object) (ds : Items) (left : Object) → reading_of (take kinds.list descriptors o) ≡ Ok (Some ds, left) → suc (items_depth ds) ≤ members_depth o.members
+pub list_depth : (o : Object) (l : Listed) (left : Object) → reading_of (take kinds.list descriptors o) ≡ Ok (Some l, left)
+    → suc (items_depth l.items) ≤ members_depth o.members
 unfolding take field standing kinds.list
-list_depth o ds left is = by (get_member (codes "descriptors") o.members) refl
+list_depth o l left is = by (get_member (codes "descriptors") o.members) refl
   where
-    by : (found : Option Data) → get_member (codes "descriptors") o.members ≡ found → suc (items_depth ds) ≤ members_depth o.members
-    by None g = absurd (none_some (reading_of (take kinds.list descriptors o)) ds (after descriptors o) left (rw g refl) is)
-    by (Some null) g = absurd (none_some (reading_of (take kinds.list descriptors o)) ds (after descriptors o) left (rw g refl) is)
-    by (Some (boolean b)) g = absurd (err_some (reading_of (take kinds.list descriptors o)) (record { at = places.child o.place (codes "descriptors"); number = 5 }) ds left (rw g refl) is)
-    by (Some (number n)) g = absurd (err_some (reading_of (take kinds.list descriptors o)) (record { at = places.child o.place (codes "descriptors"); number = 5 }) ds left (rw g refl) is)
-    by (Some (string s)) g = absurd (err_some (reading_of (take kinds.list descriptors o)) (record { at = places.child o.place (codes "descriptors"); number = 5 }) ds left (rw g refl) is)
-    by (Some (object ms)) g = absurd (err_some (reading_of (take kinds.list descriptors o)) (record { at = places.child o.place (codes "descriptors"); number = 5 }) ds left (rw g refl) is)
+    by : (found : Option Data) → get_member (codes "descriptors") o.members ≡ found → suc (items_depth l.items) ≤ members_depth o.members
+    by None g = absurd (none_some (reading_of (take kinds.list descriptors o)) l (after descriptors o) left (rw g refl) is)
+    by (Some null) g = absurd (none_some (reading_of (take kinds.list descriptors o)) l (after descriptors o) left (rw g refl) is)
+    by (Some (boolean b)) g = absurd (err_some (reading_of (take kinds.list descriptors o)) (record { at = places.child o.place (codes "descriptors"); number = WRONG_KIND }) l left (rw g refl) is)
+    by (Some (number n)) g = absurd (err_some (reading_of (take kinds.list descriptors o)) (record { at = places.child o.place (codes "descriptors"); number = WRONG_KIND }) l left (rw g refl) is)
+    by (Some (string s)) g = absurd (err_some (reading_of (take kinds.list descriptors o)) (record { at = places.child o.place (codes "descriptors"); number = WRONG_KIND }) l left (rw g refl) is)
+    by (Some (object ms)) g = absurd (err_some (reading_of (take kinds.list descriptors o)) (record { at = places.child o.place (codes "descriptors"); number = WRONG_KIND }) l left (rw g refl) is)
     by (Some (array es)) g =
-        let same : es ≡ ds = same_items (reading_of (take kinds.list descriptors o)) es ds (after descriptors o) left (rw g refl) is in
-        subst (λ (x : Items). suc (items_depth x) ≤ members_depth o.members) same (get_depth (codes "descriptors") o.members (array es) g)
+        let list : Listed = record { place = places.child o.place (codes "descriptors"); items = es } in
+        let same : list ≡ l = same_list (reading_of (take kinds.list descriptors o)) list l (after descriptors o) left (rw g refl) is in
+        subst (λ (x : Listed). suc (items_depth x.items) ≤ members_depth o.members) same (get_depth (codes "descriptors") o.members (array es) g)
 
 pub item_depth : (front : List Value) (v : Value) (more : List Value) → depth (view v) ≤ items_depth (items_view (front ++ v ∷ more))
 item_depth [] v more = omega arith

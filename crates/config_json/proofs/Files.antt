@@ -64,7 +64,7 @@ read_goes_on all index front after bytes t w within is read formed pushed = reco
   formed = subst (λ (ts : List DomainTree). All (λ u. AreWellFormed u.forest) ts) (sym pushed) (All-push (λ u. AreWellFormed u.forest) front t w.formed formed);
 }
 
-first_of : {X Y : Type 0} (xs ys : List At) (x : X) (y : Y) (at : At) → first_or xs x ≡ Err at → first_or (xs ++ ys) y ≡ Err at
+first_of : {X Y : Type 0} (xs ys : List At) (x : X) (y : Y) (at : At) → first_or xs x ≡ Err at → first_or (files.or_those xs ys) y ≡ Err at
 first_of [] ys x y at is = cc
 first_of (f ∷ fs) ys x y at is = ap Err same
   where
@@ -85,7 +85,7 @@ pub reading_of_trees : (all : List (List ℕ)) (ts : List DomainTree) → behind
 unfolding files.reading_of files.faults_of
 reading_of_trees all ts is =
     let none = none_of (files.file_faults 0 all) (files.trees_of all) ts is in
-    ap (λ fs. first_or (fs ++ config_faults (files.trees_of all)) (files.trees_of all)) none.0 ∙ ap (λ us. first_or (config_faults us) us) none.1
+    ap (λ fs. first_or (files.or_those fs (config_faults (files.trees_of all))) (files.trees_of all)) none.0 ∙ ap (λ us. first_or (config_faults us) us) none.1
 
 -- reading that fails
 pub reading_fails : {X Y : Type 0} (see : X → List DomainTree) (seen : Y → List DomainTree) (all : List (List ℕ)) (e : Fault At) → AnswersReading seen (Err e) (behind [] 0 all) → AnswersReading see (Err e) (files.reading_of all)

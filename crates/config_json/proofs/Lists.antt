@@ -1,5 +1,5 @@
 -- The nodes of a list, one after the other.
-use Rattle.std.proofs.Common.{◌≡◌, ℕ, ◌+◌, List, [], ◌∷◌, ◌++◌, Option, Some, None, option_map, Result, Ok, Err, refl, sym, ap, ◌∙◌}
+use Rattle.std.proofs.Common.{◌≡◌, ℕ, ◌+◌, List, [], ◌∷◌, ◌++◌, Option, Some, None, option_map, Result, Ok, Err, refl, sym, ap, ◌∙◌, length, arith}
 use Rattle.serde_json.specs.Data.{Data, Items, no_items, item}
 use Rattle.rate_types.specs.Places as places
 use Rattle.rate_types.specs.declared.refused.Refused.{Refused}
@@ -10,6 +10,7 @@ use Rattle.proto_json.specs.Said.{reading_of}
 use Rattle.proto_json.specs.Laws.{then_read}
 use Rattle.proto_json.specs.Laws.{reading_then}
 use Rattle.descriptor_tree.specs.Trees.{Branch, Branches, no_branches, and_branch, branches_of}
+use Rattle.serde_json.specs.declared.value.Value.{Value}
 use Rattle.config_json.specs.Trees.{node_at, nodes_at, with_branch}
 
 -- these nodes before those
@@ -58,3 +59,7 @@ pub nodes_refused : (place : List ℕ) (index : ℕ) (front : List Branch) (d : 
     → IsRefusal e (behind front (reading_of (nodes_at place index (item d ds))))
 nodes_refused place index front d ds (fault.Refused r) is = nodes_fail place index front d ds r is
 nodes_refused place index front d ds fault.OutOfMemory is = tt
+
+pub none_left : (vs : List Value) → length vs ≡ 0 → vs ≡ []
+none_left [] h = refl
+none_left (v ∷ vs) h = absurd (omega (arith, h))

@@ -1,39 +1,39 @@
 -- The fields of a configuration file, each by its two spellings.
-use Rattle.std.specs.Prelude.{codes}
-use Rattle.proto_json.specs.Fields.{Name}
+use Rattle.proto_json.specs.Fields.{Name, spelled}
+use Rattle.config_json.specs.declared.field_names.TheConstants as spellings
 
 abbrev pub name : Name
-name = record { camel = codes "name"; plain = codes "name" }
+name = spelled spellings.NAME
 
 abbrev pub domain : Name
-domain = record { camel = codes "domain"; plain = codes "domain" }
+domain = spelled spellings.DOMAIN
 
 abbrev pub descriptors : Name
-descriptors = record { camel = codes "descriptors"; plain = codes "descriptors" }
+descriptors = spelled spellings.DESCRIPTORS
 
 abbrev pub key : Name
-key = record { camel = codes "key"; plain = codes "key" }
+key = spelled spellings.KEY
 
 abbrev pub value : Name
-value = record { camel = codes "value"; plain = codes "value" }
+value = spelled spellings.VALUE
 
 abbrev pub rate_limit : Name
-rate_limit = record { camel = codes "rateLimit"; plain = codes "rate_limit" }
+rate_limit = spelled spellings.RATE_LIMIT
 
 abbrev pub shadow_mode : Name
-shadow_mode = record { camel = codes "shadowMode"; plain = codes "shadow_mode" }
+shadow_mode = spelled spellings.SHADOW_MODE
 
 abbrev pub detailed_metric : Name
-detailed_metric = record { camel = codes "detailedMetric"; plain = codes "detailed_metric" }
+detailed_metric = spelled spellings.DETAILED_METRIC
 
 abbrev pub unit : Name
-unit = record { camel = codes "unit"; plain = codes "unit" }
+unit = spelled spellings.UNIT
 
 abbrev pub requests_per_unit : Name
-requests_per_unit = record { camel = codes "requestsPerUnit"; plain = codes "requests_per_unit" }
+requests_per_unit = spelled spellings.REQUESTS_PER_UNIT
 
 abbrev pub unlimited : Name
-unlimited = record { camel = codes "unlimited"; plain = codes "unlimited" }
+unlimited = spelled spellings.UNLIMITED
 
 abbrev pub replaces : Name
-replaces = record { camel = codes "replaces"; plain = codes "replaces" }
+replaces = spelled spellings.REPLACES

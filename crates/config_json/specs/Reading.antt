@@ -11,7 +11,8 @@ use Rattle.rate_types.specs.Reading.{first_or}
 use Rattle.descriptor_tree.specs.Faults.{in_file, config_faults}
 use Rattle.config_json.specs.Trees.{file}
 
--- the faults of reading the files one after the other, the first of this index
+-- The faults of reading the files one after the other, the first of them with this index. In a file, faults that follow
+-- from an earlier one may stand behind it.
 abbrev pub file_faults : ℕ → List (List ℕ) → List At
 file_faults index [] = []
 file_faults index (bytes ∷ more) = map (in_file index) (said.faults_of (file bytes)) ++ file_faults (index + 1) more
@@ -21,11 +22,16 @@ abbrev pub trees_of : List (List ℕ) → List DomainTree
 trees_of [] = []
 trees_of (bytes ∷ more) = option_to_list (said.value_of (file bytes)) ++ trees_of more
 
--- all faults of the files, in order: those of reading them, then those of their trees
-unfoldable pub faults_of : List (List ℕ) → List At
-faults_of files = file_faults 0 files ++ config_faults (trees_of files)
+-- these faults, or where there is none those
+abbrev pub or_those : List At → List At → List At
+or_those [] those = those
+or_those (fault ∷ more) those = fault ∷ more
 
--- the first of all faults, or the trees where there is none
+-- the faults of the files, in order: those of reading them, and where there is none, those of the trees that they spell
+unfoldable pub faults_of : List (List ℕ) → List At
+faults_of files = or_those (file_faults 0 files) (config_faults (trees_of files))
+
+-- the first of these faults, or the trees where there is none
 unfoldable pub reading_of : List (List ℕ) → Result (List DomainTree) At
 reading_of files = first_or (faults_of files) (trees_of files)
 

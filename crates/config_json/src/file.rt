@@ -8,10 +8,11 @@ ghost use Rattle.descriptor_tree.specs.Config.{AreWellFormed};
 ghost use Rattle.descriptor_tree.specs.Trees.{tree_view};
 ghost use Rattle.config_json.specs.Trees as trees;
 
-use crate::fields::{take_domain, take_name};
+use crate::field_names::{DOMAIN, NAME};
 use crate::read_node::{or_none, take_below};
 use descriptor_tree::Tree;
 use proto_json::{Fields, FormFault, parse};
+use rate_types::refusals::TEXT_TOO_LONG;
 use rate_types::{Place, Text};
 use serde_json::Value;
 use std::alloc::Global;
@@ -23,8 +24,8 @@ fn tree_in(alloc: Global, mut fields: Fields) -> Result<Tree, FormFault>
         (reading_of (trees.file_in (object_of fields))) }
     ensures formed { IfOk result (λ t. AreWellFormed (tree_view t).forest) }
 {
-    let _ = take_name(&mut fields)?;
-    let domain = take_domain(&mut fields)?;
+    let _ = fields.take_short_text(NAME, TEXT_TOO_LONG)?;
+    let domain = fields.take_short_text(DOMAIN, TEXT_TOO_LONG)?;
     let below = take_below(alloc, &mut fields)?;
     let _ = fields.end()?;
     let domain = domain.unwrap_or(Text::empty(alloc));

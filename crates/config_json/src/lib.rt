@@ -8,7 +8,7 @@
 //! Limits: those of `proto_json` and of a lawful configuration; a rule replaces at most 32 others.
 #![tactic(auto)]
 
-mod fields;
+mod field_names;
 mod file;
 mod policy;
 mod print;
@@ -18,6 +18,7 @@ mod read_node;
 mod read_replaced;
 mod replaced;
 mod rule;
+mod unless_empty;
 
 pub use file::tree_of;
 pub use print_tree::print_config;

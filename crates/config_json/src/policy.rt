@@ -9,13 +9,13 @@ ghost use Rattle.config_json.specs.Rules as rules;
 ghost use Rattle.config_json.specs.Views.{rule_view};
 
 use crate::Rule;
-use crate::fields::{
-    take_limit, take_name, take_rate_limit, take_unit, take_unlimited, unless_empty,
-};
+use crate::field_names::{NAME, RATE_LIMIT, REQUESTS_PER_UNIT, UNIT, UNLIMITED};
 use crate::read_replaced::take_replaced;
 use crate::replaced::Replaced;
+use crate::unless_empty::unless_empty;
 use descriptor_tree::Policy;
 use proto_json::{Fields, FormFault};
+use rate_types::refusals::{SELF_REPLACE, TEXT_TOO_LONG, UNIT_MISSING, UNIT_WITH_UNLIMITED};
 use rate_types::{Place, Refused, Text, Unit};
 use std::alloc::Global;
 
@@ -48,7 +48,10 @@ fn rule_named(
         (reading_of (rules.rule_named at policy name replaces)) }
 {
     if replaces_itself(&name, &replaces) {
-        return Err(FormFault::Refused(Refused { at, number: 29 }));
+        return Err(FormFault::Refused(Refused {
+            at,
+            number: SELF_REPLACE,
+        }));
     }
     Ok(Rule {
         policy,
@@ -72,8 +75,14 @@ fn policy_of(
         (reading_of (rules.policy_rules at unit limit unlimited name replaces)) }
 {
     match (unit, unlimited) {
-        (Some(_), true) => Err(FormFault::Refused(Refused { at, number: 15 })),
-        (None, false) => Err(FormFault::Refused(Refused { at, number: 14 })),
+        (Some(_), true) => Err(FormFault::Refused(Refused {
+            at,
+            number: UNIT_WITH_UNLIMITED,
+        })),
+        (None, false) => Err(FormFault::Refused(Refused {
+            at,
+            number: UNIT_MISSING,
+        })),
         (None, true) => rule_named(at, Policy::Unlimited, name, replaces),
         (Some(unit), false) => rule_named(at, Policy::Limited { limit, unit }, name, replaces),
     }
@@ -84,10 +93,10 @@ fn policy_of(
 fn read_policy(alloc: Global, mut fields: Fields) -> Result<Rule, FormFault>
     ensures { AnswersReading (λ r. Some (rule_view r)) result (reading_of (rules.policy (object_of fields))) }
 {
-    let unit = take_unit(&mut fields)?;
-    let limit = take_limit(&mut fields)?;
-    let unlimited = take_unlimited(&mut fields)?;
-    let name = take_name(&mut fields)?;
+    let unit = fields.take_unit(UNIT)?;
+    let limit = fields.take_u32(REQUESTS_PER_UNIT)?;
+    let unlimited = fields.take_bool(UNLIMITED)?;
+    let name = fields.take_short_text(NAME, TEXT_TOO_LONG)?;
     let replaces = take_replaced(alloc, &mut fields)?;
     let at = fields.end()?;
     let name = unless_empty(name);
@@ -109,7 +118,7 @@ pub fn take_policy(alloc: Global, fields: &mut Fields) -> Result<Option<Rule>, F
     ensures { Takes (option_map rule_view) rules.policy_kind names.rate_limit
         (object_of fields.old) result (object_of fields.new) }
 {
-    match take_rate_limit(fields)? {
+    match fields.take_fields(RATE_LIMIT)? {
         Some(policy) => {
             let rule = read_policy(alloc, policy)?;
             Ok(Some(rule))

@@ -1,3 +1,4 @@
+ghost use Rattle.rate_types.specs.declared.limits.TheConstants.{LONGEST_TEXT};
 ghost use Rattle.std.specs.Prelude.{◌≡◌, IfOk, OnOk, Some, true, option_map, codes, ◌∷◌, [], map, string_bytes, ◌≤◌, length};
 ghost use Rattle.serde_json.specs.Data.{string, boolean, object};
 ghost use Rattle.serde_json.specs.View.{view, items_view, members_view};
@@ -118,7 +119,7 @@ fn named(alloc: Global, name: &str) -> Result<Value, OutOfMemory>
 fn replaces(alloc: Global, names: &Texts) -> Result<Option<Value>, OutOfMemory>
     ensures value { IfOk result (λ o. option_map view o
         ≡ printed.list_there (printed.names_json names.now)) }
-    ensures short { OnOk result (All (λ n. length n ≤ 1024) names.now) }
+    ensures short { OnOk result (All (λ n. length n ≤ LONGEST_TEXT) names.now) }
 {
     let names = names.items();
     let mut items = Vec::new(alloc);
@@ -179,7 +180,7 @@ fn rule_there(alloc: Global, node: &Node) -> Result<Option<Value>, OutOfMemory>
         (λ o. option_map view o ≡ printed.rule_there (fields_of (node_view node.now))) }
     ensures name { OnOk result (IsShort (fields_of (node_view node.now)).name) }
     ensures replaces { OnOk result
-        (All (λ n. length n ≤ 1024) (fields_of (node_view node.now)).replaces) }
+        (All (λ n. length n ≤ LONGEST_TEXT) (fields_of (node_view node.now)).replaces) }
     ensures limit { OnOk result (IsSmall (fields_of (node_view node.now)).policy) }
 {
     let name = text_of(alloc, &node.name)?;

@@ -1,6 +1,6 @@
 ghost use Rattle.std.specs.Prelude.{◌≡◌, [], IfOk, IfSome, Some, option_map, unwrap_or};
-ghost use Rattle.serde_json.specs.View.{view, items_view};
-ghost use Rattle.proto_json.specs.Held.{object_of, Takes};
+ghost use Rattle.serde_json.specs.View.{view};
+ghost use Rattle.proto_json.specs.Held.{object_of, list_of, Takes};
 ghost use Rattle.rate_types.specs.Reading.{AnswersReading};
 ghost use Rattle.proto_json.specs.Said.{reading_of};
 ghost use Rattle.descriptor_tree.specs.Config.{AreWellFormed, IsWellFormedBranch};
@@ -11,12 +11,12 @@ ghost use Rattle.config_json.specs.Trees as trees;
 ghost use Rattle.config_json.specs.Views.{rule_view};
 
 use crate::Rule;
-use crate::fields::{
-    take_descriptors, take_detailed_metric, take_key, take_shadow_mode, take_value, unless_empty,
-};
+use crate::field_names::{DESCRIPTORS, DETAILED_METRIC, KEY, SHADOW_MODE, VALUE};
 use crate::policy::take_policy;
+use crate::unless_empty::unless_empty;
 use descriptor_tree::{Forest, Node, Texts};
-use proto_json::{Fields, FormFault};
+use proto_json::{Fields, FormFault, List};
+use rate_types::refusals::TEXT_TOO_LONG;
 use rate_types::{Place, Text};
 use serde_json::Value;
 use std::alloc::Global;
@@ -92,11 +92,11 @@ fn node_of(alloc: Global, mut fields: Fields) -> Result<Node, FormFault>
         (reading_of (trees.node_in o (trees.below_in o.place o.members))) }
     ensures formed { IfOk result (λ n. IsWellFormedBranch (node_view n)) }
 {
-    let key = take_key(&mut fields)?;
-    let value = take_value(&mut fields)?;
+    let key = fields.take_short_text(KEY, TEXT_TOO_LONG)?;
+    let value = fields.take_short_text(VALUE, TEXT_TOO_LONG)?;
     let rule = take_policy(alloc, &mut fields)?;
-    let shadow = take_shadow_mode(&mut fields)?;
-    let _ = take_detailed_metric(&mut fields)?;
+    let shadow = fields.take_bool(SHADOW_MODE)?;
+    let _ = fields.take_bool(DETAILED_METRIC)?;
     let below = take_below(alloc, &mut fields)?;
     let _ = fields.end()?;
     let key = key.unwrap_or(Text::empty(alloc));
@@ -112,10 +112,9 @@ pub fn take_below(alloc: Global, fields: &mut Fields) -> Result<Option<Forest>, 
         (object_of fields.old) result (object_of fields.new) }
     ensures formed { IfOk result (λ o. IfSome o (λ f. AreWellFormed (forest_view f))) }
 {
-    let place = fields.field_place("descriptors", "descriptors")?;
-    match take_descriptors(fields)? {
-        Some(items) => {
-            let forest = read_nodes(alloc, &place, items)?;
+    match fields.take_list(DESCRIPTORS)? {
+        Some(list) => {
+            let forest = read_nodes(alloc, list)?;
             Ok(Some(forest))
         }
         None => Ok(None),
@@ -124,15 +123,15 @@ pub fn take_below(alloc: Global, fields: &mut Fields) -> Result<Option<Forest>, 
 
 // Reads the nodes of a list.
 #[cycle(read)]
-fn read_nodes(alloc: Global, place: &Place, items: Vec<Value>) -> Result<Forest, FormFault>
+fn read_nodes(alloc: Global, list: List) -> Result<Forest, FormFault>
     ensures said { AnswersReading (λ f. Some (forest_view f)) result
-        (reading_of (trees.nodes_at place.now 0 (items_view items.items))) }
+        (reading_of (trees.nodes_in (list_of list))) }
     ensures formed { IfOk result (λ f. AreWellFormed (forest_view f)) }
 {
     let mut nodes = Vec::new(alloc);
     let mut index = 0u64;
-    'items: for value in items {
-        let at = place.item(alloc, index)?;
+    'items: for value in list.items {
+        let at = list.place.item(alloc, index)?;
         let node = match read_node(alloc, value, at) {
             Ok(node) => node,
             Err(fault) => return Err(fault),

@@ -3,6 +3,7 @@ ghost use Rattle.std.specs.List.{All};
 
 use descriptor_tree::Texts;
 use rate_types::Text;
+use rate_types::limits::MOST_REPLACED;
 use std::alloc::Global;
 use std::marker::Model;
 
@@ -15,12 +16,13 @@ pub struct Replaced {
 impl Model for Replaced {
     ghost use Rattle.std.specs.Prelude.{◌≢◌, ◌≤◌, ℕ, List, [], length};
     ghost use Rattle.std.specs.List.{All};
+    ghost use Rattle.rate_types.specs.declared.limits.TheConstants.{MOST_REPLACED};
 
     ghost Value = { List (List ℕ) };
 
     ghost view = { λ r. r.names };
 
-    ghost invariant = { λ r. (length r.names ≤ 32) × All (λ n. n ≢ []) r.names };
+    ghost invariant = { λ r. (length r.names ≤ MOST_REPLACED) × All (λ n. n ≢ []) r.names };
 }
 
 impl Replaced {
@@ -35,7 +37,7 @@ impl Replaced {
 
     /// These names.
     pub fn of(names: Vec<Text>) -> Replaced
-        requires few { length names.items ≤ 32 }
+        requires few { length names.items ≤ MOST_REPLACED }
         requires there { All (λ n. n ≢ []) names.items }
         ensures { result ≡ names.items }
     {
@@ -54,7 +56,7 @@ impl Replaced {
     /// The names as a list of texts.
     pub fn into_texts(self) -> Texts
         ensures same { result ≡ self }
-        ensures few { length self ≤ 32 }
+        ensures few { length self ≤ MOST_REPLACED }
         ensures there { All (λ n. n ≢ []) self }
     {
         self.names

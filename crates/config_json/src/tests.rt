@@ -217,6 +217,11 @@ fn configurations_print_in_one_form(rt: HostRuntime) -> Result<(), Fail> {
             r#"{"name":"x","domain":"d","descriptors":[{"key":"k","value":"v*","shadow_mode":true,"detailed_metric":true,"rate_limit":{"unit":"day","requests_per_unit":"0","name":"a","replaces":["b",{"name":"c"},""]},"descriptors":[{"key":"u","value":"","rateLimit":{"unlimited":true,"requestsPerUnit":7}}]}]}"#,
             r#"{"descriptors":[{"descriptors":[{"key":"u","rateLimit":{"unlimited":true}}],"key":"k","rateLimit":{"name":"a","replaces":[{"name":"b"},{"name":"c"}],"unit":"DAY"},"shadowMode":true,"value":"v*"}],"domain":"d"}"#,
         ),
+        // Nodes without a policy and unlimited ones.
+        (
+            r#"{"domain":"d","descriptors":[{"key":"a"},{"key":"a","value":"x","rateLimit":null,"descriptors":[{"key":"b","rateLimit":{"unlimited":true,"unit":"UNKNOWN","name":""}}]},{"key":"c","rateLimit":{"unlimited":true}}]}"#,
+            r#"{"descriptors":[{"key":"a"},{"descriptors":[{"key":"b","rateLimit":{"unlimited":true}}],"key":"a","value":"x"},{"key":"c","rateLimit":{"unlimited":true}}],"domain":"d"}"#,
+        ),
     ];
     for (text, want) in rows {
         let first = printed(rt.alloc(), text)?;

@@ -1,9 +1,12 @@
 -- The fields of an object: each by its two spellings.
-use Rattle.std.specs.Prelude.{ℕ, List, [], ◌∷◌, if◌then◌else◌, Option, Some, None}
+use Rattle.std.specs.Prelude.{ℕ, List, [], ◌∷◌, map, if◌then◌else◌, Option, Some, None}
+use Rattle.std.specs.BTreeSet.{insert_key}
 use Rattle.std.specs.Str.{bytes_eq}
+use Rattle.rate_types.specs.Counters.{text_cmp}
+use Rattle.rate_types.specs.declared.refusals.TheConstants.{UNKNOWN_FIELD, TWO_NAMES}
 use Rattle.rate_types.specs.declared.refused.Refused.{Refused}
 use Rattle.rate_types.specs.Places.{child}
-use Rattle.serde_json.specs.Data.{Data, null, boolean, number, string, array, object, Members, no_members, member}
+use Rattle.serde_json.specs.Data.{Data, null, boolean, number, string, array, object, Items, Members, no_members, member}
 use Rattle.serde_json.specs.Find.{get_member}
 use Rattle.proto_json.specs.Said.{Said, said, says, refuses, ◌>>=◌}
 
@@ -12,10 +15,24 @@ pub record Object : Type 0 where
   pub place : List ℕ
   pub members : Members
 
+-- a list: its place in the document, and its items
+pub record Listed : Type 0 where
+  pub place : List ℕ
+  pub items : Items
+
+-- a value with its place in the document
+pub record Placed : Type 0 where
+  pub place : List ℕ
+  pub value : Data
+
 -- the two spellings of a field: lowerCamelCase, and the original one with underscores
 pub record Name : Type 0 where
   pub camel : List ℕ
   pub plain : List ℕ
+
+-- the name that a constant spells
+abbrev pub spelled : (record { now : List ℕ }) × (record { now : List ℕ }) → Name
+spelled field = record { camel = field.0.now; plain = field.1.now }
 
 -- what stands in an object for a field
 pub data Found : Type 0 where
@@ -57,9 +74,9 @@ unless_null spelling (object ms) = Some (spelling, object ms)
 abbrev pub standing_of : List ℕ → Name → Found → Said (Option (List ℕ × Data))
 standing_of place name absent = says None
 standing_of place name (once spelling d) = says (unless_null spelling d)
-standing_of place name twice = refuses 4 (child place name.camel)
+standing_of place name twice = refuses TWO_NAMES (child place name.camel)
 
--- What stands in an object for a field: nothing where it is absent or null, and 4 where both spellings stand there.
+-- What stands in an object for a field: nothing where it is absent or null, and 4 TwoNames where both spellings stand there.
 unfoldable pub standing : Name → Object → Said (Option (List ℕ × Data))
 standing name o = standing_of o.place name (find name o.members)
 
@@ -75,19 +92,19 @@ field kind name o = standing name o >>= read_as kind o.place
 unfoldable pub take : {X : Type 0} → (List ℕ → Data → Said (Option X)) → Name → Object → Said (Option X × Object)
 take kind name o = field kind name o >>= λ value. says (value, after name o)
 
-abbrev pub found_place : List ℕ → Name → Found → List ℕ
-found_place place name absent = child place name.camel
-found_place place name (once spelling d) = child place spelling
-found_place place name twice = child place name.camel
+-- the names of members
+abbrev pub names_of : Members → List (List ℕ)
+names_of no_members = []
+names_of (member k d ms) = k ∷ names_of ms
 
--- the place of a field, in the spelling that stands in the object, else in lowerCamelCase
-unfoldable pub field_place : Name → Object → List ℕ
-field_place name o = found_place o.place name (find name o.members)
+-- names in the order of their bytes, each of them once
+abbrev pub in_order : List (List ℕ) → List (List ℕ)
+in_order [] = []
+in_order (name ∷ names) = insert_key text_cmp (in_order names) name
 
--- each name that is left, 3 at its place
+-- each name that is left, 3 UnknownField at its place, in the order of the names' bytes
 abbrev pub left_over : List ℕ → Members → List Refused
-left_over place no_members = []
-left_over place (member k d ms) = record { at = child place k; number = 3 } ∷ left_over place ms
+left_over place ms = map (λ name. record { at = child place name; number = UNKNOWN_FIELD }) (in_order (names_of ms))
 
 -- the object's place, and each name that is left
 unfoldable pub ends : Object → Said (List ℕ)

@@ -1,23 +1,18 @@
--- Laws of readings, for the readers of messages in other crates: the reading of one part after the other stops at the first fault.
-use Rattle.std.specs.Prelude.{◌≡◌, ℕ, ◌+◌, List, [], ◌∷◌, ◌++◌, Option, Some, None, option_map, Result, Ok, Err}
-use Rattle.std.proofs.Common.{Bool, true, false, cond, Ordering, Less, Equal, Greater, is_eq, bytes_eq, nat_cmp, true≢false, refl, sym, ap, subst, ◌∙◌, append_assoc}
+-- Inside: laws of readings that the proofs of readers cite, here and in other crates. The reading of one part after the
+-- other stops at the first fault; a field is what stands there and then its kind; taking one field leaves the others.
+use Rattle.std.specs.Prelude.{◌≡◌, ℕ, List, [], ◌∷◌, Option, Some, None, Result, Ok, Err}
+use Rattle.std.proofs.Common.{Bool, true, false, cond, Ordering, Less, Equal, Greater, is_eq, bytes_eq, nat_cmp, true≢false, refl, sym, ap, subst, ◌∙◌}
 use Rattle.std.proofs.lemmas.Slice.Eq.{bytes_eq-Decides}
 use Rattle.std.specs.Cmp.Lexicographic.{slice_cmp}
 use Rattle.std.specs.Ordering.{match_ordering}
 use Rattle.std.proofs.lemmas.Map.Text.{is_eq-slice_cmp}
-use Rattle.std.proofs.lemmas.List.{append-nil}
 use Rattle.rate_types.specs.declared.refused.Refused.{Refused}
-use Rattle.rate_types.specs.Places as places
 use Rattle.rate_types.specs.Places.{child}
-use Rattle.serde_json.specs.Data.{Data, null, boolean, number, string, array, object, Items, no_items, item, Members, no_members, member}
-use Rattle.rate_types.specs.declared.fault.Fault.{Fault}
-use Rattle.rate_types.specs.declared.fault.Fault.TheVariants as fault
-use Rattle.rate_types.specs.Reading.{IsRefusal}
+use Rattle.serde_json.specs.Data.{Data, null, boolean, number, string, array, object, Members, no_members, member}
 use Rattle.proto_json.specs.Said.{Said, said, says, preceded, reading_of, ◌>>=◌}
-use Rattle.proto_json.specs.Fields.{Name, Object, Found, absent, once, twice, found_by, find, without, without_both, standing_of, standing, field, take, after, read_as, field_place, found_place}
+use Rattle.proto_json.specs.Fields.{Name, Object, Found, absent, once, twice, found_by, find, without, without_both, standing_of, standing, field, take, after, read_as}
 use Rattle.proto_json.specs.Kinds.{and_read, read_some}
 use Rattle.serde_json.specs.Find.{get_member}
-use Rattle.proto_json.specs.Lists.{items_from, with_first}
 use Rattle.proto_json.specs.Document.{json_of, json_said, document}
 
 -- one reading, and where it is a value the next
@@ -59,27 +54,35 @@ take_field kind name o = reading_then (field kind name o) (λ value. says (value
 
 read_further : {X Y : Type 0} (left : Object) (read : Result (Option X) Refused) (next : X → Said (Option Y))
     → then_read {Y = Option Y × Object} (then_read read (λ x. reading_of (read_some next x))) (λ value. Ok (value, left))
-    ≡ then_read {Y = Option Y × Object} (then_read {Y = Option X × Object} read (λ x. Ok (x, left))) (λ it. then_read {Y = Option Y × Object} (reading_of (read_some next it.0)) (λ value. Ok (value, it.1)))
+    ≡ then_read {Y = Option Y × Object} (then_read {Y = Option X × Object} read (λ x. Ok (x, left)))
+    (λ it. then_read {Y = Option Y × Object} (reading_of (read_some next it.0)) (λ value. Ok (value, it.1)))
 read_further left (Ok x) next = refl
 read_further left (Err r) next = refl
 
--- a field whose value is read further at its place: first the field, then its value
-pub take_and_read : {X Y : Type 0} (kind : List ℕ → Data → Said (Option X)) (next : List ℕ → X → Said (Option Y)) (name : Name) (o : Object)
+-- a field whose value is read further: first the field, then its value
+pub take_and_read : {X Y : Type 0} (kind : List ℕ → Data → Said (Option X)) (next : X → Said (Option Y)) (name : Name) (o : Object)
     → reading_of (take (and_read kind next) name o)
-    ≡ then_read (reading_of (take kind name o)) (λ it. then_read {Y = Option Y × Object} (reading_of (read_some (next (field_place name o)) it.0)) (λ value. Ok (value, it.1)))
-unfolding and_read standing field_place
+    ≡ then_read (reading_of (take kind name o))
+    (λ it. then_read {Y = Option Y × Object} (reading_of (read_some next it.0)) (λ value. Ok (value, it.1)))
+unfolding and_read standing
 take_and_read {X = X} {Y = Y} kind next name o =
     take_reads (and_read kind next) name o ∙ by (find name o.members)
-    ∙ sym (ap (λ r. then_read {Y = Option Y × Object} r (λ it. then_read {Y = Option Y × Object} (reading_of (read_some (next (field_place name o)) it.0)) (λ value. Ok (value, it.1)))) (take_reads kind name o))
+    ∙ sym (ap (λ r. then_read {Y = Option Y × Object} r
+    (λ it. then_read {Y = Option Y × Object} (reading_of (read_some next it.0)) (λ value. Ok (value, it.1)))) (take_reads kind name o))
   where
-    at : (place : List ℕ) (d : Data) → then_read {Y = Option Y × Object} (reading_of (and_read kind next place d)) (λ value. Ok (value, after name o))
-        ≡ then_read {Y = Option Y × Object} (then_read {Y = Option X × Object} (reading_of (kind place d)) (λ x. Ok (x, after name o))) (λ it. then_read {Y = Option Y × Object} (reading_of (read_some (next place) it.0)) (λ value. Ok (value, it.1)))
-    at place d = ap (λ r. then_read {Y = Option Y × Object} r (λ value. Ok (value, after name o))) (reading_then (kind place d) (read_some (next place)))
-        ∙ read_further (after name o) (reading_of (kind place d)) (next place)
+    at : (place : List ℕ) (d : Data)
+        → then_read {Y = Option Y × Object} (reading_of (and_read kind next place d)) (λ value. Ok (value, after name o))
+        ≡ then_read {Y = Option Y × Object} (then_read {Y = Option X × Object} (reading_of (kind place d)) (λ x. Ok (x, after name o)))
+        (λ it. then_read {Y = Option Y × Object} (reading_of (read_some next it.0)) (λ value. Ok (value, it.1)))
+    at place d = ap (λ r. then_read {Y = Option Y × Object} r (λ value. Ok (value, after name o))) (reading_then (kind place d) (read_some next))
+        ∙ read_further (after name o) (reading_of (kind place d)) next
 
-    by : (found : Found) → then_read {Y = Option Y × Object} (reading_of (standing_of o.place name found)) (λ it. then_read {Y = Option Y × Object} (reading_of (read_as (and_read kind next) o.place it)) (λ value. Ok (value, after name o)))
-        ≡ then_read {Y = Option Y × Object} (then_read {Y = Option X × Object} (reading_of (standing_of o.place name found)) (λ it. then_read {Y = Option X × Object} (reading_of (read_as kind o.place it)) (λ value. Ok (value, after name o))))
-        (λ it. then_read {Y = Option Y × Object} (reading_of (read_some (next (found_place o.place name found)) it.0)) (λ value. Ok (value, it.1)))
+    by : (found : Found)
+        → then_read {Y = Option Y × Object} (reading_of (standing_of o.place name found))
+        (λ it. then_read {Y = Option Y × Object} (reading_of (read_as (and_read kind next) o.place it)) (λ value. Ok (value, after name o)))
+        ≡ then_read {Y = Option Y × Object} (then_read {Y = Option X × Object} (reading_of (standing_of o.place name found))
+        (λ it. then_read {Y = Option X × Object} (reading_of (read_as kind o.place it)) (λ value. Ok (value, after name o))))
+        (λ it. then_read {Y = Option Y × Object} (reading_of (read_some next it.0)) (λ value. Ok (value, it.1)))
     by absent = refl
     by twice = refl
     by (once spelling null) = refl
@@ -160,42 +163,3 @@ field_after kind name other o apart = ap (λ found. standing_of o.place name fou
     same : find name (without_both other o.members) ≡ find name o.members
     same = ap (λ one. found_by name one (cond (bytes_eq name.camel name.plain) None (get_member name.plain (without_both other o.members)))) (get_member_without_both name.camel other o.members apart.camels apart.plain_camel)
         ∙ ap (λ two. found_by name (get_member name.camel o.members) (cond (bytes_eq name.camel name.plain) None two)) (get_member_without_both name.plain other o.members apart.camel_plain apart.plains)
-
--- ---- the items of a list, one after the other
-
--- what the rest of a list says behind these values
-abbrev pub behind : {X : Type 0} → List X → Result (Option (List X)) Refused → Result (Option (List X)) Refused
-behind front read = then_read read (λ xs. Ok (option_map (λ more. front ++ more) xs))
-
--- no item is left
-pub items_none : {X : Type 0} (read : List ℕ → Data → Said (Option X)) (place : List ℕ) (index : ℕ) (front : List X) → behind front (reading_of (items_from read place index no_items)) ≡ Ok (Some front)
-unfolding items_from
-items_none read place index front = ap (λ xs. Ok (Some xs)) (append-nil front)
-
-behind_more : {X : Type 0} (front : List X) (x : X) (read : Result (Option (List X)) Refused) → behind front (then_read read (λ xs. Ok (with_first (Some x) xs))) ≡ behind (front ++ x ∷ []) read
-behind_more front x (Err e) = refl
-behind_more front x (Ok None) = refl
-behind_more front x (Ok (Some xs)) = ap (λ more. Ok (Some more)) (sym (append_assoc front (x ∷ []) xs))
-
--- one more item was read
-pub items_more : {X : Type 0} (read : List ℕ → Data → Said (Option X)) (place : List ℕ) (index : ℕ) (front : List X) (d : Data) (ds : Items) (x : X) → reading_of (read (places.item place index) d) ≡ Ok (Some x)
-    → behind front (reading_of (items_from read place index (item d ds))) ≡ behind (front ++ x ∷ []) (reading_of (items_from read place (index + 1) ds))
-unfolding items_from
-items_more {X = X} read place index front d ds x is = ap (behind front) one ∙ behind_more front x (reading_of (items_from read place (index + 1) ds))
-  where
-    rest : Option X → Said (Option (List X))
-    rest y = items_from read place (index + 1) ds >>= λ xs. says (with_first y xs)
-
-    one : reading_of (items_from read place index (item d ds)) ≡ then_read (reading_of (items_from read place (index + 1) ds)) (λ xs. Ok (with_first (Some x) xs))
-    one = reading_then (read (places.item place index) d) rest ∙ ap (λ r. then_read r (λ y. reading_of (rest y))) is
-        ∙ reading_then (items_from read place (index + 1) ds) (λ xs. says (with_first (Some x) xs))
-
--- an item is refused, and so is the list
-pub items_refused : {X : Type 0} (read : List ℕ → Data → Said (Option X)) (place : List ℕ) (index : ℕ) (front : List X) (d : Data) (ds : Items) (e : Fault Refused) → IsRefusal e (reading_of (read (places.item place index) d))
-    → IsRefusal e (behind front (reading_of (items_from read place index (item d ds))))
-unfolding items_from
-items_refused {X = X} read place index front d ds (fault.Refused r) is = ap (behind front) one
-  where
-    one : reading_of (items_from read place index (item d ds)) ≡ Err r
-    one = reading_then (read (places.item place index) d) (λ y. items_from read place (index + 1) ds >>= λ xs. says (with_first y xs)) ∙ ap (λ q. then_read q (λ y. reading_of (items_from read place (index + 1) ds >>= λ xs. says (with_first y xs)))) is
-items_refused read place index front d ds fault.OutOfMemory is = tt

@@ -2,6 +2,7 @@
 use Rattle.std.specs.Prelude.{ℕ, ◌+◌, List, [], ◌∷◌, Option, Some, None}
 use Rattle.rate_types.specs.Places as places
 use Rattle.serde_json.specs.Data.{Data, Items, no_items, item}
+use Rattle.proto_json.specs.Fields.{Listed}
 use Rattle.proto_json.specs.Said.{Said, says, ◌>>=◌}
 
 -- a value before those behind it, where all are there
@@ -16,5 +17,5 @@ items_from read place index no_items = says (Some [])
 items_from read place index (item d ds) = read (places.item place index) d >>= λ x. items_from read place (index + 1) ds >>= λ xs. says (with_first x xs)
 
 -- the items of a list
-abbrev pub each_item : {X : Type 0} → (List ℕ → Data → Said (Option X)) → List ℕ → Items → Said (Option (List X))
-each_item read place ds = items_from read place 0 ds
+unfoldable pub each_item : {X : Type 0} → (List ℕ → Data → Said (Option X)) → Listed → Said (Option (List X))
+each_item read list = items_from read list.place 0 list.items

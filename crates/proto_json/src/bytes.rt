@@ -5,6 +5,7 @@ ghost use Rattle.proto_json.specs.Said.{reading_of};
 ghost use Rattle.proto_json.specs.Document.{document};
 
 use crate::FormFault;
+use rate_types::refusals::BAD_JSON;
 use rate_types::{Place, Refused};
 use serde_json::Value;
 use std::alloc::Global;
@@ -23,7 +24,7 @@ pub fn parse(alloc: Global, bytes: &[u8]) -> Result<Value, FormFault>
             } else {
                 Err(FormFault::Refused(Refused {
                     at: Place::empty(alloc),
-                    number: 1,
+                    number: BAD_JSON,
                 }))
             }
         }

@@ -1,14 +1,15 @@
 ghost use Rattle.std.specs.Prelude.{◌≡◌, option_map, string_bytes};
-ghost use Rattle.std.specs.Char.{is_ascii_digit};
-ghost use Rattle.std.specs.List.{list_all};
 ghost use Rattle.std.specs.Str.{str_eq_ignore_ascii_case};
-ghost use Rattle.rate_types.specs.Durations as durations;
 ghost use Rattle.serde_json.specs.Find.{as_str, as_array, as_object};
 ghost use Rattle.serde_json.specs.View.{view, items_view, members_view, number_view};
 ghost use Rattle.proto_json.specs.Kinds as kinds;
 
-use rate_types::Unit;
+use rate_types::refusals::{NUMBER_FORM, NUMBER_RANGE, UNKNOWN_NAME, WRONG_KIND};
+use rate_types::{Unit, is_numeral};
 use serde_json::{Map, Number, Value};
+
+/// The most digits of a whole number that is a text.
+pub const LONGEST_NUMERAL: usize = 20;
 
 /// The text of a JSON string, None for any other value.
 pub fn into_text(value: Value) -> Option<String>
@@ -21,7 +22,7 @@ pub fn into_text(value: Value) -> Option<String>
 }
 
 /// The items of a JSON array, None for any other value.
-pub fn into_list(value: Value) -> Option<Vec<Value>>
+pub fn into_items(value: Value) -> Option<Vec<Value>>
     ensures { option_map (λ items. items_view items.items) result ≡ as_array (view value) }
 {
     match value {
@@ -43,7 +44,11 @@ pub fn into_object(value: Value) -> Option<Map<String, Value>>
 fn at_most(n: u64, greatest: u64) -> Result<u64, u32>
     ensures { result ≡ kinds.at_most greatest n }
 {
-    if n > greatest { Err(7) } else { Ok(n) }
+    if n > greatest {
+        Err(NUMBER_RANGE)
+    } else {
+        Ok(n)
+    }
 }
 
 fn whole_number(number: &Number, greatest: u64) -> Result<u64, u32>
@@ -52,30 +57,22 @@ fn whole_number(number: &Number, greatest: u64) -> Result<u64, u32>
     if let Some(n) = number.as_u64() {
         return at_most(n, greatest);
     }
-    if number.is_f64() { Err(6) } else { Err(7) }
-}
-
-fn all_digits(text: &str) -> bool
-    ensures { result ≡ list_all is_ascii_digit text.now }
-{
-    text.as_bytes().iter().all(|b| b.is_ascii_digit())
-}
-
-fn is_numeral(text: &str) -> bool
-    ensures { result ≡ durations.is_numeral 20 text.now }
-{
-    !text.is_empty() && text.len() <= 20 && all_digits(text)
+    if number.is_f64() {
+        Err(NUMBER_FORM)
+    } else {
+        Err(NUMBER_RANGE)
+    }
 }
 
 fn whole_text(text: &str, greatest: u64) -> Result<u64, u32>
     ensures { result ≡ kinds.whole_text greatest text.now }
 {
-    if !is_numeral(text) {
-        return Err(6);
+    if !is_numeral(text.as_bytes(), LONGEST_NUMERAL) {
+        return Err(NUMBER_FORM);
     }
     match text.parse::<u64>() {
         Ok(n) => at_most(n, greatest),
-        Err(_) => Err(7),
+        Err(_) => Err(NUMBER_RANGE),
     }
 }
 
@@ -86,7 +83,7 @@ pub fn whole_of(value: &Value, greatest: u64) -> Result<u64, u32>
     match value {
         Value::Number(number) => whole_number(number, greatest),
         Value::String(text) => whole_text(text, greatest),
-        _ => Err(5),
+        _ => Err(WRONG_KIND),
     }
 }
 
@@ -111,6 +108,6 @@ pub fn unit_named(name: &str) -> Result<Option<Unit>, u32>
     } else if is_named(name, "UNKNOWN") {
         Ok(None)
     } else {
-        Err(8)
+        Err(UNKNOWN_NAME)
     }
 }

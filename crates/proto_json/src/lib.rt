@@ -6,13 +6,14 @@
 //!
 //! ```text
 //! let mut fields = Fields::of(value, place)?;
-//! let key = fields.take_text("key", "key")?;
-//! let shadow = fields.take_bool("shadowMode", "shadow_mode")?;
+//! let key = fields.take_text(KEY)?;
+//! let shadow = fields.take_bool(SHADOW_MODE)?;
 //! let place = fields.end()?;
 //! ```
 //!
 //! Each take equals the field's definition (`Fields.antt`, `Kinds.antt`), so that the reader equals its message's, which
-//! is the same list of takes; `Laws.antt` has the laws for that.
+//! is the same list of takes; `Laws.antt` has the laws for that. `read_items` reads the items of a list, each of one `Kind`,
+//! and `read_members` an object whose names are data, each of its members a `NamedMember`.
 //!
 //! Limits: `serde_json` refuses more than 127 arrays and objects inside one another, and reads a name that stands
 //! twice with one spelling as the later one.
@@ -20,12 +21,22 @@
 
 mod bytes;
 mod fault;
+mod field_name;
 mod fields;
 mod kinds;
+mod lists;
+mod named_members;
+mod placed;
+mod texts;
 
 pub use bytes::parse;
 pub use fault::FormFault;
+pub use field_name::FieldName;
 pub use fields::Fields;
+pub use lists::{Kind, read_items};
+pub use named_members::{NamedMember, read_members};
+pub use placed::{List, Placed};
+pub use texts::{ShortText, read_text};
 
 #[cfg(test)]
 mod tests;

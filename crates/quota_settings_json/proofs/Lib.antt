@@ -1,4 +1,2 @@
-pub mod Members
 pub mod Rising
 pub mod Intervals
-pub mod Items

@@ -1,62 +1,62 @@
 -- The fields of settings, each by its two spellings.
-use Rattle.std.specs.Prelude.{codes}
-use Rattle.proto_json.specs.Fields.{Name}
+use Rattle.proto_json.specs.Fields.{Name, spelled}
+use Rattle.quota_settings_json.specs.declared.field_names.TheConstants as spellings
 
 abbrev pub domain : Name
-domain = record { camel = codes "domain"; plain = codes "domain" }
+domain = spelled spellings.DOMAIN
 
 abbrev pub buckets : Name
-buckets = record { camel = codes "buckets"; plain = codes "buckets" }
+buckets = spelled spellings.BUCKETS
 
 abbrev pub matches : Name
-matches = record { camel = codes "match"; plain = codes "match" }
+matches = spelled spellings.MATCHES
 
 -- a bucket's builder, and the builder's own field of the same name
 abbrev pub bucket_id_builder : Name
-bucket_id_builder = record { camel = codes "bucketIdBuilder"; plain = codes "bucket_id_builder" }
+bucket_id_builder = spelled spellings.BUCKET_ID_BUILDER
 
 abbrev pub reporting_interval : Name
-reporting_interval = record { camel = codes "reportingInterval"; plain = codes "reporting_interval" }
+reporting_interval = spelled spellings.REPORTING_INTERVAL
 
 abbrev pub no_assignment_behavior : Name
-no_assignment_behavior = record { camel = codes "noAssignmentBehavior"; plain = codes "no_assignment_behavior" }
+no_assignment_behavior = spelled spellings.NO_ASSIGNMENT_BEHAVIOR
 
 abbrev pub expired_assignment_behavior : Name
-expired_assignment_behavior = record { camel = codes "expiredAssignmentBehavior"; plain = codes "expired_assignment_behavior" }
+expired_assignment_behavior = spelled spellings.EXPIRED_ASSIGNMENT_BEHAVIOR
 
 abbrev pub string_value : Name
-string_value = record { camel = codes "stringValue"; plain = codes "string_value" }
+string_value = spelled spellings.STRING_VALUE
 
 abbrev pub attribute : Name
-attribute = record { camel = codes "attribute"; plain = codes "attribute" }
+attribute = spelled spellings.ATTRIBUTE
 
 abbrev pub fallback_rate_limit : Name
-fallback_rate_limit = record { camel = codes "fallbackRateLimit"; plain = codes "fallback_rate_limit" }
+fallback_rate_limit = spelled spellings.FALLBACK_RATE_LIMIT
 
 abbrev pub expired_timeout : Name
-expired_timeout = record { camel = codes "expiredAssignmentBehaviorTimeout"; plain = codes "expired_assignment_behavior_timeout" }
+expired_timeout = spelled spellings.EXPIRED_TIMEOUT
 
 abbrev pub reuse_last_assignment : Name
-reuse_last_assignment = record { camel = codes "reuseLastAssignment"; plain = codes "reuse_last_assignment" }
+reuse_last_assignment = spelled spellings.REUSE_LAST_ASSIGNMENT
 
 abbrev pub blanket_rule : Name
-blanket_rule = record { camel = codes "blanketRule"; plain = codes "blanket_rule" }
+blanket_rule = spelled spellings.BLANKET_RULE
 
 -- a strategy's limit, and the limit's own field of the same name
 abbrev pub requests_per_time_unit : Name
-requests_per_time_unit = record { camel = codes "requestsPerTimeUnit"; plain = codes "requests_per_time_unit" }
+requests_per_time_unit = spelled spellings.REQUESTS_PER_TIME_UNIT
 
 abbrev pub token_bucket : Name
-token_bucket = record { camel = codes "tokenBucket"; plain = codes "token_bucket" }
+token_bucket = spelled spellings.TOKEN_BUCKET
 
 abbrev pub time_unit : Name
-time_unit = record { camel = codes "timeUnit"; plain = codes "time_unit" }
+time_unit = spelled spellings.TIME_UNIT
 
 abbrev pub max_tokens : Name
-max_tokens = record { camel = codes "maxTokens"; plain = codes "max_tokens" }
+max_tokens = spelled spellings.MAX_TOKENS
 
 abbrev pub tokens_per_fill : Name
-tokens_per_fill = record { camel = codes "tokensPerFill"; plain = codes "tokens_per_fill" }
+tokens_per_fill = spelled spellings.TOKENS_PER_FILL
 
 abbrev pub fill_interval : Name
-fill_interval = record { camel = codes "fillInterval"; plain = codes "fill_interval" }
+fill_interval = spelled spellings.FILL_INTERVAL

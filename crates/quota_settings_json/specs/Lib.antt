@@ -1,5 +1,4 @@
 pub mod FieldNames
-pub mod NamedMembers
 pub mod ReadAttributes
 pub mod ReadStrategy
 pub mod ReadParts

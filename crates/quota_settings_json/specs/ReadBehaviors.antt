@@ -1,6 +1,7 @@
 -- What the behaviours of a bucket without an assignment say, and after an assignment expired.
 use Rattle.std.specs.Prelude.{ℕ, List, nat_eq, Bool, false, if◌then◌else◌, Option, Some, None, option_map, unwrap_or}
 use Rattle.serde_json.specs.Data.{Data}
+use Rattle.rate_types.specs.declared.refusals.TheConstants.{TWO_OF_ONE, TIMEOUT_ZERO}
 use Rattle.proto_json.specs.Said.{Said, says, refuses, ◌>>=◌}
 use Rattle.proto_json.specs.Fields.{Object, take, ends}
 use Rattle.proto_json.specs.Kinds as kinds
@@ -23,7 +24,7 @@ unassigned_in o = do
 
 -- that behaviour as a kind of field
 abbrev pub unassigned : List ℕ → Data → Said (Option Strategy)
-unassigned = kinds.and_read kinds.message (λ place o. unassigned_in o)
+unassigned = kinds.and_read kinds.message unassigned_in
 
 -- ---- after an assignment expired
 
@@ -33,8 +34,9 @@ empty_in o = do
   place ← ends o
   says (Some place)
 
+-- that object as a kind of field
 abbrev pub empty : List ℕ → Data → Said (Option (List ℕ))
-empty = kinds.and_read kinds.message (λ place o. empty_in o)
+empty = kinds.and_read kinds.message empty_in
 
 -- what happens at expiry: a fallback or reuse, and with neither of them the bucket is abandoned; none where both are there
 abbrev pub at_expiry : Option Strategy → Option (List ℕ) → Option AtExpiry
@@ -43,18 +45,19 @@ at_expiry (Some fallback) None = Some (Fallback fallback)
 at_expiry None (Some reuse) = Some Reuse
 at_expiry (Some fallback) (Some reuse) = None
 
+-- whether a timeout is there and 0
 abbrev pub is_zero : Option ℕ → Bool
 is_zero None = false
 is_zero (Some millis) = nat_eq millis 0
 
--- a timeout that isn't 0, else 47; without one the behaviour doesn't end by itself
+-- a timeout that isn't 0, else 47 TimeoutZero; without one the behaviour doesn't end by itself
 unfoldable pub timeout_rule : List ℕ → Option ℕ → Said (Option ℕ)
-timeout_rule place timeout = if is_zero timeout then refuses 47 place else says timeout
+timeout_rule place timeout = if is_zero timeout then refuses TIMEOUT_ZERO place else says timeout
 
 -- the own rules: 34 TwoOfOne where a fallback and reuse are there, then 47 TimeoutZero
 unfoldable pub expiry_rules : List ℕ → Option ℕ → Option Strategy → Option (List ℕ) → Said (Option Expiry)
 expiry_rules place timeout fallback reuse = do
-  behavior ← kinds.wanted 34 place (at_expiry fallback reuse)
+  behavior ← kinds.wanted TWO_OF_ONE place (at_expiry fallback reuse)
   ends_after ← timeout_rule place timeout
   says (option_map (λ b. record { behavior = b; timeout = ends_after }) behavior)
 
@@ -69,4 +72,4 @@ expiry_in o = do
 
 -- that behaviour as a kind of field
 abbrev pub expiry : List ℕ → Data → Said (Option Expiry)
-expiry = kinds.and_read kinds.message (λ place o. expiry_in o)
+expiry = kinds.and_read kinds.message expiry_in

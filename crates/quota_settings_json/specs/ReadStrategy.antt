@@ -3,8 +3,10 @@ use Rattle.std.specs.Prelude.{ℕ, List, nat_eq, if◌then◌else◌, Option, So
 use Rattle.std.specs.Str.{bytes_eq}
 use Rattle.rate_types.specs.declared.unit.Unit.{Unit}
 use Rattle.serde_json.specs.Data.{Data}
+use Rattle.serde_json.specs.Find.{as_str}
+use Rattle.rate_types.specs.declared.refusals.TheConstants.{WRONG_KIND, UNKNOWN_NAME, UNIT_MISSING, TWO_OF_ONE, NO_TOKENS, NO_FILL, FILL_ZERO}
 use Rattle.proto_json.specs.Said.{Said, says, refuses, ◌>>=◌}
-use Rattle.proto_json.specs.Fields.{Object, take, ends}
+use Rattle.proto_json.specs.Fields.{Object, Placed, take, ends}
 use Rattle.proto_json.specs.Kinds as kinds
 use Rattle.quota_bucket.specs.declared.strategy.Strategy.{Strategy}
 use Rattle.quota_bucket.specs.declared.strategy.Strategy.TheVariants.{AllowAll, DenyAll, PerUnit, TokenBucket}
@@ -16,31 +18,38 @@ unless_zero refusal place n = if nat_eq n 0 then refuses refusal place else says
 
 -- ---- a blanket rule
 
--- the blanket rule of this name; another name is 8
-unfoldable pub blanket_named : List ℕ → List ℕ → Said (Option Strategy)
-blanket_named place name = if bytes_eq name (codes "ALLOW_ALL") then says (Some AllowAll)
-    else (if bytes_eq name (codes "DENY_ALL") then says (Some DenyAll) else refuses 8 place)
+-- the blanket rule of this name; another name is 8 UnknownName, no name 5 WrongKind
+unfoldable pub blanket_named : List ℕ → Option (List ℕ) → Said (Option Strategy)
+blanket_named place None = refuses WRONG_KIND place
+blanket_named place (Some name) = if bytes_eq name (codes "ALLOW_ALL") then says (Some AllowAll)
+    else (if bytes_eq name (codes "DENY_ALL") then says (Some DenyAll) else refuses UNKNOWN_NAME place)
+
+-- the blanket rule that a value names
+abbrev pub blanket_in : Placed → Said (Option Strategy)
+blanket_in v = blanket_named v.place (as_str v.value)
 
 -- a blanket rule as a kind of field
 abbrev pub blanket_rule : List ℕ → Data → Said (Option Strategy)
-blanket_rule = kinds.and_read kinds.text blanket_named
+blanket_rule = kinds.and_read kinds.any blanket_in
 
 -- ---- so many requests per unit
 
 -- the own rule: 14 UnitMissing
 abbrev pub per_unit_rules : List ℕ → ℕ → Option Unit → Said (Option Strategy)
-per_unit_rules place count None = refuses 14 place
+per_unit_rules place count None = refuses UNIT_MISSING place
 per_unit_rules place count (Some unit) = says (Some (PerUnit count unit))
 
+-- its fields in order, then the own rule; an absent number is 0
 unfoldable pub per_unit : Object → Said (Option Strategy)
 per_unit o = do
-  n ← take (kinds.whole 18446744073709551615) names.requests_per_time_unit o
+  n ← take kinds.uint64 names.requests_per_time_unit o
   u ← take kinds.unit names.time_unit n.1
   place ← ends u.1
   per_unit_rules place (unwrap_or n.0 0) u.0
 
+-- such a limit as a kind of field
 abbrev pub per_unit_kind : List ℕ → Data → Said (Option Strategy)
-per_unit_kind = kinds.and_read kinds.message (λ place o. per_unit o)
+per_unit_kind = kinds.and_read kinds.message per_unit
 
 -- ---- a token bucket
 
@@ -48,22 +57,23 @@ per_unit_kind = kinds.and_read kinds.message (λ place o. per_unit o)
 -- interval is absent or 0
 unfoldable pub token_rules : List ℕ → ℕ → ℕ → ℕ → Said (Option Strategy)
 token_rules place max per_fill interval = do
-  tokens ← unless_zero 44 place max
-  fill ← unless_zero 45 place per_fill
-  every ← unless_zero 46 place interval
+  tokens ← unless_zero NO_TOKENS place max
+  fill ← unless_zero NO_FILL place per_fill
+  every ← unless_zero FILL_ZERO place interval
   says (Some (TokenBucket max per_fill interval))
 
 -- a token bucket's fields in order; a fill brings 1 token where `tokensPerFill` is absent
 unfoldable pub token_bucket : Object → Said (Option Strategy)
 token_bucket o = do
-  m ← take (kinds.whole 4294967295) names.max_tokens o
-  p ← take (kinds.whole 4294967295) names.tokens_per_fill m.1
+  m ← take kinds.uint32 names.max_tokens o
+  p ← take kinds.uint32 names.tokens_per_fill m.1
   i ← take kinds.duration names.fill_interval p.1
   place ← ends i.1
   token_rules place (unwrap_or m.0 0) (unwrap_or p.0 1) (unwrap_or i.0 0)
 
+-- a token bucket as a kind of field
 abbrev pub token_kind : List ℕ → Data → Said (Option Strategy)
-token_kind = kinds.and_read kinds.message (λ place o. token_bucket o)
+token_kind = kinds.and_read kinds.message token_bucket
 
 -- ---- a strategy
 
@@ -73,10 +83,7 @@ one_of place None None None = says (Some AllowAll)
 one_of place (Some s) None None = says (Some s)
 one_of place None (Some s) None = says (Some s)
 one_of place None None (Some s) = says (Some s)
-one_of place (Some r) (Some s) None = refuses 34 place
-one_of place (Some r) None (Some s) = refuses 34 place
-one_of place None (Some r) (Some s) = refuses 34 place
-one_of place (Some r) (Some s) (Some t) = refuses 34 place
+one_of place blanket limit bucket = refuses TWO_OF_ONE place
 
 -- a strategy's fields in order, then its own rule
 unfoldable pub strategy_in : Object → Said (Option Strategy)
@@ -89,4 +96,4 @@ strategy_in o = do
 
 -- a strategy as a kind of field
 abbrev pub strategy : List ℕ → Data → Said (Option Strategy)
-strategy = kinds.and_read kinds.message (λ place o. strategy_in o)
+strategy = kinds.and_read kinds.message strategy_in

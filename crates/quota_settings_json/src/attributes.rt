@@ -1,76 +1,59 @@
-ghost use Rattle.std.specs.Prelude.{◌≡◌, IfOk, Some};
-ghost use Rattle.serde_json.specs.View.{view, members_view};
-ghost use Rattle.proto_json.specs.Fields.{field_place};
+ghost use Rattle.std.specs.Prelude.{Some};
+ghost use Rattle.serde_json.specs.View.{view};
 ghost use Rattle.proto_json.specs.Held.{object_of, Takes};
 ghost use Rattle.rate_types.specs.Reading.{AnswersReading};
 ghost use Rattle.proto_json.specs.Said.{reading_of};
 ghost use Rattle.quota_settings_json.specs.FieldNames as names;
-ghost use Rattle.quota_settings_json.specs.NamedMembers.{members_in};
-ghost use Rattle.quota_settings.specs.Pairs.{IsSorted};
 ghost use Rattle.quota_settings_json.specs.ReadAttributes as reading;
 
-use crate::fields::take_match_value;
-use crate::texts::read_text;
-use proto_json::{Fields, FormFault};
+use crate::field_names::MATCHES;
+use proto_json::{Fields, FormFault, NamedMember, ShortText, read_members};
 use quota_settings::{Attributes, Pair};
-use rate_types::{OutOfMemory, Place, Refused, Text};
-use serde_json::{Map, Value};
+use rate_types::{Place, Text};
+use serde_json::Value;
 use std::alloc::Global;
 
-// The pair of a name and its value.
-#[tactic(auto, using(proto_json::specs::Laws::reading_then), unfolding(crate::specs::ReadAttributes::pair_at, crate::specs::NamedMembers::named, crate::specs::NamedMembers::short_name))]
-fn read_pair(place: &Place, name: Text, value: Value) -> Result<Pair, FormFault>
-    ensures { AnswersReading (λ p. Some p) result (reading_of (reading.pair_at place.now name (view value))) }
-{
-    let at = place.child(name.as_str())?;
-    let value = read_text(value, at)?;
-    Ok(Pair { name, value })
-}
+// Attributes, by their names.
+struct NamedText;
 
-// The pairs of an object of texts at this place.
-fn read_pairs(
-    alloc: Global,
-    place: Place,
-    members: Map<String, Value>,
-) -> Result<Vec<Pair>, FormFault>
-    ensures said { AnswersReading (λ v. Some v.items) result
-        (reading_of (members_in reading.pair_at place (members_view members.entries))) }
-    ensures sorted { IfOk result (λ v. IsSorted v.items) }
-{
-    let mut pairs = Vec::new(alloc);
-    'members: for (name, value) in members {
-        let Some(name) = Text::of(name) else {
-            return Err(FormFault::Refused(Refused {
-                at: place,
-                number: 18,
-            }));
-        };
-        let pair = match read_pair(&place, name, value) {
-            Ok(pair) => pair,
-            Err(fault) => return Err(fault),
-        };
-        pairs.push(pair)?;
+impl NamedMember for NamedText {
+    ghost use Rattle.std.specs.Prelude.{refl};
+    ghost use Rattle.quota_settings.specs.declared.pair.Pair.{Pair};
+    ghost use Rattle.quota_settings_json.specs.ReadAttributes.{pair_named};
+
+    type Kind = ShortText;
+
+    type Member = Pair;
+
+    ghost made = { pair_named };
+
+    ghost label = { λ (p : Pair). p.name };
+
+    fn with(name: Text, value: Text) -> Pair {
+        Pair { name, value }
     }
-    Ok(pairs)
+
+    ghost keeps_name = { λ n v. refl };
 }
 
-// The place of the attributes that a bucket's settings match.
-fn match_place(fields: &Fields) -> Result<Place, OutOfMemory>
-    ensures { IfOk result (λ p. p ≡ field_place names.matches (object_of fields.now)) }
+// The attributes of an object of texts.
+#[tactic(auto, using(crate::proofs::Rising::pairs_rise), unfolding(crate::specs::ReadAttributes::pairs_in))]
+fn attributes_in(alloc: Global, object: Fields) -> Result<Attributes, FormFault>
+    ensures { AnswersReading (λ a. Some a) result (reading_of (reading.pairs_in (object_of object))) }
 {
-    fields.field_place("match", "match")
+    let pairs = read_members::<NamedText>(alloc, object)?;
+    Ok(Attributes::sorted(pairs))
 }
 
 /// Takes the attributes that a bucket's settings match.
 #[tactic(auto, using(proto_json::specs::Laws::take_and_read))]
 pub fn take_match(alloc: Global, fields: &mut Fields) -> Result<Option<Attributes>, FormFault>
-    ensures { Takes (λ o. o) reading.attributes_kind names.matches
+    ensures { Takes (λ o. o) reading.attributes names.matches
         (object_of fields.old) result (object_of fields.new) }
 {
-    let place = match_place(fields)?;
-    match take_match_value(fields)? {
-        Some(value) => {
-            let attributes = read_attributes(alloc, value, place)?;
+    match fields.take_fields(MATCHES)? {
+        Some(object) => {
+            let attributes = attributes_in(alloc, object)?;
             Ok(Some(attributes))
         }
         None => Ok(None),
@@ -81,18 +64,11 @@ pub fn take_match(alloc: Global, fields: &mut Fields) -> Result<Option<Attribute
 /// name in the order of the names' bytes. A name of more than 1,024 bytes is refused with 18 TextTooLong at the
 /// object, a longer value with 18 and a value that is no text with 5 WrongKind at the name, another value than an
 /// object with 2 NotObject.
-#[tactic(auto, using(proto_json::specs::Laws::reading_then), unfolding(crate::specs::ReadAttributes::attributes, crate::specs::ReadAttributes::pairs_in, proto_json::specs::Kinds::and_read, proto_json::specs::Kinds::message))]
+#[tactic(auto, using(proto_json::specs::Laws::reading_then), unfolding(proto_json::specs::Kinds::and_read))]
 pub fn read_attributes(alloc: Global, value: Value, place: Place) -> Result<Attributes, FormFault>
     ensures { AnswersReading (λ a. Some a) result (reading_of (reading.attributes place (view value))) }
 {
-    match value {
-        Value::Object(members) => {
-            let pairs = read_pairs(alloc, place, members)?;
-            Ok(Attributes::sorted(pairs))
-        }
-        _ => Err(FormFault::Refused(Refused {
-            at: place,
-            number: 2,
-        })),
-    }
+    let object = Fields::of(value, place)?;
+    let attributes = attributes_in(alloc, object)?;
+    Ok(attributes)
 }

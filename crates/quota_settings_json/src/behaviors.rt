@@ -6,10 +6,13 @@ ghost use Rattle.quota_settings_json.specs.FieldNames as names;
 ghost use Rattle.quota_settings_json.specs.ReadBehaviors as reading;
 
 use crate::expiry::Expiry;
-use crate::fields::{take_expiry_fields, take_reuse_fields, take_timeout, take_unassigned_fields};
+use crate::field_names::{
+    EXPIRED_ASSIGNMENT_BEHAVIOR, EXPIRED_TIMEOUT, NO_ASSIGNMENT_BEHAVIOR, REUSE_LAST_ASSIGNMENT,
+};
 use crate::strategies::take_fallback;
 use proto_json::{Fields, FormFault};
 use quota_bucket::{AtExpiry, Strategy};
+use rate_types::refusals::{TIMEOUT_ZERO, TWO_OF_ONE};
 use rate_types::{Millis, Place, Refused};
 
 // The strategy before the first assignment.
@@ -28,7 +31,7 @@ pub fn take_unassigned(fields: &mut Fields) -> Result<Option<Strategy>, FormFaul
     ensures { Takes (λ o. o) reading.unassigned names.no_assignment_behavior
         (object_of fields.old) result (object_of fields.new) }
 {
-    match take_unassigned_fields(fields)? {
+    match fields.take_fields(NO_ASSIGNMENT_BEHAVIOR)? {
         Some(behavior) => {
             let strategy = unassigned_in(behavior)?;
             Ok(Some(strategy))
@@ -52,7 +55,7 @@ fn take_reuse(fields: &mut Fields) -> Result<Option<Place>, FormFault>
     ensures { Takes (λ o. o) reading.empty names.reuse_last_assignment
         (object_of fields.old) result (object_of fields.new) }
 {
-    match take_reuse_fields(fields)? {
+    match fields.take_fields(REUSE_LAST_ASSIGNMENT)? {
         Some(reuse) => {
             let place = read_empty(reuse)?;
             Ok(Some(place))
@@ -94,10 +97,16 @@ fn expiry_of(
         (reading_of (reading.expiry_rules at timeout fallback reuse)) }
 {
     let Some(behavior) = at_expiry(fallback, reuse) else {
-        return Err(FormFault::Refused(Refused { at, number: 34 }));
+        return Err(FormFault::Refused(Refused {
+            at,
+            number: TWO_OF_ONE,
+        }));
     };
     if is_zero(&timeout) {
-        return Err(FormFault::Refused(Refused { at, number: 47 }));
+        return Err(FormFault::Refused(Refused {
+            at,
+            number: TIMEOUT_ZERO,
+        }));
     }
     Ok(Expiry { behavior, timeout })
 }
@@ -107,7 +116,7 @@ fn expiry_of(
 fn expiry_in(mut fields: Fields) -> Result<Expiry, FormFault>
     ensures { AnswersReading (λ e. Some e) result (reading_of (reading.expiry_in (object_of fields))) }
 {
-    let timeout = take_timeout(&mut fields)?;
+    let timeout = fields.take_duration(EXPIRED_TIMEOUT)?;
     let fallback = take_fallback(&mut fields)?;
     let reuse = take_reuse(&mut fields)?;
     let at = fields.end()?;
@@ -121,7 +130,7 @@ pub fn take_expiry(fields: &mut Fields) -> Result<Option<Expiry>, FormFault>
     ensures { Takes (λ o. o) reading.expiry names.expired_assignment_behavior
         (object_of fields.old) result (object_of fields.new) }
 {
-    match take_expiry_fields(fields)? {
+    match fields.take_fields(EXPIRED_ASSIGNMENT_BEHAVIOR)? {
         Some(behavior) => {
             let expiry = expiry_in(behavior)?;
             Ok(Some(expiry))

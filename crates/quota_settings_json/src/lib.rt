@@ -9,13 +9,12 @@
 mod attributes;
 mod behaviors;
 mod expiry;
-mod fields;
+mod field_names;
 mod part_list;
 mod read_bucket;
 mod read_parts;
 mod settings_file;
 mod strategies;
-mod texts;
 
 pub use attributes::read_attributes;
 pub use settings_file::read_settings;

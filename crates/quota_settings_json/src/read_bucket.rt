@@ -8,12 +8,14 @@ ghost use Rattle.quota_settings_json.specs.ReadSettings as reading;
 use crate::attributes::take_match;
 use crate::behaviors::{take_expiry, take_unassigned};
 use crate::expiry::Expiry;
-use crate::fields::take_reporting_interval;
+use crate::field_names::REPORTING_INTERVAL;
 use crate::part_list::PartList;
 use crate::read_parts::take_builder;
-use proto_json::{Fields, FormFault};
+use proto_json::{Fields, FormFault, Kind};
 use quota_bucket::{AtExpiry, BucketRules, Strategy};
 use quota_settings::{Attributes, BucketSettings};
+use rate_types::limits::MOST_PARTS;
+use rate_types::refusals::{INTERVAL_ZERO, NO_BUCKET_ID, TOO_MANY_PARTS};
 use rate_types::{Millis, Place, Refused};
 use serde_json::Value;
 use std::alloc::Global;
@@ -43,13 +45,22 @@ fn bucket_of(
         (reading_of (reading.bucket_rules at matches parts (unwrap_or interval 0) unassigned expiry)) }
 {
     let Some(reporting) = positive(interval) else {
-        return Err(FormFault::Refused(Refused { at, number: 31 }));
+        return Err(FormFault::Refused(Refused {
+            at,
+            number: INTERVAL_ZERO,
+        }));
     };
     if parts.len() == 0 {
-        return Err(FormFault::Refused(Refused { at, number: 32 }));
+        return Err(FormFault::Refused(Refused {
+            at,
+            number: NO_BUCKET_ID,
+        }));
     }
-    if parts.len() > 32 {
-        return Err(FormFault::Refused(Refused { at, number: 37 }));
+    if parts.len() > MOST_PARTS {
+        return Err(FormFault::Refused(Refused {
+            at,
+            number: TOO_MANY_PARTS,
+        }));
     }
     let rules = BucketRules {
         reporting,
@@ -67,7 +78,7 @@ fn bucket_in(alloc: Global, mut fields: Fields) -> Result<BucketSettings, FormFa
 {
     let matches = take_match(alloc, &mut fields)?;
     let parts = take_builder(alloc, &mut fields)?;
-    let interval = take_reporting_interval(&mut fields)?;
+    let interval = fields.take_duration(REPORTING_INTERVAL)?;
     let unassigned = take_unassigned(&mut fields)?;
     let expiry = take_expiry(&mut fields)?;
     let at = fields.end()?;
@@ -82,12 +93,27 @@ fn bucket_in(alloc: Global, mut fields: Fields) -> Result<BucketSettings, FormFa
     Ok(bucket)
 }
 
-/// Reads the settings of one kind of bucket.
+// Reads the settings of one kind of bucket.
 #[tactic(auto, using(proto_json::specs::Laws::reading_then), unfolding(proto_json::specs::Kinds::and_read))]
-pub fn read_bucket(alloc: Global, value: Value, at: Place) -> Result<BucketSettings, FormFault>
+fn read_bucket(alloc: Global, value: Value, at: Place) -> Result<BucketSettings, FormFault>
     ensures { AnswersReading (λ s. Some s) result (reading_of (reading.bucket at (view value))) }
 {
     let fields = Fields::of(value, at)?;
     let bucket = bucket_in(alloc, fields)?;
     Ok(bucket)
+}
+
+/// The kind of the settings of one kind of bucket.
+pub struct BucketKind;
+
+impl Kind for BucketKind {
+    ghost use Rattle.quota_settings_json.specs.ReadSettings.{bucket};
+
+    type Read = BucketSettings;
+
+    ghost says = { bucket };
+
+    fn read(alloc: Global, value: Value, place: Place) -> Result<BucketSettings, FormFault> {
+        read_bucket(alloc, value, place)
+    }
 }

@@ -1,20 +1,18 @@
-ghost use Rattle.std.specs.Prelude.{◌≡◌, IfOk, Some, option_map};
-ghost use Rattle.serde_json.specs.View.{view, members_view};
-ghost use Rattle.proto_json.specs.Fields.{field_place};
+ghost use Rattle.std.specs.Prelude.{Some};
+ghost use Rattle.serde_json.specs.View.{view};
 ghost use Rattle.proto_json.specs.Held.{object_of, Takes};
 ghost use Rattle.rate_types.specs.Reading.{AnswersReading};
 ghost use Rattle.proto_json.specs.Said.{reading_of};
 ghost use Rattle.quota_settings_json.specs.FieldNames as names;
-ghost use Rattle.quota_settings_json.specs.NamedMembers.{members_in};
-ghost use Rattle.quota_settings.specs.Parts.{ArePartsSorted};
 ghost use Rattle.quota_settings_json.specs.ReadParts as reading;
 
-use crate::fields::{take_attribute, take_builder_fields, take_parts_value, take_string_value};
+use crate::field_names::{ATTRIBUTE, BUCKET_ID_BUILDER, STRING_VALUE};
 use crate::part_list::PartList;
-use proto_json::{Fields, FormFault};
+use proto_json::{Fields, FormFault, Kind, NamedMember, read_members};
 use quota_settings::{Part, PartSource};
-use rate_types::{OutOfMemory, Place, Refused, Text};
-use serde_json::{Map, Value};
+use rate_types::refusals::{PART_KIND, TEXT_TOO_LONG};
+use rate_types::{Place, Refused, Text};
+use serde_json::Value;
 use std::alloc::Global;
 
 // Where a part's value comes from, of the two fields that may say so.
@@ -28,7 +26,10 @@ fn source_of(
     match (text, attribute) {
         (Some(text), None) => Ok(PartSource::Fixed(text)),
         (None, Some(name)) => Ok(PartSource::Attribute(name)),
-        _ => Err(FormFault::Refused(Refused { at, number: 33 })),
+        _ => Err(FormFault::Refused(Refused {
+            at,
+            number: PART_KIND,
+        })),
     }
 }
 
@@ -37,8 +38,8 @@ fn source_of(
 fn source_in(mut fields: Fields) -> Result<PartSource, FormFault>
     ensures { AnswersReading (λ s. Some s) result (reading_of (reading.source_in (object_of fields))) }
 {
-    let text = take_string_value(&mut fields)?;
-    let attribute = take_attribute(&mut fields)?;
+    let text = fields.take_short_text(STRING_VALUE, TEXT_TOO_LONG)?;
+    let attribute = fields.take_short_text(ATTRIBUTE, TEXT_TOO_LONG)?;
     let at = fields.end()?;
     let source = source_of(at, text, attribute)?;
     Ok(source)
@@ -54,65 +55,51 @@ fn read_source(value: Value, at: Place) -> Result<PartSource, FormFault>
     Ok(source)
 }
 
-// The part of a name and its value.
-#[tactic(auto, using(proto_json::specs::Laws::reading_then), unfolding(crate::specs::ReadParts::part_at, crate::specs::NamedMembers::named, crate::specs::NamedMembers::short_name))]
-fn read_part(place: &Place, name: Text, value: Value) -> Result<Part, FormFault>
-    ensures { AnswersReading (λ p. Some p) result (reading_of (reading.part_at place.now name (view value))) }
-{
-    let at = place.child(name.as_str())?;
-    let source = read_source(value, at)?;
-    Ok(Part::of(name, source))
-}
+// The kind of what a part's value comes from.
+struct SourceKind;
 
-// The parts of an object of parts at this place.
-fn read_members(
-    alloc: Global,
-    place: Place,
-    members: Map<String, Value>,
-) -> Result<Vec<Part>, FormFault>
-    ensures said { AnswersReading (λ v. Some v.items) result
-        (reading_of (members_in reading.part_at place (members_view members.entries))) }
-    ensures sorted { IfOk result (λ v. ArePartsSorted v.items) }
-{
-    let mut parts = Vec::new(alloc);
-    'members: for (name, value) in members {
-        let Some(name) = Text::of(name) else {
-            return Err(FormFault::Refused(Refused {
-                at: place,
-                number: 18,
-            }));
-        };
-        let part = match read_part(&place, name, value) {
-            Ok(part) => part,
-            Err(fault) => return Err(fault),
-        };
-        parts.push(part)?;
-    }
-    Ok(parts)
-}
+impl Kind for SourceKind {
+    ghost use Rattle.quota_settings_json.specs.ReadParts.{source};
 
-// The parts of a value that is an object of parts.
-#[tactic(auto, using(proto_json::specs::Laws::reading_then), unfolding(crate::specs::ReadParts::parts, crate::specs::ReadParts::parts_in, proto_json::specs::Kinds::and_read, proto_json::specs::Kinds::message))]
-fn read_parts(alloc: Global, value: Value, place: Place) -> Result<PartList, FormFault>
-    ensures { AnswersReading (λ p. Some p) result (reading_of (reading.parts place (view value))) }
-{
-    match value {
-        Value::Object(members) => {
-            let parts = read_members(alloc, place, members)?;
-            Ok(PartList::sorted(parts))
-        }
-        _ => Err(FormFault::Refused(Refused {
-            at: place,
-            number: 2,
-        })),
+    type Read = PartSource;
+
+    ghost says = { source };
+
+    fn read(_: Global, value: Value, place: Place) -> Result<PartSource, FormFault> {
+        read_source(value, place)
     }
 }
 
-// The place of a builder's parts.
-fn parts_place(fields: &Fields) -> Result<Place, OutOfMemory>
-    ensures { IfOk result (λ p. p ≡ field_place names.bucket_id_builder (object_of fields.now)) }
+// The parts of a builder, by their names.
+struct NamedPart;
+
+impl NamedMember for NamedPart {
+    ghost use Rattle.std.specs.Prelude.{refl};
+    ghost use Rattle.quota_settings.specs.Parts.{NamePart};
+    ghost use Rattle.quota_settings_json.specs.ReadParts.{part_named};
+
+    type Kind = SourceKind;
+
+    type Member = Part;
+
+    ghost made = { part_named };
+
+    ghost label = { λ (p : NamePart). p.name };
+
+    fn with(name: Text, source: PartSource) -> Part {
+        Part::of(name, source)
+    }
+
+    ghost keeps_name = { λ n v. refl };
+}
+
+// The parts of an object of parts.
+#[tactic(auto, using(crate::proofs::Rising::parts_rise), unfolding(crate::specs::ReadParts::parts_in))]
+fn parts_in(alloc: Global, object: Fields) -> Result<PartList, FormFault>
+    ensures { AnswersReading (λ p. Some p) result (reading_of (reading.parts_in (object_of object))) }
 {
-    fields.field_place("bucketIdBuilder", "bucket_id_builder")
+    let parts = read_members::<NamedPart>(alloc, object)?;
+    Ok(PartList::sorted(parts))
 }
 
 // Takes the parts of a builder.
@@ -121,10 +108,9 @@ fn take_parts(alloc: Global, fields: &mut Fields) -> Result<Option<PartList>, Fo
     ensures { Takes (λ o. o) reading.parts_kind names.bucket_id_builder
         (object_of fields.old) result (object_of fields.new) }
 {
-    let place = parts_place(fields)?;
-    match take_parts_value(fields)? {
-        Some(value) => {
-            let parts = read_parts(alloc, value, place)?;
+    match fields.take_fields(BUCKET_ID_BUILDER)? {
+        Some(object) => {
+            let parts = parts_in(alloc, object)?;
             Ok(Some(parts))
         }
         None => Ok(None),
@@ -147,7 +133,7 @@ pub fn take_builder(alloc: Global, fields: &mut Fields) -> Result<Option<PartLis
     ensures { Takes (λ o. o) reading.builder names.bucket_id_builder
         (object_of fields.old) result (object_of fields.new) }
 {
-    match take_builder_fields(fields)? {
+    match fields.take_fields(BUCKET_ID_BUILDER)? {
         Some(builder) => {
             let parts = parts_of(alloc, builder)?;
             Ok(Some(parts))

@@ -1,44 +1,20 @@
 ghost use Rattle.std.specs.Prelude.{◌≡◌, [], Some, option_map, unwrap_or};
-ghost use Rattle.serde_json.specs.View.{view, items_view};
+ghost use Rattle.serde_json.specs.View.{view};
 ghost use Rattle.proto_json.specs.Document.{document};
-ghost use Rattle.proto_json.specs.Fields.{field_place};
 ghost use Rattle.proto_json.specs.Held.{object_of, Takes};
-ghost use Rattle.proto_json.specs.Lists.{each_item};
 ghost use Rattle.rate_types.specs.Reading.{AnswersReading};
 ghost use Rattle.proto_json.specs.Said.{reading_of};
 ghost use Rattle.quota_settings_json.specs.FieldNames as names;
 ghost use Rattle.quota_settings_json.specs.ReadSettings as reading;
 
-use crate::fields::{take_bucket_values, take_domain};
-use crate::read_bucket::read_bucket;
-use proto_json::{Fields, FormFault, parse};
+use crate::field_names::{BUCKETS, DOMAIN};
+use crate::read_bucket::BucketKind;
+use proto_json::{Fields, FormFault, parse, read_items};
 use quota_settings::{BucketSettings, Settings};
+use rate_types::refusals::{EMPTY_DOMAIN, TEXT_TOO_LONG};
 use rate_types::{Place, Refused, Text};
 use serde_json::Value;
 use std::alloc::Global;
-
-// The settings in a list.
-fn read_buckets(
-    alloc: Global,
-    place: &Place,
-    items: Vec<Value>,
-) -> Result<Vec<BucketSettings>, FormFault>
-    ensures { AnswersReading (λ v. Some v.items) result
-        (reading_of (each_item reading.bucket place.now (items_view items.items))) }
-{
-    let mut buckets = Vec::new(alloc);
-    let mut index = 0u64;
-    'items: for value in items {
-        let at = place.item(alloc, index)?;
-        let bucket = match read_bucket(alloc, value, at) {
-            Ok(bucket) => bucket,
-            Err(fault) => return Err(fault),
-        };
-        buckets.push(bucket)?;
-        index += 1;
-    }
-    Ok(buckets)
-}
 
 // Takes the list of settings.
 #[tactic(auto, using(proto_json::specs::Laws::take_and_read))]
@@ -49,10 +25,9 @@ fn take_buckets(
     ensures { Takes (option_map (λ v. v.items)) reading.buckets_kind names.buckets
         (object_of fields.old) result (object_of fields.new) }
 {
-    let place = fields.field_place("buckets", "buckets")?;
-    match take_bucket_values(fields)? {
-        Some(items) => {
-            let buckets = read_buckets(alloc, &place, items)?;
+    match fields.take_list(BUCKETS)? {
+        Some(list) => {
+            let buckets = read_items::<BucketKind>(alloc, list)?;
             Ok(Some(buckets))
         }
         None => Ok(None),
@@ -65,7 +40,10 @@ fn settings_of(at: Place, domain: Text, buckets: Vec<BucketSettings>) -> Result<
         (reading_of (reading.settings_rules at domain buckets.items)) }
 {
     if domain.as_str().is_empty() {
-        return Err(FormFault::Refused(Refused { at, number: 10 }));
+        return Err(FormFault::Refused(Refused {
+            at,
+            number: EMPTY_DOMAIN,
+        }));
     }
     Ok(Settings::of(domain, buckets))
 }
@@ -75,7 +53,7 @@ fn settings_of(at: Place, domain: Text, buckets: Vec<BucketSettings>) -> Result<
 fn settings_in(alloc: Global, mut fields: Fields) -> Result<Settings, FormFault>
     ensures { AnswersReading (λ s. Some s) result (reading_of (reading.settings_in (object_of fields))) }
 {
-    let domain = take_domain(&mut fields)?;
+    let domain = fields.take_short_text(DOMAIN, TEXT_TOO_LONG)?;
     let buckets = take_buckets(alloc, &mut fields)?;
     let at = fields.end()?;
     let domain = domain.unwrap_or(Text::empty(alloc));

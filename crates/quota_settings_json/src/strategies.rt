@@ -1,39 +1,48 @@
-ghost use Rattle.std.specs.Prelude.{◌≡◌, IfOk, Some, unwrap_or, string_bytes};
+ghost use Rattle.std.specs.Prelude.{◌≡◌, Some, option_map, unwrap_or};
 ghost use Rattle.serde_json.specs.View.{view};
-ghost use Rattle.proto_json.specs.Fields.{field_place};
-ghost use Rattle.proto_json.specs.Held.{object_of, Takes};
+ghost use Rattle.proto_json.specs.Held.{object_of, placed_of, Takes};
 ghost use Rattle.rate_types.specs.Reading.{AnswersReading};
 ghost use Rattle.proto_json.specs.Said.{reading_of};
 ghost use Rattle.quota_settings_json.specs.FieldNames as names;
 ghost use Rattle.quota_settings_json.specs.ReadStrategy as reading;
 
-use crate::fields::{
-    take_count, take_fallback_fields, take_fill_interval, take_max_tokens, take_per_unit_fields,
-    take_rule_name, take_time_unit, take_token_fields, take_tokens_per_fill,
+use crate::field_names::{
+    BLANKET_RULE, FALLBACK_RATE_LIMIT, FILL_INTERVAL, MAX_TOKENS, REQUESTS_PER_TIME_UNIT,
+    TIME_UNIT, TOKEN_BUCKET, TOKENS_PER_FILL,
 };
-use proto_json::{Fields, FormFault};
+use proto_json::{Fields, FormFault, Placed};
 use quota_bucket::Strategy;
-use rate_types::{Millis, OutOfMemory, Place, Refused, Unit};
+use rate_types::refusals::{
+    FILL_ZERO, NO_FILL, NO_TOKENS, TWO_OF_ONE, UNIT_MISSING, UNKNOWN_NAME, WRONG_KIND,
+};
+use rate_types::{Millis, Place, Refused, Unit};
 use serde_json::Value;
 
-// The blanket rule of a name.
+// The blanket rule of this name.
 #[tactic(auto, unfolding(crate::specs::ReadStrategy::blanket_named))]
-fn blanket_named(at: Place, name: String) -> Result<Strategy, FormFault>
+fn blanket_named(at: Place, name: Option<&str>) -> Result<Strategy, FormFault>
     ensures { AnswersReading (λ s. Some s) result
-        (reading_of (reading.blanket_named at (string_bytes name))) }
+        (reading_of (reading.blanket_named at (option_map (λ n. n.now) name.entry))) }
 {
-    match name.as_str() {
-        "ALLOW_ALL" => Ok(Strategy::AllowAll),
-        "DENY_ALL" => Ok(Strategy::DenyAll),
-        _ => Err(FormFault::Refused(Refused { at, number: 8 })),
+    match name {
+        Some("ALLOW_ALL") => Ok(Strategy::AllowAll),
+        Some("DENY_ALL") => Ok(Strategy::DenyAll),
+        Some(_) => Err(FormFault::Refused(Refused {
+            at,
+            number: UNKNOWN_NAME,
+        })),
+        None => Err(FormFault::Refused(Refused {
+            at,
+            number: WRONG_KIND,
+        })),
     }
 }
 
-// The place of a strategy's blanket rule.
-fn rule_place(fields: &Fields) -> Result<Place, OutOfMemory>
-    ensures { IfOk result (λ p. p ≡ field_place names.blanket_rule (object_of fields.now)) }
+// The blanket rule of a value.
+fn read_blanket(rule: Placed) -> Result<Strategy, FormFault>
+    ensures { AnswersReading (λ s. Some s) result (reading_of (reading.blanket_in (placed_of rule))) }
 {
-    fields.field_place("blanketRule", "blanket_rule")
+    blanket_named(rule.place, rule.value.as_str())
 }
 
 // Takes a strategy's blanket rule.
@@ -42,11 +51,10 @@ fn take_blanket_rule(fields: &mut Fields) -> Result<Option<Strategy>, FormFault>
     ensures { Takes (λ o. o) reading.blanket_rule names.blanket_rule
         (object_of fields.old) result (object_of fields.new) }
 {
-    let place = rule_place(fields)?;
-    match take_rule_name(fields)? {
-        Some(name) => {
-            let rule = blanket_named(place, name)?;
-            Ok(Some(rule))
+    match fields.take_value(BLANKET_RULE)? {
+        Some(rule) => {
+            let strategy = read_blanket(rule)?;
+            Ok(Some(strategy))
         }
         None => Ok(None),
     }
@@ -58,7 +66,10 @@ fn per_unit_of(at: Place, count: u64, unit: Option<Unit>) -> Result<Strategy, Fo
 {
     match unit {
         Some(unit) => Ok(Strategy::PerUnit { count, unit }),
-        None => Err(FormFault::Refused(Refused { at, number: 14 })),
+        None => Err(FormFault::Refused(Refused {
+            at,
+            number: UNIT_MISSING,
+        })),
     }
 }
 
@@ -67,8 +78,8 @@ fn per_unit_of(at: Place, count: u64, unit: Option<Unit>) -> Result<Strategy, Fo
 fn read_per_unit(mut fields: Fields) -> Result<Strategy, FormFault>
     ensures { AnswersReading (λ s. Some s) result (reading_of (reading.per_unit (object_of fields))) }
 {
-    let count = take_count(&mut fields)?;
-    let unit = take_time_unit(&mut fields)?;
+    let count = fields.take_u64(REQUESTS_PER_TIME_UNIT)?;
+    let unit = fields.take_unit(TIME_UNIT)?;
     let at = fields.end()?;
     let strategy = per_unit_of(at, count.unwrap_or(0), unit)?;
     Ok(strategy)
@@ -80,7 +91,7 @@ fn take_per_unit(fields: &mut Fields) -> Result<Option<Strategy>, FormFault>
     ensures { Takes (λ o. o) reading.per_unit_kind names.requests_per_time_unit
         (object_of fields.old) result (object_of fields.new) }
 {
-    match take_per_unit_fields(fields)? {
+    match fields.take_fields(REQUESTS_PER_TIME_UNIT)? {
         Some(limit) => {
             let strategy = read_per_unit(limit)?;
             Ok(Some(strategy))
@@ -100,10 +111,16 @@ fn tokens_of(
     ensures { AnswersReading (λ s. Some s) result (reading_of (reading.token_rules at max per_fill (unwrap_or interval 0))) }
 {
     if max == 0 {
-        return Err(FormFault::Refused(Refused { at, number: 44 }));
+        return Err(FormFault::Refused(Refused {
+            at,
+            number: NO_TOKENS,
+        }));
     }
     if per_fill == 0 {
-        return Err(FormFault::Refused(Refused { at, number: 45 }));
+        return Err(FormFault::Refused(Refused {
+            at,
+            number: NO_FILL,
+        }));
     }
     match interval {
         Some(interval) if interval.get() > 0 => Ok(Strategy::TokenBucket {
@@ -111,7 +128,10 @@ fn tokens_of(
             per_fill,
             interval,
         }),
-        _ => Err(FormFault::Refused(Refused { at, number: 46 })),
+        _ => Err(FormFault::Refused(Refused {
+            at,
+            number: FILL_ZERO,
+        })),
     }
 }
 
@@ -120,9 +140,9 @@ fn tokens_of(
 fn read_tokens(mut fields: Fields) -> Result<Strategy, FormFault>
     ensures { AnswersReading (λ s. Some s) result (reading_of (reading.token_bucket (object_of fields))) }
 {
-    let max = take_max_tokens(&mut fields)?;
-    let per_fill = take_tokens_per_fill(&mut fields)?;
-    let interval = take_fill_interval(&mut fields)?;
+    let max = fields.take_u32(MAX_TOKENS)?;
+    let per_fill = fields.take_u32(TOKENS_PER_FILL)?;
+    let interval = fields.take_duration(FILL_INTERVAL)?;
     let at = fields.end()?;
     let strategy = tokens_of(at, max.unwrap_or(0), per_fill.unwrap_or(1), interval)?;
     Ok(strategy)
@@ -134,7 +154,7 @@ fn take_tokens(fields: &mut Fields) -> Result<Option<Strategy>, FormFault>
     ensures { Takes (λ o. o) reading.token_kind names.token_bucket
         (object_of fields.old) result (object_of fields.new) }
 {
-    match take_token_fields(fields)? {
+    match fields.take_fields(TOKEN_BUCKET)? {
         Some(tokens) => {
             let strategy = read_tokens(tokens)?;
             Ok(Some(strategy))
@@ -157,7 +177,10 @@ fn one_of(
         (Some(strategy), None, None) => Ok(strategy),
         (None, Some(strategy), None) => Ok(strategy),
         (None, None, Some(strategy)) => Ok(strategy),
-        _ => Err(FormFault::Refused(Refused { at, number: 34 })),
+        _ => Err(FormFault::Refused(Refused {
+            at,
+            number: TWO_OF_ONE,
+        })),
     }
 }
 
@@ -193,7 +216,7 @@ pub fn take_fallback(fields: &mut Fields) -> Result<Option<Strategy>, FormFault>
     ensures { Takes (λ o. o) reading.strategy names.fallback_rate_limit
         (object_of fields.old) result (object_of fields.new) }
 {
-    match take_fallback_fields(fields)? {
+    match fields.take_fields(FALLBACK_RATE_LIMIT)? {
         Some(fallback) => {
             let strategy = strategy_of(fallback)?;
             Ok(Some(strategy))

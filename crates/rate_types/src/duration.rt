@@ -36,7 +36,8 @@ fn any_not_zero(bytes: &[u8]) -> bool
     bytes.iter().any(|b| *b != b'0')
 }
 
-fn is_numeral(bytes: &[u8], most: usize) -> bool
+/// Whether these bytes are 1 to so many decimal digits.
+pub fn is_numeral(bytes: &[u8], most: usize) -> bool
     ensures { result ≡ durations.is_numeral most bytes.now }
 {
     !bytes.is_empty() && bytes.len() <= most && all_digits(bytes)

@@ -28,7 +28,7 @@ mod word;
 pub use blob::{Blob, Blobs};
 pub use counter_key::CounterKey;
 pub use counter_name::CounterName;
-pub use duration::{DurationFault, print_duration, read_duration};
+pub use duration::{DurationFault, is_numeral, print_duration, read_duration};
 pub use entries::{Entries, EntriesFault, Entry};
 pub use fault::Fault;
 pub use items::Items;

@@ -38,7 +38,10 @@ impl Place {
     pub fn child(&self, name: &str) -> Result<Place, OutOfMemory>
         ensures { IfOk result (λ p. p ≡ places.child self.now name.now) }
     {
-        let mut text = self.text.clone()?;
+        let alloc = *self.text.allocator();
+        let room = self.text.len().saturating_add(name.len()).saturating_add(1);
+        let mut text = String::with_capacity(alloc, room)?;
+        text.push_str(&self.text)?;
         text.push('/')?;
         push_escaped(&mut text, name)?;
         Ok(Place { text })

@@ -1,12 +1,9 @@
-use Rattle.std.proofs.Common.{◌≡◌, List, [], ℕ, Ok, map, take, string_bytes, length, sym, ap, subst, ◌∙◌}
+use Rattle.std.proofs.Common.{◌≡◌, List, [], Ok, map, take, string_bytes, sym, ap, subst, ◌∙◌}
 use Rattle.std.proofs.lemmas.List.{take_all}
-use Rattle.serde_json.specs.Written.{compact_text}
-use Rattle.descriptor_tree.specs.declared.tree.Tree.{Tree}
 use Rattle.descriptor_tree.specs.Trees.{DomainTree, tree_view}
 use Rattle.descriptor_tree.specs.Faults.{config_faults}
 use Rattle.config_json.specs.Reading.{reading_of}
 use Rattle.descriptor_tree.specs.Views.{config_view}
-use Rattle.config_json.specs.Printed.{tree_json}
 use Rattle.config_json.proofs.BackConfig.{tree_formed, texts_more, reading_back, all_of}
 use Rattle.config_json.proofs.print_tree.print_config.Goals as goal
 

@@ -1,5 +1,5 @@
 -- The members of an object whose names are data, one after the other.
-use Rattle.std.proofs.Common.{◌≡◌, ℕ, ◌<◌, length, nat_lt, true, arith, subst, List, [], ◌∷◌, ◌++◌, Option, Some, None, option_map, Result, Ok, Err, Less, refl, sym, ap, ◌∙◌, map, append_assoc}
+use Rattle.std.proofs.Common.{◌≡◌, ℕ, ◌<◌, length, nat_lt, true, arith, subst, List, [], ◌∷◌, ◌++◌, Option, Some, None, option_map, Result, Ok, Err, Less, refl, sym, ap, ◌∙◌, map}
 use Rattle.std.proofs.lemmas.List.{append-nil}
 use Rattle.std.proofs.lemmas.Bool.Decides.{nat_tests}
 use Rattle.std.specs.Prelude.{String, string_bytes, string_cmp}
@@ -9,6 +9,8 @@ use Rattle.std.specs.List.Sorted.{IsStrictlySortedBy}
 use Rattle.std.specs.Map.{keys_of}
 use Rattle.rate_types.specs.Counters.{text_cmp}
 use Rattle.rate_types.specs.Places.{child}
+use Rattle.rate_types.specs.declared.limits.TheConstants.{LONGEST_TEXT}
+use Rattle.rate_types.specs.declared.refusals.TheConstants.{TEXT_TOO_LONG}
 use Rattle.rate_types.specs.declared.refused.Refused.{Refused}
 use Rattle.serde_json.specs.Data.{Data, Members, no_members, member}
 use Rattle.serde_json.specs.View.{view, members_view}
@@ -17,9 +19,11 @@ use Rattle.rate_types.specs.declared.fault.Fault.{Fault}
 use Rattle.rate_types.specs.declared.fault.Fault.TheVariants as fault
 use Rattle.rate_types.specs.Reading.{IsRefusal}
 use Rattle.proto_json.specs.Said.{Said, says, refuses, reading_of, ◌>>=◌}
-use Rattle.proto_json.specs.Laws.{then_read, reading_then, behind}
+use Rattle.proto_json.specs.Laws.{then_read, reading_then}
+use Rattle.proto_json.proofs.Items.{behind, behind_more}
 use Rattle.proto_json.specs.Lists.{with_first}
-use Rattle.quota_settings_json.specs.NamedMembers.{members_in, short_name, named}
+use Rattle.proto_json.specs.NamedMembers.{members_in, short_name, named}
+use Rattle.proto_json.specs.Fields.{names_of}
 
 -- a member of a map
 abbrev pub Entry : Type 0
@@ -30,11 +34,6 @@ Entry = String Global × Value
 pub members_none : {X : Type 0} (read : List ℕ → List ℕ → Data → Said (Option X)) (place : List ℕ) (front : List X) → behind front (reading_of (members_in read place no_members)) ≡ Ok (Some front)
 unfolding members_in
 members_none read place front = ap (λ xs. Ok (Some xs)) (append-nil front)
-
-behind_more : {X : Type 0} (front : List X) (x : X) (read : Result (Option (List X)) Refused) → behind front (then_read read (λ xs. Ok (with_first (Some x) xs))) ≡ behind (front ++ x ∷ []) read
-behind_more front x (Err e) = refl
-behind_more front x (Ok None) = refl
-behind_more front x (Ok (Some xs)) = ap (λ more. Ok (Some more)) (sym (append_assoc front (x ∷ []) xs))
 
 members_step : {X : Type 0} (read : List ℕ → List ℕ → Data → Said (Option X)) (place name : List ℕ) (d : Data) (ms : Members)
     → reading_of (members_in read place (member name d ms)) ≡ then_read (reading_of (read place name d)) (λ x. then_read (reading_of (members_in read place ms)) (λ xs. Ok (with_first x xs)))
@@ -61,11 +60,11 @@ members_refused read place name front d ms (fault.Refused r) is =
 members_refused read place name front d ms fault.OutOfMemory is = tt
 
 -- a name that is too long
-pub named_long : {V X : Type 0} (kind : List ℕ → Data → Said (Option V)) (make : List ℕ → V → X) (place name : List ℕ) (d : Data) → 1024 < length name → reading_of (named kind make place name d) ≡ Err (record { at = place; number = 18 })
+pub named_long : {V X : Type 0} (kind : List ℕ → Data → Said (Option V)) (make : List ℕ → V → X) (place name : List ℕ) (d : Data) → LONGEST_TEXT < length name → reading_of (named kind make place name d) ≡ Err (record { at = place; number = TEXT_TOO_LONG })
 unfolding named short_name
 named_long {V = V} {X = X} kind make place name d long =
-    let longer : nat_lt 1024 (length name) ≡ true = grind (arith, nat_tests) in
-    rw longer (reading_then {X = Option (List ℕ)} {Y = Option X} (refuses 18 place) (λ n. kind (child place name) d >>= λ v. says (option_map (make name) v)))
+    let longer : nat_lt LONGEST_TEXT (length name) ≡ true = grind (arith, nat_tests) in
+    rw longer (reading_then {X = Option (List ℕ)} {Y = Option X} (refuses TEXT_TOO_LONG place) (λ n. kind (child place name) d >>= λ v. says (option_map (make name) v)))
 
 -- so far these were read, and the rest is to be read
 abbrev pub ReadSoFar : {X : Type 0} → (List ℕ → List ℕ → Data → Said (Option X)) → List ℕ → List Entry → List Entry → List X → Type 0
@@ -85,10 +84,6 @@ pub so_far_all : {X : Type 0} (read : List ℕ → List ℕ → Data → Said (O
 so_far_all read place all rest xs so_far is = sym (subst (λ (es : List Entry). ReadSoFar read place all es xs) is so_far) ∙ members_none read place xs
 
 -- ---- the names of what was read
-
-abbrev pub names_of : Members → List (List ℕ)
-names_of no_members = []
-names_of (member name d ms) = name ∷ names_of ms
 
 -- what a member reads as has the member's name
 pub named_label : {V X : Type 0} (kind : List ℕ → Data → Said (Option V)) (make : List ℕ → V → X) (label : X → List ℕ) → ((n : List ℕ) (v : V) → label (make n v) ≡ n)
@@ -145,3 +140,12 @@ pub names_rise : (es : List Entry) → IsStrictlySortedBy string_cmp (keys_of es
 unfolding IsStrictlySortedBy
 names_rise [] rise = tt
 names_rise (e ∷ es) rise = (rest_after e.0 es rise.0, names_rise es rise.1)
+
+-- what is read of a map's members has names that rise
+pub members_rise : {V X : Type 0} (kind : List ℕ → Data → Said (Option V)) (make : List ℕ → V → X) (label : X → List ℕ)
+    → ((n : List ℕ) (v : V) → label (make n v) ≡ n) → (place : List ℕ) (es : List Entry) (xs : List X) → IsStrictlySortedBy string_cmp (keys_of es)
+    → reading_of (members_in (named kind make) place (members_view es)) ≡ Ok (Some xs) → IsStrictlySortedBy text_cmp (map label xs)
+members_rise kind make label labels place es xs rise is =
+    subst (λ (ns : List (List ℕ)). IsStrictlySortedBy text_cmp ns)
+    (sym (members_names (named kind make) label place (named_label kind make label labels place) (members_view es) xs is))
+    (names_rise es rise)
