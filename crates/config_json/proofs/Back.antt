@@ -1,5 +1,6 @@
 -- What the printed objects of a configuration read as.
-use Rattle.std.proofs.Common.{◌≡◌, ◌≢◌, ℕ, zero, suc, ◌+◌, ◌≤◌, List, [], ◌∷◌, length, filter, Bool, true, false, cond, nat_lt, Option, Some, None, option_map, unwrap_or, codes, Result, Ok, refl, ap, ◌∙◌, arith}
+use Rattle.std.proofs.Common.{◌≡◌, ◌≢◌, ℕ, zero, suc, ◌+◌, ◌≤◌, List, [], ◌∷◌, length, filter, Bool, true, false, cond, nat_lt, Option, Some, None, option_map, unwrap_or, codes}
+use Rattle.std.proofs.Common.{Result, Ok, refl, ap, ◌∙◌, arith}
 use Rattle.std.specs.List.{All}
 use Rattle.std.proofs.lemmas.Bool.Decides.{nat_tests}
 use Rattle.std.proofs.lemmas.List.Elements.{All-head, All-tail}
@@ -86,7 +87,8 @@ unfolding named ends ReadsAs
 named_back place n short =
     reading_then (take (kinds.short_text 18) names.name o) next
     ∙ then_ok (reading_of (take (kinds.short_text 18) names.name o)) (Some n, left) (λ x. reading_of (next x))
-    (take_there (kinds.short_text 18) place (codes "name") (codes "name") ((codes "name", Some (string n)) ∷ []) (Some n) refl refl (refl, short_reads (places.child place (codes "name")) n short))
+    (take_there (kinds.short_text 18) place (codes "name") (codes "name") ((codes "name", Some (string n)) ∷ []) (Some n) refl refl
+    (refl, short_reads (places.child place (codes "name")) n short))
   where
     o : Object
     o = record { place = place; members = members_there ((codes "name", Some (string n)) ∷ []) }
@@ -99,7 +101,8 @@ named_back place n short =
 
 replaced_back : (place n : List ℕ) → length n ≤ 1024 → reading_of (replaced place (object (members_there ((codes "name", Some (string n)) ∷ [])))) ≡ Ok (Some n)
 unfolding replaced object_named kinds.and_read kinds.message
-replaced_back place n short = reading_then (kinds.message place (object (members_there ((codes "name", Some (string n)) ∷ [])))) (kinds.read_some named) ∙ named_back place n short
+replaced_back place n short = reading_then (kinds.message place (object (members_there ((codes "name", Some (string n)) ∷ [])))) (kinds.read_some named)
+    ∙ named_back place n short
 
 names_items : (place : List ℕ) (index : ℕ) (ns : List (List ℕ)) → All (λ n. length n ≤ 1024) ns → reading_of (items_from replaced place index (names_json ns)) ≡ Ok (Some ns)
 unfolding items_from

@@ -1,5 +1,6 @@
 -- A lawful configuration is printed to texts that nest no deeper than is read, and read back as it is.
-use Rattle.std.proofs.Common.{◌≡◌, ℕ, zero, suc, String, Global, string_bytes, ◌+◌, ◌*◌, ◌≤◌, ◌<◌, max, Bool, true, false, codes, List, [], ◌∷◌, ◌++◌, map, length, take, get_or, Option, Some, None, option_map, Ok, refl, sym, ap, subst, ◌∙◌, add-one, append_assoc, arith}
+use Rattle.std.proofs.Common.{◌≡◌, ℕ, zero, suc, String, Global, string_bytes, ◌+◌, ◌*◌, ◌≤◌, ◌<◌, max, Bool, true, false, codes, List, [], ◌∷◌, ◌++◌, map, length, take, get_or}
+use Rattle.std.proofs.Common.{Option, Some, None, option_map, Ok, refl, sym, ap, subst, ◌∙◌, add-one, append_assoc, arith}
 use Rattle.std.specs.Prelude.{⊤}
 use Rattle.std.specs.List.{All}
 use Rattle.std.proofs.Math.Seq.{take-suc}
@@ -22,7 +23,8 @@ use Rattle.rate_types.specs.Reading.{first_or}
 use Rattle.descriptor_tree.specs.Faults.{config_faults}
 use Rattle.rate_types.specs.declared.unit.Unit.{Unit}
 use Rattle.rate_types.specs.declared.unit.Unit.TheVariants.{Second, Minute, Hour, Day}
-use Rattle.config_json.specs.Printed.{and_member, members_there, text_there, number_there, true_there, list_there, names_json, unit_json, rule_json, node_members, branch_json, branches_json, tree_json}
+use Rattle.config_json.specs.Printed.{and_member, members_there, text_there, number_there, true_there, list_there, names_json, unit_json, rule_json, node_members, branch_json}
+use Rattle.config_json.specs.Printed.{branches_json, tree_json}
 use Rattle.config_json.specs.Trees.{file}
 use Rattle.config_json.specs.Reading as files
 use Rattle.config_json.proofs.Chains.{Chain}
@@ -48,13 +50,15 @@ All-second P [] ys all = all
 All-second P (x ∷ xs) ys all = All-second P xs ys (All-tail P x (xs ++ ys) all)
 
 mutual
-  branch_formed : (place : List ℕ) (level : ℕ) (earlier : List NodeFields) (b : Branch) → All IsLawfulNode (branch_nodes place level earlier b) → IsWellFormedBranch b × (level + levels_of b ≤ 33)
+  branch_formed : (place : List ℕ) (level : ℕ) (earlier : List NodeFields) (b : Branch) → All IsLawfulNode (branch_nodes place level earlier b) → IsWellFormedBranch b
+      × (level + levels_of b ≤ 33)
   branch_formed place level earlier (branch node below) all =
       let here : IsLawfulNode (record { place = place; level = level; earlier = earlier; node = node }) = All-head IsLawfulNode _ _ all in
       let rest = forest_formed _ (level + 1) 0 [] below (All-tail IsLawfulNode _ _ all) in
       ((here.well_formed, rest.0), omega (arith, here.level_bound, rest.1))
 
-  forest_formed : (place : List ℕ) (level index : ℕ) (earlier : List NodeFields) (bs : Branches) → All IsLawfulNode (forest_nodes place level index earlier bs) → AreWellFormed bs × (level ≤ 33 → level + levels bs ≤ 33)
+  forest_formed : (place : List ℕ) (level index : ℕ) (earlier : List NodeFields) (bs : Branches) → All IsLawfulNode (forest_nodes place level index earlier bs)
+      → AreWellFormed bs × (level ≤ 33 → level + levels bs ≤ 33)
   forest_formed place level index earlier no_branches all = (tt, λ h. omega arith)
   forest_formed place level index earlier (and_branch b more) all =
       let one = branch_formed _ level earlier b (All-first IsLawfulNode _ (forest_nodes place level (index + 1) (fields_of b ∷ earlier) more) all) in
@@ -63,7 +67,8 @@ mutual
 
 -- ---- depth
 
-shallow : (name : List ℕ) (o : Option Data) (more : Members) (n : ℕ) → ((d : Data) → o ≡ Some d → depth d ≤ n) → members_depth more ≤ n → members_depth (and_member name o more) ≤ n
+shallow : (name : List ℕ) (o : Option Data) (more : Members) (n : ℕ) → ((d : Data) → o ≡ Some d → depth d ≤ n) → members_depth more ≤ n
+    → members_depth (and_member name o more) ≤ n
 shallow name None more n here rest = rest
 shallow name (Some d) more n here rest = omega (arith, here d refl, rest)
 
@@ -116,14 +121,21 @@ unit_shallow Day n d is = depth_of _ d n is (omega arith)
 
 rule_shallow : (p : Policy) (name : Option (List ℕ)) (ns : List (List ℕ)) → depth (rule_json p name ns) ≤ 3
 rule_shallow (Limited limit u) name ns =
-    let ms : Chain = (codes "name", option_map string name) ∷ (codes "replaces", list_there (names_json ns)) ∷ (codes "requestsPerUnit", number_there limit) ∷ (codes "unit", Some (unit_json u)) ∷ [] in
+    let ms : Chain = (codes "name", option_map string name) ∷ (codes "replaces", list_there (names_json ns)) ∷ (codes "requestsPerUnit", number_there limit) ∷
+    (codes "unit", Some (unit_json u)) ∷ [] in
     let small : members_depth (members_there ms) ≤ 2 =
     all_shallow ms 2 (string_shallow name 2, (λ d is. list_shallow (names_json ns) 2 d is (omega (arith, names_shallow ns)), (number_shallow limit 2, (unit_shallow u 2, tt)))) in
     omega (arith, small)
 rule_shallow Unlimited name ns =
     let ms : Chain = (codes "name", option_map string name) ∷ (codes "replaces", list_there (names_json ns)) ∷ (codes "unlimited", Some (boolean true)) ∷ [] in
     let small : members_depth (members_there ms) ≤ 2 =
-    all_shallow ms 2 (string_shallow name 2, (λ d is. list_shallow (names_json ns) 2 d is (omega (arith, names_shallow ns)), (λ d is. depth_of (boolean true) d 2 is (omega arith), tt))) in
+    all_shallow ms 2 (
+      string_shallow name 2,
+      (
+        λ d is. list_shallow (names_json ns) 2 d is (omega (arith, names_shallow ns)),
+        (λ d is. depth_of (boolean true) d 2 is (omega arith), tt),
+      ),
+    ) in
     omega (arith, small)
 
 rule_there_shallow : (p : Option Policy) (name : Option (List ℕ)) (ns : List (List ℕ)) (n : ℕ) (d : Data) → 3 ≤ n → option_map (λ q. rule_json q name ns) p ≡ Some d → depth d ≤ n
@@ -164,14 +176,16 @@ tree_shallow t few =
 pub tree_formed : (trees : List Tree) (i : ℕ) (tree : Tree) → All IsLawfulNode (config_nodes (map tree_view trees)) → i < length trees → tree ≡ get_or trees i tree
     → AreWellFormed (tree_view tree).forest × (depth (tree_json (tree_view tree)) ≤ 127)
 tree_formed [] i tree all within is = absurd (omega arith)
-tree_formed (t ∷ trees) zero tree all within is = subst (λ (u : Tree). AreWellFormed (tree_view u).forest × (depth (tree_json (tree_view u)) ≤ 127)) (sym is) (facts.0, tree_shallow (tree_view t) (omega (arith, facts.1)))
+tree_formed (t ∷ trees) zero tree all within is = subst (λ (u : Tree). AreWellFormed (tree_view u).forest
+    × (depth (tree_json (tree_view u)) ≤ 127)) (sym is) (facts.0, tree_shallow (tree_view t) (omega (arith, facts.1)))
   where
     both : AreWellFormed (tree_view t).forest × (1 ≤ 33 → 1 + levels (tree_view t).forest ≤ 33)
     both = forest_formed _ 1 0 [] (tree_view t).forest (All-first IsLawfulNode (tree_nodes (tree_view t)) (config_nodes (map tree_view trees)) all)
 
     facts : AreWellFormed (tree_view t).forest × (1 + levels (tree_view t).forest ≤ 33)
     facts = (both.0, both.1 (omega arith))
-tree_formed (t ∷ trees) (suc i) tree all within is = tree_formed trees i tree (All-second IsLawfulNode (tree_nodes (tree_view t)) (config_nodes (map tree_view trees)) all) (omega arith) is
+tree_formed (t ∷ trees) (suc i) tree all within is =
+    tree_formed trees i tree (All-second IsLawfulNode (tree_nodes (tree_view t)) (config_nodes (map tree_view trees)) all) (omega arith) is
 
 pub json_back : (bytes : List ℕ) (d : Data) → IsUtf8 bytes → read bytes ≡ Some d → json_of bytes ≡ Some d
 unfolding json_of
@@ -185,7 +199,8 @@ AllRead [] (t ∷ ts) = ⊥
 AllRead (x ∷ xs) [] = ⊥
 AllRead (x ∷ xs) (t ∷ ts) = (reading_of (file x) ≡ Ok (Some t)) × AllRead xs ts
 
-pub read_push : (xs : List (List ℕ)) (ts : List DomainTree) (x : List ℕ) (t : DomainTree) → AllRead xs ts → reading_of (file x) ≡ Ok (Some t) → AllRead (xs ++ x ∷ []) (ts ++ t ∷ [])
+pub read_push : (xs : List (List ℕ)) (ts : List DomainTree) (x : List ℕ) (t : DomainTree) → AllRead xs ts → reading_of (file x) ≡ Ok (Some t)
+    → AllRead (xs ++ x ∷ []) (ts ++ t ∷ [])
 read_push [] [] x t all is = (is, tt)
 read_push [] (u ∷ ts) x t all is = absurd all
 read_push (y ∷ xs) [] x t all is = absurd all
@@ -195,7 +210,8 @@ behind_all : (front : List DomainTree) (index : ℕ) (xs : List (List ℕ)) (ts 
 behind_all front index [] [] all = refl
 behind_all front index [] (t ∷ ts) all = absurd all
 behind_all front index (x ∷ xs) [] all = absurd all
-behind_all front index (x ∷ xs) (t ∷ ts) all = behind_more front index x xs t all.0 ∙ behind_all (front ++ t ∷ []) (index + 1) xs ts all.1 ∙ ap (λ us. Ok us) (append_assoc front (t ∷ []) ts)
+behind_all front index (x ∷ xs) (t ∷ ts) all = behind_more front index x xs t all.0 ∙ behind_all (front ++ t ∷ []) (index + 1) xs ts all.1
+    ∙ ap (λ us. Ok us) (append_assoc front (t ∷ []) ts)
 
 -- texts that read as trees without a fault read as these trees
 pub reading_back : (xs : List (List ℕ)) (ts : List DomainTree) → AllRead xs ts → config_faults ts ≡ [] → files.reading_of xs ≡ Ok ts
@@ -208,13 +224,16 @@ all_of ts us same lawful = subst (λ (xs : List DomainTree). All IsLawfulNode (c
 -- one more text is printed
 pub texts_more : (texts after : List (String Global)) (text : String Global) (trees : List Tree) (i : ℕ) (tree : Tree)
     → map string_bytes texts ≡ map (λ t. compact_text (tree_json t)) (map tree_view (take i trees)) → AllRead (map string_bytes texts) (map tree_view (take i trees))
-    → string_bytes text ≡ compact_text (tree_json (tree_view tree)) → reading_of (file (string_bytes text)) ≡ Ok (Some (tree_view tree)) → after ≡ texts ++ text ∷ [] → i < length trees → tree ≡ get_or trees i tree
-    → (map string_bytes after ≡ map (λ t. compact_text (tree_json t)) (map tree_view (take (i + 1) trees))) × AllRead (map string_bytes after) (map tree_view (take (i + 1) trees))
+    → string_bytes text ≡ compact_text (tree_json (tree_view tree)) → reading_of (file (string_bytes text)) ≡ Ok (Some (tree_view tree)) → after ≡ texts ++ text ∷ []
+    → i < length trees → tree ≡ get_or trees i tree
+    → (map string_bytes after ≡ map (λ t. compact_text (tree_json t)) (map tree_view (take (i + 1) trees)))
+    × AllRead (map string_bytes after) (map tree_view (take (i + 1) trees))
 texts_more texts after text trees i tree printed reads here back pushed within at =
     let bytes : map string_bytes after ≡ map string_bytes texts ++ string_bytes text ∷ [] = ap (map string_bytes) pushed ∙ map_push string_bytes texts text in
     let more : take (i + 1) trees ≡ take i trees ++ tree ∷ [] = rw (add-one i) (take-suc trees i tree within ∙ ap (λ (x : Tree). take i trees ++ x ∷ []) (sym at)) in
     let seen : map tree_view (take (i + 1) trees) ≡ map tree_view (take i trees) ++ tree_view tree ∷ [] = ap (map tree_view) more ∙ map_push tree_view (take i trees) tree in (
       bytes ∙ texts_push (map string_bytes texts) (string_bytes text) trees i tree (λ t. compact_text (tree_json t)) printed here within at,
-      subst (λ (ts : List DomainTree). AllRead (map string_bytes after) ts) (sym seen) (subst (λ (xs : List (List ℕ)). AllRead xs (map tree_view (take i trees) ++ tree_view tree ∷ [])) (sym bytes)
+      subst (λ (ts : List DomainTree). AllRead (map string_bytes after) ts) (sym seen) (subst
+          (λ (xs : List (List ℕ)). AllRead xs (map tree_view (take i trees) ++ tree_view tree ∷ [])) (sym bytes)
           (read_push (map string_bytes texts) (map tree_view (take i trees)) (string_bytes text) (tree_view tree) reads back)),
     )

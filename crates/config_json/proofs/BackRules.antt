@@ -39,7 +39,8 @@ name_is None there = refl
 name_is (Some []) there = absurd (there refl)
 name_is (Some (b ∷ bs)) there = refl
 
-limited_rules : (place : List ℕ) (u : Unit) (l limit : ℕ) (name' name : Option (List ℕ)) (ns' ns : List (List ℕ)) → l ≡ limit → name' ≡ name → ns' ≡ ns → replaces_itself name ns ≡ false
+limited_rules : (place : List ℕ) (u : Unit) (l limit : ℕ) (name' name : Option (List ℕ)) (ns' ns : List (List ℕ)) → l ≡ limit → name' ≡ name → ns' ≡ ns
+    → replaces_itself name ns ≡ false
     → reading_of (policy_rules place (Some u) l false name' ns') ≡ Ok (Some (record { policy = Limited limit u; name = name; replaces = ns }))
 unfolding policy_rules
 limited_rules place u l limit name' name ns' ns is_l is_name is_ns other = rw (is_l, is_name, is_ns, other) refl
@@ -60,15 +61,26 @@ abbrev limited_chain : Option Data → Option Data → Option Data → Option Da
 limited_chain name ns limit u = (codes "name", name) ∷ (codes "replaces", ns) ∷ (codes "requestsPerUnit", limit) ∷ (codes "unit", u) ∷ []
 
 limited_back : (place : List ℕ) (limit : ℕ) (u : Unit) (name : Option (List ℕ)) (ns : List (List ℕ)) → limit ≤ 4294967295 → IsNamed name ns
-    → reading_of (policy (record { place = place; members = members_there (limited_chain (option_map string name) (list_there (names_json ns)) (number_there limit) (Some (unit_json u))) }))
+    → reading_of (policy (record {
+      place = place;
+      members =
+          members_there (limited_chain (option_map string name) (list_there (names_json ns)) (number_there limit) (Some (unit_json u)));
+    }))
     ≡ Ok (Some (record { policy = Limited limit u; name = name; replaces = ns }))
 unfolding ends ReadsAs
 limited_back place limit u name ns small is =
-    let f1 = take_there kinds.unit place (codes "unit") (codes "unit") (limited_chain (option_map string name) (list_there (names_json ns)) (number_there limit) (Some (unit_json u))) (Some u) refl refl (unit_reads (places.child place (codes "unit")) u) in
-    let f2 = take_there (kinds.whole 4294967295) place (codes "requestsPerUnit") (codes "requests_per_unit") (limited_chain (option_map string name) (list_there (names_json ns)) (number_there limit) None) (number_back limit) refl refl (number_reads (places.child place (codes "requestsPerUnit")) limit small) in
-    let f3 = take_there kinds.bool place (codes "unlimited") (codes "unlimited") (limited_chain (option_map string name) (list_there (names_json ns)) None None) None refl refl refl in
-    let f4 = take_there (kinds.short_text 18) place (codes "name") (codes "name") (limited_chain (option_map string name) (list_there (names_json ns)) None None) name refl refl (string_reads (places.child place (codes "name")) name is.name_short) in
-    let f5 = take_there replaced_kind place (codes "replaces") (codes "replaces") (limited_chain None (list_there (names_json ns)) None None) (names_back ns) refl refl (names_reads (places.child place (codes "replaces")) ns is.replaced) in
+    let f1 = take_there kinds.unit place (codes "unit") (codes "unit")
+    (limited_chain (option_map string name) (list_there (names_json ns)) (number_there limit) (Some (unit_json u))) (Some u) refl refl
+    (unit_reads (places.child place (codes "unit")) u) in
+    let f2 = take_there (kinds.whole 4294967295) place (codes "requestsPerUnit") (codes "requests_per_unit")
+    (limited_chain (option_map string name) (list_there (names_json ns)) (number_there limit) None) (number_back limit) refl refl
+    (number_reads (places.child place (codes "requestsPerUnit")) limit small) in
+    let f3 = take_there kinds.bool place (codes "unlimited") (codes "unlimited")
+    (limited_chain (option_map string name) (list_there (names_json ns)) None None) None refl refl refl in
+    let f4 = take_there (kinds.short_text 18) place (codes "name") (codes "name") (limited_chain (option_map string name) (list_there (names_json ns)) None None) name refl refl
+    (string_reads (places.child place (codes "name")) name is.name_short) in
+    let f5 = take_there replaced_kind place (codes "replaces") (codes "replaces") (limited_chain None (list_there (names_json ns)) None None) (names_back ns) refl refl
+    (names_reads (places.child place (codes "replaces")) ns is.replaced) in
     policy_reads _ ∙ rw (f1, f2, f3, f4, f5) (limited_rules place u _ limit _ name _ ns (number_is limit) (name_is name is.name_there) (names_is ns) is.others)
 
 abbrev unlimited_chain : Option Data → Option Data → Option Data → Chain
@@ -79,15 +91,21 @@ unlimited_back : (place : List ℕ) (name : Option (List ℕ)) (ns : List (List 
     ≡ Ok (Some (record { policy = Unlimited; name = name; replaces = ns }))
 unfolding ends ReadsAs kinds.bool
 unlimited_back place name ns is =
-    let f1 = take_there kinds.unit place (codes "unit") (codes "unit") (unlimited_chain (option_map string name) (list_there (names_json ns)) (Some (boolean true))) None refl refl refl in
-    let f2 = take_there (kinds.whole 4294967295) place (codes "requestsPerUnit") (codes "requests_per_unit") (unlimited_chain (option_map string name) (list_there (names_json ns)) (Some (boolean true))) None refl refl refl in
-    let f3 = take_there kinds.bool place (codes "unlimited") (codes "unlimited") (unlimited_chain (option_map string name) (list_there (names_json ns)) (Some (boolean true))) (Some true) refl refl (refl, refl) in
-    let f4 = take_there (kinds.short_text 18) place (codes "name") (codes "name") (unlimited_chain (option_map string name) (list_there (names_json ns)) None) name refl refl (string_reads (places.child place (codes "name")) name is.name_short) in
-    let f5 = take_there replaced_kind place (codes "replaces") (codes "replaces") (unlimited_chain None (list_there (names_json ns)) None) (names_back ns) refl refl (names_reads (places.child place (codes "replaces")) ns is.replaced) in
+    let f1 = take_there kinds.unit place (codes "unit") (codes "unit")
+    (unlimited_chain (option_map string name) (list_there (names_json ns)) (Some (boolean true))) None refl refl refl in
+    let f2 = take_there (kinds.whole 4294967295) place (codes "requestsPerUnit") (codes "requests_per_unit")
+    (unlimited_chain (option_map string name) (list_there (names_json ns)) (Some (boolean true))) None refl refl refl in
+    let f3 = take_there kinds.bool place (codes "unlimited") (codes "unlimited") (unlimited_chain (option_map string name) (list_there (names_json ns)) (Some (boolean true)))
+    (Some true) refl refl (refl, refl) in
+    let f4 = take_there (kinds.short_text 18) place (codes "name") (codes "name") (unlimited_chain (option_map string name) (list_there (names_json ns)) None) name refl refl
+    (string_reads (places.child place (codes "name")) name is.name_short) in
+    let f5 = take_there replaced_kind place (codes "replaces") (codes "replaces") (unlimited_chain None (list_there (names_json ns)) None) (names_back ns) refl refl
+    (names_reads (places.child place (codes "replaces")) ns is.replaced) in
     policy_reads _ ∙ rw (f1, f2, f3, f4, f5) (unlimited_rules place 0 _ name _ ns (name_is name is.name_there) (names_is ns) is.others)
 
 pub rule_back : (place : List ℕ) (p : Policy) (name : Option (List ℕ)) (ns : List (List ℕ)) → IsSmall (Some p) → IsNamed name ns
     → reading_of (policy_kind place (rule_json p name ns)) ≡ Ok (Some (record { policy = p; name = name; replaces = ns }))
 unfolding kinds.and_read kinds.message
-rule_back place (Limited limit u) name ns small is = reading_then (kinds.message place (rule_json (Limited limit u) name ns)) (kinds.read_some policy) ∙ limited_back place limit u name ns small is
+rule_back place (Limited limit u) name ns small is = reading_then (kinds.message place (rule_json (Limited limit u) name ns)) (kinds.read_some policy)
+    ∙ limited_back place limit u name ns small is
 rule_back place Unlimited name ns small is = reading_then (kinds.message place (rule_json Unlimited name ns)) (kinds.read_some policy) ∙ unlimited_back place name ns is

@@ -1,5 +1,6 @@
 -- What a printed node and a printed file read as.
-use Rattle.std.proofs.Common.{◌≡◌, ◌≢◌, ℕ, ◌+◌, ◌≤◌, ◌||◌, List, [], ◌∷◌, length, Bool, true, false, Option, Some, None, option_map, unwrap_or, bytes_eq, codes, Result, Ok, refl, sym, ap, ◌∙◌}
+use Rattle.std.proofs.Common.{◌≡◌, ◌≢◌, ℕ, ◌+◌, ◌≤◌, ◌||◌, List, [], ◌∷◌, length, Bool, true, false, Option, Some, None, option_map, unwrap_or, bytes_eq, codes, Result, Ok}
+use Rattle.std.proofs.Common.{refl, sym, ap, ◌∙◌}
 use Rattle.std.specs.List.{All, list_any}
 use Rattle.std.proofs.lemmas.List.Elements.{All-head, All-tail}
 use Rattle.std.proofs.lemmas.Slice.Eq.{bytes_eq-Decides}
@@ -50,7 +51,8 @@ named_of node formed bounded = record {
 abbrev spelled : Option Policy → Option (List ℕ) → List (List ℕ) → Option Rule
 spelled p name ns = option_map (λ q. record { policy = q; name = name; replaces = ns }) p
 
-rule_reads : (place : List ℕ) (p : Option Policy) (name : Option (List ℕ)) (ns : List (List ℕ)) → IsSmall p → IsNamed name ns → ReadsAs policy_kind place (option_map (λ q. rule_json q name ns) p) (spelled p name ns)
+rule_reads : (place : List ℕ) (p : Option Policy) (name : Option (List ℕ)) (ns : List (List ℕ)) → IsSmall p → IsNamed name ns
+    → ReadsAs policy_kind place (option_map (λ q. rule_json q name ns) p) (spelled p name ns)
 unfolding ReadsAs
 rule_reads place None name ns small is = refl
 rule_reads place (Some p) name ns small is = (there p, rule_back place p name ns small is)
@@ -63,7 +65,8 @@ abbrev below_back : Branches → Option Branches
 below_back no_branches = None
 below_back (and_branch b more) = Some (and_branch b more)
 
-below_reads : (place : List ℕ) (bs : Branches) → ((at : List ℕ) → reading_of (nodes_at at 0 (branches_json bs)) ≡ Ok (Some bs)) → ReadsAs nodes_kind place (list_there (branches_json bs)) (below_back bs)
+below_reads : (place : List ℕ) (bs : Branches) → ((at : List ℕ) → reading_of (nodes_at at 0 (branches_json bs)) ≡ Ok (Some bs))
+    → ReadsAs nodes_kind place (list_there (branches_json bs)) (below_back bs)
 unfolding ReadsAs kinds.and_read kinds.list
 below_reads place no_branches back = refl
 below_reads place (and_branch b more) back = (refl, reading_then (kinds.list place (array (branches_json (and_branch b more)))) (kinds.read_some nodes_in) ∙ back place)
@@ -90,7 +93,8 @@ fields_is node (Some p) is formed = same_fields node (Some p) node.name node.rep
 
 -- ---- a node
 
-node_back : (place : List ℕ) (node : NodeFields) (below : Branches) → IsWellFormed node → IsBounded node → ((at : List ℕ) → reading_of (nodes_at at 0 (branches_json below)) ≡ Ok (Some below))
+node_back : (place : List ℕ) (node : NodeFields) (below : Branches) → IsWellFormed node → IsBounded node
+    → ((at : List ℕ) → reading_of (nodes_at at 0 (branches_json below)) ≡ Ok (Some below))
     → reading_of (node_at place (branch_json (branch node below))) ≡ Ok (Some (branch node below))
 unfolding ends ReadsAs kinds.message
 node_back place node below formed bounded back =
@@ -99,21 +103,40 @@ node_back place node below formed bounded back =
     let r = option_map (λ q. rule_json q node.name node.replaces) node.policy in
     let s = true_there node.shadow in
     let v = option_map string node.value in
-    let f1 = take_there (kinds.short_text 18) place (codes "key") (codes "key") ((codes "descriptors", d) ∷ (codes "key", k) ∷ (codes "rateLimit", r) ∷ (codes "shadowMode", s) ∷ (codes "value", v) ∷ []) (text_back node.key) refl refl (text_reads (places.child place (codes "key")) node.key bounded.key_short) in
-    let f2 = take_there (kinds.short_text 18) place (codes "value") (codes "value") ((codes "descriptors", d) ∷ (codes "key", None) ∷ (codes "rateLimit", r) ∷ (codes "shadowMode", s) ∷ (codes "value", v) ∷ []) node.value refl refl (string_reads (places.child place (codes "value")) node.value bounded.value_short) in
-    let f3 = take_there policy_kind place (codes "rateLimit") (codes "rate_limit") ((codes "descriptors", d) ∷ (codes "key", None) ∷ (codes "rateLimit", r) ∷ (codes "shadowMode", s) ∷ (codes "value", None) ∷ []) (spelled node.policy node.name node.replaces) refl refl (rule_reads (places.child place (codes "rateLimit")) node.policy node.name node.replaces bounded.limit_small (named_of node formed bounded)) in
-    let f4 = take_there kinds.bool place (codes "shadowMode") (codes "shadow_mode") ((codes "descriptors", d) ∷ (codes "key", None) ∷ (codes "rateLimit", None) ∷ (codes "shadowMode", s) ∷ (codes "value", None) ∷ []) (true_back node.shadow) refl refl (true_reads (places.child place (codes "shadowMode")) node.shadow) in
-    let f5 = take_there kinds.bool place (codes "detailedMetric") (codes "detailed_metric") ((codes "descriptors", d) ∷ (codes "key", None) ∷ (codes "rateLimit", None) ∷ (codes "shadowMode", None) ∷ (codes "value", None) ∷ []) None refl refl refl in
-    let f6 = take_there nodes_kind place (codes "descriptors") (codes "descriptors") ((codes "descriptors", d) ∷ (codes "key", None) ∷ (codes "rateLimit", None) ∷ (codes "shadowMode", None) ∷ (codes "value", None) ∷ []) (below_back below) refl refl (below_reads (places.child place (codes "descriptors")) below back) in
+    let f1 = take_there (kinds.short_text 18) place (codes "key") (codes "key")
+    ((codes "descriptors", d) ∷ (codes "key", k) ∷ (codes "rateLimit", r) ∷ (codes "shadowMode", s) ∷ (codes "value", v) ∷ []) (text_back node.key) refl refl
+    (text_reads (places.child place (codes "key")) node.key bounded.key_short) in
+    let f2 = take_there (kinds.short_text 18) place (codes "value") (codes "value")
+    ((codes "descriptors", d) ∷ (codes "key", None) ∷ (codes "rateLimit", r) ∷ (codes "shadowMode", s) ∷ (codes "value", v) ∷ []) node.value refl refl
+    (string_reads (places.child place (codes "value")) node.value bounded.value_short) in
+    let f3 = take_there policy_kind place (codes "rateLimit") (codes "rate_limit")
+    ((codes "descriptors", d) ∷ (codes "key", None) ∷ (codes "rateLimit", r) ∷ (codes "shadowMode", s) ∷ (codes "value", None) ∷ [])
+    (spelled node.policy node.name node.replaces) refl refl
+    (rule_reads (places.child place (codes "rateLimit")) node.policy node.name node.replaces bounded.limit_small (named_of node formed bounded)) in
+    let f4 = take_there kinds.bool place (codes "shadowMode") (codes "shadow_mode")
+    ((codes "descriptors", d) ∷ (codes "key", None) ∷ (codes "rateLimit", None) ∷ (codes "shadowMode", s) ∷ (codes "value", None) ∷ []) (true_back node.shadow) refl refl
+    (true_reads (places.child place (codes "shadowMode")) node.shadow) in
+    let f5 = take_there kinds.bool place (codes "detailedMetric") (codes "detailed_metric")
+    ((codes "descriptors", d) ∷ (codes "key", None) ∷ (codes "rateLimit", None) ∷ (codes "shadowMode", None) ∷ (codes "value", None) ∷ []) None refl refl refl in
+    let f6 = take_there nodes_kind place (codes "descriptors") (codes "descriptors")
+    ((codes "descriptors", d) ∷ (codes "key", None) ∷ (codes "rateLimit", None) ∷ (codes "shadowMode", None) ∷ (codes "value", None) ∷ []) (below_back below) refl refl
+    (below_reads (places.child place (codes "descriptors")) below back) in
     node_at_reads place (branch_json (branch node below))
     ∙ node_reads (record { place = place; members = members_there (node_members node d) })
-    ∙ rw (f1, f2, f3, f4, f5, f6) (rw (text_is node.key, name_is node.value formed.value_not_empty, true_is node.shadow, below_is below, fields_is node node.policy refl formed) refl)
+    ∙ rw (f1, f2, f3, f4, f5, f6) (rw (
+      text_is node.key,
+      name_is node.value formed.value_not_empty,
+      true_is node.shadow,
+      below_is below,
+      fields_is node node.policy refl formed,
+    ) refl)
 
 none_back : (place : List ℕ) (index : ℕ) → reading_of (nodes_at place index no_items) ≡ Ok (Some no_branches)
 unfolding nodes_at
 none_back place index = refl
 
-more_back : (place : List ℕ) (index : ℕ) (b : Branch) (more : Branches) → reading_of (node_at (places.item place index) (branch_json b)) ≡ Ok (Some b) → reading_of (nodes_at place (index + 1) (branches_json more)) ≡ Ok (Some more)
+more_back : (place : List ℕ) (index : ℕ) (b : Branch) (more : Branches) → reading_of (node_at (places.item place index) (branch_json b)) ≡ Ok (Some b)
+    → reading_of (nodes_at place (index + 1) (branches_json more)) ≡ Ok (Some more)
     → reading_of (nodes_at place index (item (branch_json b) (branches_json more))) ≡ Ok (Some (and_branch b more))
 unfolding nodes_at
 more_back place index b more first others =
@@ -131,7 +154,8 @@ mutual
 
   branches_back : (place : List ℕ) (index : ℕ) (bs : Branches) → AreWellFormed bs → AreBounded bs → reading_of (nodes_at place index (branches_json bs)) ≡ Ok (Some bs)
   branches_back place index no_branches formed bounded = none_back place index
-  branches_back place index (and_branch b more) formed bounded = more_back place index b more (branch_back (places.item place index) b formed.0 bounded.0) (branches_back place (index + 1) more formed.1 bounded.1)
+  branches_back place index (and_branch b more) formed bounded =
+      more_back place index b more (branch_back (places.item place index) b formed.0 bounded.0) (branches_back place (index + 1) more formed.1 bounded.1)
 
 -- ---- a file
 
@@ -147,13 +171,17 @@ unfolding file_at tree_json ends ReadsAs kinds.message
 tree_back t short formed bounded =
     let b = list_there (branches_json t.forest) in
     let f1 = take_there (kinds.short_text 18) [] (codes "name") (codes "name") ((codes "descriptors", b) ∷ (codes "domain", text_there t.domain) ∷ []) None refl refl refl in
-    let f2 = take_there (kinds.short_text 18) [] (codes "domain") (codes "domain") ((codes "descriptors", b) ∷ (codes "domain", text_there t.domain) ∷ []) (text_back t.domain) refl refl (text_reads (places.child [] (codes "domain")) t.domain short) in
-    let f3 = take_there nodes_kind [] (codes "descriptors") (codes "descriptors") ((codes "descriptors", b) ∷ (codes "domain", None) ∷ []) (below_back t.forest) refl refl (below_reads (places.child [] (codes "descriptors")) t.forest (λ at. branches_back at 0 t.forest formed bounded)) in
+    let f2 = take_there (kinds.short_text 18) [] (codes "domain") (codes "domain") ((codes "descriptors", b) ∷ (codes "domain", text_there t.domain) ∷ [])
+    (text_back t.domain) refl refl (text_reads (places.child [] (codes "domain")) t.domain short) in
+    let f3 = take_there nodes_kind [] (codes "descriptors") (codes "descriptors") ((codes "descriptors", b) ∷ (codes "domain", None) ∷ []) (below_back t.forest) refl refl
+    (below_reads (places.child [] (codes "descriptors")) t.forest (λ at. branches_back at 0 t.forest formed bounded)) in
     reading_then (kinds.message [] (tree_json t)) (kinds.read_some file_in)
     ∙ file_reads (record { place = []; members = members_there ((codes "descriptors", b) ∷ (codes "domain", text_there t.domain) ∷ []) })
     ∙ rw (f1, f2, f3) (rw (text_is t.domain, below_is t.forest) refl)
 
 -- a file whose bytes are the printed form
-pub file_back : (bytes : List ℕ) (t : DomainTree) → json_of bytes ≡ Some (tree_json t) → reading_of (file_at [] (tree_json t)) ≡ Ok (Some t) → reading_of (file bytes) ≡ Ok (Some t)
+pub file_back : (bytes : List ℕ) (t : DomainTree) → json_of bytes ≡ Some (tree_json t) → reading_of (file_at [] (tree_json t)) ≡ Ok (Some t)
+    → reading_of (file bytes) ≡ Ok (Some t)
 unfolding file document
-file_back bytes t is back = reading_then (document bytes) (kinds.read_some (file_at [])) ∙ ap (λ o. then_read (reading_of (json_said o)) (λ d. reading_of (kinds.read_some (file_at []) d))) is ∙ back
+file_back bytes t is back = reading_then (document bytes) (kinds.read_some (file_at []))
+    ∙ ap (λ o. then_read (reading_of (json_said o)) (λ d. reading_of (kinds.read_some (file_at []) d))) is ∙ back

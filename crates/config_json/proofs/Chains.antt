@@ -1,5 +1,6 @@
 -- The fields of an object whose members are given one by one, each there or not.
-use Rattle.std.proofs.Common.{◌≡◌, ℕ, ◌||◌, List, [], ◌∷◌, Bool, true, false, not, cond, Option, Some, None, Result, Ok, Ordering, Less, Equal, Greater, bytes_eq, is_eq, nat_cmp, true≢false, refl, sym, ap, ◌∙◌}
+use Rattle.std.proofs.Common.{◌≡◌, ℕ, ◌||◌, List, [], ◌∷◌, Bool, true, false, not, cond, Option, Some, None, Result, Ok, Ordering, Less, Equal, Greater, bytes_eq, is_eq}
+use Rattle.std.proofs.Common.{nat_cmp, true≢false, refl, sym, ap, ◌∙◌}
 use Rattle.std.specs.Cmp.Lexicographic.{slice_cmp}
 use Rattle.std.specs.Ordering.{match_ordering}
 use Rattle.std.proofs.lemmas.Map.Text.{is_eq-slice_cmp}
@@ -56,7 +57,8 @@ get_other name k (Some d) more other = get_and name k d more ∙ ap (λ b. cond 
 
 get_none : (name : List ℕ) (ms : Chain) → has name ms ≡ false → get_member name (members_there ms) ≡ None
 get_none name [] is = refl
-get_none name (m ∷ more) is = get_other name m.0 m.1 (members_there more) (or_false (bytes_eq name m.0) (has name more) is).0 ∙ get_none name more (or_false (bytes_eq name m.0) (has name more) is).1
+get_none name (m ∷ more) is = get_other name m.0 m.1 (members_there more) (or_false (bytes_eq name m.0) (has name more) is).0
+    ∙ get_none name more (or_false (bytes_eq name m.0) (has name more) is).1
 
 get_here : (name k : List ℕ) (o : Option Data) (more : Members) → bytes_eq name k ≡ true → get_member name more ≡ None → get_member name (and_member k o more) ≡ o
 get_here name k None more same none = none
@@ -66,7 +68,8 @@ get_look : (name : List ℕ) (ms : Chain) → is_once name ms ≡ true → get_m
 get_look name [] once = refl
 get_look name (m ∷ more) once = by (bytes_eq name m.0) refl once (get_look name more)
   where
-    by : (b : Bool) → bytes_eq name m.0 ≡ b → cond b (not (has name more)) (is_once name more) ≡ true → (is_once name more ≡ true → get_member name (members_there more) ≡ look name more)
+    by : (b : Bool) → bytes_eq name m.0 ≡ b → cond b (not (has name more)) (is_once name more) ≡ true
+        → (is_once name more ≡ true → get_member name (members_there more) ≡ look name more)
         → get_member name (and_member m.0 m.1 (members_there more)) ≡ cond (bytes_eq name m.0) m.1 (look name more)
     by true is once rest = get_here name m.0 m.1 (members_there more) is (get_none name more (not_true (has name more) once)) ∙ sym (ap (λ b. cond b m.1 (look name more)) is)
     by false is once rest = get_other name m.0 m.1 (members_there more) is ∙ rest once ∙ sym (ap (λ b. cond b m.1 (look name more)) is)
@@ -81,21 +84,26 @@ without_here name k (Some d) more same rest = ap (λ b. cond b more (member k d 
 
 without_none : (name : List ℕ) (ms : Chain) → has name ms ≡ false → without name (members_there ms) ≡ members_there ms
 without_none name [] is = refl
-without_none name (m ∷ more) is = without_other name m.0 m.1 (members_there more) (or_false (bytes_eq name m.0) (has name more) is).0 ∙ ap (and_member m.0 m.1) (without_none name more (or_false (bytes_eq name m.0) (has name more) is).1)
+without_none name (m ∷ more) is = without_other name m.0 m.1 (members_there more) (or_false (bytes_eq name m.0) (has name more) is).0
+    ∙ ap (and_member m.0 m.1) (without_none name more (or_false (bytes_eq name m.0) (has name more) is).1)
 
 clear_none : (name : List ℕ) (ms : Chain) → has name ms ≡ false → members_there (clear name ms) ≡ members_there ms
 clear_none name [] is = refl
-clear_none name (m ∷ more) is = ap (λ b. and_member m.0 (cond b None m.1) (members_there (clear name more))) (or_false (bytes_eq name m.0) (has name more) is).0 ∙ ap (and_member m.0 m.1) (clear_none name more (or_false (bytes_eq name m.0) (has name more) is).1)
+clear_none name (m ∷ more) is = ap (λ b. and_member m.0 (cond b None m.1) (members_there (clear name more))) (or_false (bytes_eq name m.0) (has name more) is).0
+    ∙ ap (and_member m.0 m.1) (clear_none name more (or_false (bytes_eq name m.0) (has name more) is).1)
 
 without_clear : (name : List ℕ) (ms : Chain) → is_once name ms ≡ true → without name (members_there ms) ≡ members_there (clear name ms)
 without_clear name [] once = refl
 without_clear name (m ∷ more) once = by (bytes_eq name m.0) refl once (without_clear name more)
   where
-    by : (b : Bool) → bytes_eq name m.0 ≡ b → cond b (not (has name more)) (is_once name more) ≡ true → (is_once name more ≡ true → without name (members_there more) ≡ members_there (clear name more))
+    by : (b : Bool) → bytes_eq name m.0 ≡ b → cond b (not (has name more)) (is_once name more) ≡ true
+        → (is_once name more ≡ true → without name (members_there more) ≡ members_there (clear name more))
         → without name (and_member m.0 m.1 (members_there more)) ≡ and_member m.0 (cond (bytes_eq name m.0) None m.1) (members_there (clear name more))
-    by true is once rest = without_here name m.0 m.1 (members_there more) is (without_none name more (not_true (has name more) once)) ∙ sym (clear_none name more (not_true (has name more) once))
+    by true is once rest = without_here name m.0 m.1 (members_there more) is (without_none name more (not_true (has name more) once))
+        ∙ sym (clear_none name more (not_true (has name more) once))
         ∙ sym (ap (λ b. and_member m.0 (cond b None m.1) (members_there (clear name more))) is)
-    by false is once rest = without_other name m.0 m.1 (members_there more) is ∙ ap (and_member m.0 m.1) (rest once) ∙ sym (ap (λ b. and_member m.0 (cond b None m.1) (members_there (clear name more))) is)
+    by false is once rest = without_other name m.0 m.1 (members_there more) is ∙ ap (and_member m.0 m.1) (rest once)
+        ∙ sym (ap (λ b. and_member m.0 (cond b None m.1) (members_there (clear name more))) is)
 
 has_clear : (name other : List ℕ) (ms : Chain) → has name (clear other ms) ≡ has name ms
 has_clear name other [] = refl
@@ -127,15 +135,19 @@ second_none camel plain ms alone = by (bytes_eq camel plain) alone
     by true is = refl
     by false is = get_none plain ms (not_true (has plain ms) is)
 
-left_is : (camel plain : List ℕ) (ms : Chain) → is_once camel ms ≡ true → is_alone camel plain ms ≡ true → without_both (record { camel = camel; plain = plain }) (members_there ms) ≡ members_there (clear camel ms)
+left_is : (camel plain : List ℕ) (ms : Chain) → is_once camel ms ≡ true → is_alone camel plain ms ≡ true
+    → without_both (record { camel = camel; plain = plain }) (members_there ms) ≡ members_there (clear camel ms)
 left_is camel plain ms once alone = by (bytes_eq camel plain) alone
   where
-    by : (b : Bool) → (b || not (has plain ms)) ≡ true → cond b (without camel (members_there ms)) (without plain (without camel (members_there ms))) ≡ members_there (clear camel ms)
+    by : (b : Bool) → (b || not (has plain ms)) ≡ true
+        → cond b (without camel (members_there ms)) (without plain (without camel (members_there ms))) ≡ members_there (clear camel ms)
     by true is = without_clear camel ms once
     by false is = ap (without plain) (without_clear camel ms once) ∙ without_none plain (clear camel ms) (has_clear plain camel ms ∙ not_true (has plain ms) is)
 
-standing_reads : {X : Type 0} (kind : List ℕ → Data → Said (Option X)) (place camel plain : List ℕ) (o : Option Data) (x : Option X) (left : Object) → ReadsAs kind (child place camel) o x
-    → then_read {Y = Option X × Object} (reading_of (standing_of place (record { camel = camel; plain = plain }) (found_by (record { camel = camel; plain = plain }) o None))) (λ it. then_read {Y = Option X × Object} (reading_of (read_as kind place it)) (λ value. Ok (value, left))) ≡ Ok (x, left)
+standing_reads : {X : Type 0} (kind : List ℕ → Data → Said (Option X)) (place camel plain : List ℕ) (o : Option Data) (x : Option X) (left : Object)
+    → ReadsAs kind (child place camel) o x
+    → then_read {Y = Option X × Object} (reading_of (standing_of place (record { camel = camel; plain = plain }) (found_by (record { camel = camel; plain = plain }) o None)))
+    (λ it. then_read {Y = Option X × Object} (reading_of (read_as kind place it)) (λ value. Ok (value, left))) ≡ Ok (x, left)
 unfolding ReadsAs
 standing_reads {X = X} kind place camel plain None x left is = ap (λ (v : Option X). Ok (v, left)) is
 standing_reads {X = X} kind place camel plain (Some d) x left is =
@@ -143,8 +155,16 @@ standing_reads {X = X} kind place camel plain (Some d) x left is =
     ∙ ap (λ (r : Result (Option X) Refused). then_read {Y = Option X × Object} r (λ value. Ok (value, left))) is.1
 
 -- taking a field of such an object
-pub take_there : {X : Type 0} (kind : List ℕ → Data → Said (Option X)) (place camel plain : List ℕ) (ms : Chain) (x : Option X) → is_once camel ms ≡ true → is_alone camel plain ms ≡ true → ReadsAs kind (child place camel) (look camel ms) x
-    → reading_of (take kind (record { camel = camel; plain = plain }) (record { place = place; members = members_there ms })) ≡ Ok (x, record { place = place; members = members_there (clear camel ms) })
+pub take_there : {X : Type 0} (kind : List ℕ → Data → Said (Option X)) (place camel plain : List ℕ) (ms : Chain) (x : Option X) → is_once camel ms ≡ true
+    → is_alone camel plain ms ≡ true → ReadsAs kind (child place camel) (look camel ms) x
+    → reading_of (take kind (record { camel = camel; plain = plain }) (record { place = place; members = members_there ms })) ≡ Ok (
+      x,
+      record {
+        place = place;
+        members =
+            members_there (clear camel ms);
+      },
+    )
 unfolding standing after
 take_there {X = X} kind place camel plain ms x once alone is =
     take_reads kind (record { camel = camel; plain = plain }) (record { place = place; members = members_there ms })
@@ -157,4 +177,9 @@ take_there {X = X} kind place camel plain ms x once alone is =
     left = record { place = place; members = without_both (record { camel = camel; plain = plain }) (members_there ms) }
 
     reading : Option Data → Option Data → Object → Result (Option X × Object) Refused
-    reading one two o = then_read {Y = Option X × Object} (reading_of (standing_of place (record { camel = camel; plain = plain }) (found_by (record { camel = camel; plain = plain }) one two))) (λ it. then_read {Y = Option X × Object} (reading_of (read_as kind place it)) (λ value. Ok (value, o)))
+    reading one two o = then_read {Y = Option X × Object} (reading_of (standing_of place (record {
+      camel = camel;
+      plain =
+          plain;
+    }) (found_by (record { camel = camel; plain = plain }) one two)))
+        (λ it. then_read {Y = Option X × Object} (reading_of (read_as kind place it)) (λ value. Ok (value, o)))

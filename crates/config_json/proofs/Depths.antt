@@ -1,5 +1,6 @@
 -- How deep a value nests: what is taken from it nests less deep.
-use Rattle.std.proofs.Common.{◌≡◌, ℕ, suc, ◌≤◌, max, List, [], ◌∷◌, ◌++◌, Option, Some, None, Bool, true, false, Result, Ok, Err, Ordering, Less, Equal, Greater, bytes_eq, codes, cond, nat_cmp, arith, refl, sym, ap, subst, ◌∙◌}
+use Rattle.std.proofs.Common.{◌≡◌, ℕ, suc, ◌≤◌, max, List, [], ◌∷◌, ◌++◌, Option, Some, None, Bool, true, false, Result, Ok, Err, Ordering, Less, Equal, Greater, bytes_eq}
+use Rattle.std.proofs.Common.{codes, cond, nat_cmp, arith, refl, sym, ap, subst, ◌∙◌}
 use Rattle.std.specs.Cmp.Lexicographic.{slice_cmp}
 use Rattle.std.specs.Ordering.{match_ordering}
 use Rattle.serde_json.specs.Data.{Data, null, boolean, number, string, array, object, Members, no_members, member, depth, items_depth, members_depth}
@@ -52,7 +53,8 @@ message_depth place (object ms) o is = ap (λ m. suc (members_depth m)) same
     same : ms ≡ o.members
     same = cc
 
-without_or : (b : Bool) (k : List ℕ) (d : Data) (ms rest : Members) → members_depth rest ≤ members_depth ms → members_depth (cond b ms (member k d rest)) ≤ members_depth (member k d ms)
+without_or : (b : Bool) (k : List ℕ) (d : Data) (ms rest : Members) → members_depth rest ≤ members_depth ms
+    → members_depth (cond b ms (member k d rest)) ≤ members_depth (member k d ms)
 without_or true k d ms rest h = omega arith
 without_or false k d ms rest h = omega arith
 
@@ -69,14 +71,18 @@ after_depth name o = by (bytes_eq name.camel name.plain)
     by false = omega (arith, without_depth name.camel o.members, without_depth name.plain (without name.camel o.members))
 
 -- the object that is left nests no deeper
-pub take_depth : {X : Type 0} (kind : List ℕ → Data → Said (Option X)) (name : Name) (o : Object) (v : Option X) (left : Object) → reading_of (take kind name o) ≡ Ok (v, left) → members_depth left.members ≤ members_depth o.members
+pub take_depth : {X : Type 0} (kind : List ℕ → Data → Said (Option X)) (name : Name) (o : Object) (v : Option X) (left : Object) → reading_of (take kind name o) ≡ Ok (v, left)
+    → members_depth left.members ≤ members_depth o.members
 take_depth {X = X} kind name o v left is = by (reading_of (field kind name o)) (sym (take_field kind name o) ∙ is)
   where
-    by : (read : Result (Option X) Refused) → then_read {Y = Option X × Object} read (λ value. Ok (value, after name o)) ≡ Ok (v, left) → members_depth left.members ≤ members_depth o.members
+    by : (read : Result (Option X) Refused) → then_read {Y = Option X × Object} read (λ value. Ok (value, after name o)) ≡ Ok (v, left)
+        → members_depth left.members ≤ members_depth o.members
     by (Err e) h = cc
-    by (Ok value) h = subst (λ (x : Object). members_depth x.members ≤ members_depth o.members) (same_left (then_read {Y = Option X × Object} (Ok value) (λ x. Ok (x, after name o))) value v (after name o) left refl h) (after_depth name o)
+    by (Ok value) h = subst (λ (x : Object). members_depth x.members ≤ members_depth o.members) (same_left (then_read {Y = Option X
+        × Object} (Ok value) (λ x. Ok (x, after name o))) value v (after name o) left refl h) (after_depth name o)
 
-get_or_depth : (o : Ordering) (d : Data) (found : Option Data) (e : Data) (n : ℕ) → match_ordering o found (Some e) found ≡ Some d → ((x : Data) → found ≡ Some x → depth x ≤ n) → depth d ≤ max (depth e) n
+get_or_depth : (o : Ordering) (d : Data) (found : Option Data) (e : Data) (n : ℕ) → match_ordering o found (Some e) found ≡ Some d → ((x : Data) → found ≡ Some x → depth x ≤ n)
+    → depth d ≤ max (depth e) n
 get_or_depth Less d found e n is later = omega (arith, later d is)
 get_or_depth Equal d found e n is later = subst (λ (x : Data). depth x ≤ max (depth e) n) (same d e is) (omega arith)
   where
@@ -100,10 +106,26 @@ list_depth o l left is = by (get_member (codes "descriptors") o.members) refl
     by : (found : Option Data) → get_member (codes "descriptors") o.members ≡ found → suc (items_depth l.items) ≤ members_depth o.members
     by None g = absurd (none_some (reading_of (take kinds.list descriptors o)) l (after descriptors o) left (rw g refl) is)
     by (Some null) g = absurd (none_some (reading_of (take kinds.list descriptors o)) l (after descriptors o) left (rw g refl) is)
-    by (Some (boolean b)) g = absurd (err_some (reading_of (take kinds.list descriptors o)) (record { at = places.child o.place (codes "descriptors"); number = WRONG_KIND }) l left (rw g refl) is)
-    by (Some (number n)) g = absurd (err_some (reading_of (take kinds.list descriptors o)) (record { at = places.child o.place (codes "descriptors"); number = WRONG_KIND }) l left (rw g refl) is)
-    by (Some (string s)) g = absurd (err_some (reading_of (take kinds.list descriptors o)) (record { at = places.child o.place (codes "descriptors"); number = WRONG_KIND }) l left (rw g refl) is)
-    by (Some (object ms)) g = absurd (err_some (reading_of (take kinds.list descriptors o)) (record { at = places.child o.place (codes "descriptors"); number = WRONG_KIND }) l left (rw g refl) is)
+    by (Some (boolean b)) g = absurd (err_some (reading_of (take kinds.list descriptors o)) (record {
+      at = places.child o.place (codes "descriptors");
+      number =
+          WRONG_KIND;
+    }) l left (rw g refl) is)
+    by (Some (number n)) g = absurd (err_some (reading_of (take kinds.list descriptors o)) (record {
+      at = places.child o.place (codes "descriptors");
+      number =
+          WRONG_KIND;
+    }) l left (rw g refl) is)
+    by (Some (string s)) g = absurd (err_some (reading_of (take kinds.list descriptors o)) (record {
+      at = places.child o.place (codes "descriptors");
+      number =
+          WRONG_KIND;
+    }) l left (rw g refl) is)
+    by (Some (object ms)) g = absurd (err_some (reading_of (take kinds.list descriptors o)) (record {
+      at = places.child o.place (codes "descriptors");
+      number =
+          WRONG_KIND;
+    }) l left (rw g refl) is)
     by (Some (array es)) g =
         let list : Listed = record { place = places.child o.place (codes "descriptors"); items = es } in
         let same : list ≡ l = same_list (reading_of (take kinds.list descriptors o)) list l (after descriptors o) left (rw g refl) is in

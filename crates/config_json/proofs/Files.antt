@@ -32,14 +32,16 @@ clean (said [] y) x is = (refl, same)
     same = cc
 clean (said (f ∷ fs) y) x is = cc
 
-pub behind_more : (front : List DomainTree) (index : ℕ) (bytes : List ℕ) (rest : List (List ℕ)) (t : DomainTree) → reading_of (file bytes) ≡ Ok (Some t) → behind front index (bytes ∷ rest) ≡ behind (front ++ t ∷ []) (index + 1) rest
+pub behind_more : (front : List DomainTree) (index : ℕ) (bytes : List ℕ) (rest : List (List ℕ)) (t : DomainTree) → reading_of (file bytes) ≡ Ok (Some t)
+    → behind front index (bytes ∷ rest) ≡ behind (front ++ t ∷ []) (index + 1) rest
 behind_more front index bytes rest t is =
     let parts = clean (file bytes) (Some t) is in
     ap (λ fs. first_or (map (in_file index) fs ++ files.file_faults (index + 1) rest) (front ++ (option_to_list (value_of (file bytes)) ++ files.trees_of rest))) parts.0
     ∙ ap (λ o. first_or (files.file_faults (index + 1) rest) (front ++ (option_to_list o ++ files.trees_of rest))) parts.1
     ∙ ap (λ ts. first_or (files.file_faults (index + 1) rest) ts) (sym (append_assoc front (t ∷ []) (files.trees_of rest)))
 
-refused_first : {X : Type 0} (part : Said X) (r : Refused) (index : ℕ) (more : List At) (ts : List DomainTree) → reading_of part ≡ Err r → first_or (map (in_file index) (faults_of part) ++ more) ts ≡ Err (in_file index r)
+refused_first : {X : Type 0} (part : Said X) (r : Refused) (index : ℕ) (more : List At) (ts : List DomainTree) → reading_of part ≡ Err r
+    → first_or (map (in_file index) (faults_of part) ++ more) ts ≡ Err (in_file index r)
 refused_first (said [] x) r index more ts is = cc
 refused_first (said (f ∷ fs) x) r index more ts is = ap (λ q. Err (in_file index q)) same
   where
@@ -50,17 +52,21 @@ rest_is : (all : List (List ℕ)) (index : ℕ) (bytes : List ℕ) → index < l
 rest_is all index bytes within is = rw (add-one index) (drop-cons all index bytes within ∙ ap (λ (b : List ℕ). b ∷ drop (suc index) all) (sym is))
 
 -- the file at hand is refused
-pub read_stops : (all : List (List ℕ)) (index : ℕ) (front : List DomainTree) (bytes : List ℕ) (e : Fault Refused) → Read all index front → index < length all → bytes ≡ get_or all index bytes
+pub read_stops : (all : List (List ℕ)) (index : ℕ) (front : List DomainTree) (bytes : List ℕ) (e : Fault Refused) → Read all index front → index < length all
+    → bytes ≡ get_or all index bytes
     → IsRefusal e (reading_of (file bytes)) → AnswersReading {X = List DomainTree} {Y = List DomainTree} (λ ts. ts) (Err (files.placed index e)) (behind [] 0 all)
 read_stops all index front bytes fault.OutOfMemory w within is refused = tt
 read_stops all index front bytes (fault.Refused r) w within is refused =
-    sym w.answer ∙ ap (behind front index) (rest_is all index bytes within is) ∙ refused_first (file bytes) r index (files.file_faults (index + 1) (drop (index + 1) all)) (front ++ files.trees_of (bytes ∷ drop (index + 1) all)) refused
+    sym w.answer ∙ ap (behind front index) (rest_is all index bytes within is)
+    ∙ refused_first (file bytes) r index (files.file_faults (index + 1) (drop (index + 1) all)) (front ++ files.trees_of (bytes ∷ drop (index + 1) all)) refused
 
 -- the file at hand was read
-pub read_goes_on : (all : List (List ℕ)) (index : ℕ) (front after : List DomainTree) (bytes : List ℕ) (t : DomainTree) → Read all index front → index < length all → bytes ≡ get_or all index bytes
+pub read_goes_on : (all : List (List ℕ)) (index : ℕ) (front after : List DomainTree) (bytes : List ℕ) (t : DomainTree) → Read all index front → index < length all
+    → bytes ≡ get_or all index bytes
     → reading_of (file bytes) ≡ Ok (Some t) → AreWellFormed t.forest → after ≡ front ++ t ∷ [] → Read all (index + 1) after
 read_goes_on all index front after bytes t w within is read formed pushed = record {
-  answer = ap (λ ts. behind ts (index + 1) (drop (index + 1) all)) pushed ∙ sym (behind_more front index bytes (drop (index + 1) all) t read) ∙ ap (behind front index) (sym (rest_is all index bytes within is)) ∙ w.answer;
+  answer = ap (λ ts. behind ts (index + 1) (drop (index + 1) all)) pushed ∙ sym (behind_more front index bytes (drop (index + 1) all) t read)
+      ∙ ap (behind front index) (sym (rest_is all index bytes within is)) ∙ w.answer;
   formed = subst (λ (ts : List DomainTree). All (λ u. AreWellFormed u.forest) ts) (sym pushed) (All-push (λ u. AreWellFormed u.forest) front t w.formed formed);
 }
 
@@ -88,6 +94,7 @@ reading_of_trees all ts is =
     ap (λ fs. first_or (files.or_those fs (config_faults (files.trees_of all))) (files.trees_of all)) none.0 ∙ ap (λ us. first_or (config_faults us) us) none.1
 
 -- reading that fails
-pub reading_fails : {X Y : Type 0} (see : X → List DomainTree) (seen : Y → List DomainTree) (all : List (List ℕ)) (e : Fault At) → AnswersReading seen (Err e) (behind [] 0 all) → AnswersReading see (Err e) (files.reading_of all)
+pub reading_fails : {X Y : Type 0} (see : X → List DomainTree) (seen : Y → List DomainTree) (all : List (List ℕ)) (e : Fault At) → AnswersReading seen (Err e) (behind [] 0 all)
+    → AnswersReading see (Err e) (files.reading_of all)
 reading_fails see seen all (fault.Refused at) is = reading_refused all at is
 reading_fails see seen all fault.OutOfMemory is = tt

@@ -14,7 +14,8 @@ none_some : {X : Type 0} (x : X) → None ≢ Some x
 none_some x = λ e. cc
 
 -- with a rule
-pub formed_with : (key : List ℕ) (value : Option (List ℕ)) (rule : Rule) (shadow : Bool) → value ≢ Some [] → rule.name ≢ Some [] → All (λ r. r ≢ []) rule.replaces → length rule.replaces ≤ 32 → All (λ r. rule.name ≢ Some r) rule.replaces
+pub formed_with : (key : List ℕ) (value : Option (List ℕ)) (rule : Rule) (shadow : Bool) → value ≢ Some [] → rule.name ≢ Some [] → All (λ r. r ≢ []) rule.replaces
+    → length rule.replaces ≤ 32 → All (λ r. rule.name ≢ Some r) rule.replaces
     → IsWellFormed (fields_with key value (Some rule) shadow)
 formed_with key value rule shadow value_there name_there replaced few others = record {
   value_not_empty = value_there;

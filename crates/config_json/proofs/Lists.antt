@@ -34,7 +34,8 @@ pub nodes_none : (place : List ℕ) (index : ℕ) (front : List Branch) → behi
 unfolding nodes_at
 nodes_none place index front = ap (λ rs. Ok (Some rs)) (joined_none front)
 
-behind_more : (front : List Branch) (r : Branch) (read : Result (Option Branches) Refused) → behind front (then_read read (λ rs. Ok (with_branch (Some r) rs))) ≡ behind (front ++ r ∷ []) read
+behind_more : (front : List Branch) (r : Branch) (read : Result (Option Branches) Refused)
+    → behind front (then_read read (λ rs. Ok (with_branch (Some r) rs))) ≡ behind (front ++ r ∷ []) read
 behind_more front r (Err e) = refl
 behind_more front r (Ok None) = refl
 behind_more front r (Ok (Some rs)) = ap (λ x. Ok (Some x)) (sym (joined_more front r rs))
@@ -44,7 +45,8 @@ pub nodes_more : (place : List ℕ) (index : ℕ) (front : List Branch) (d : Dat
     → behind front (reading_of (nodes_at place index (item d ds))) ≡ behind (front ++ r ∷ []) (reading_of (nodes_at place (index + 1) ds))
 unfolding nodes_at
 nodes_more place index front d ds r is =
-    let one : reading_of (nodes_at place index (item d ds)) ≡ then_read (reading_of (nodes_at place (index + 1) ds)) (λ rs. Ok (with_branch (Some r) rs)) = simp (reading_then, is) in
+    let one : reading_of (nodes_at place index (item d ds)) ≡ then_read (reading_of (nodes_at place (index + 1) ds)) (λ rs. Ok (with_branch (Some r) rs)) =
+    simp (reading_then, is) in
     ap (behind front) one ∙ behind_more front r _
 
 -- a node is refused, and so is the list
@@ -55,7 +57,8 @@ nodes_fail place index front d ds e is =
     let one : reading_of (nodes_at place index (item d ds)) ≡ Err e = simp (reading_then, is) in
     ap (behind front) one
 
-pub nodes_refused : (place : List ℕ) (index : ℕ) (front : List Branch) (d : Data) (ds : Items) (e : Fault Refused) → IsRefusal e (reading_of (node_at (places.item place index) d))
+pub nodes_refused : (place : List ℕ) (index : ℕ) (front : List Branch) (d : Data) (ds : Items) (e : Fault Refused)
+    → IsRefusal e (reading_of (node_at (places.item place index) d))
     → IsRefusal e (behind front (reading_of (nodes_at place index (item d ds))))
 nodes_refused place index front d ds (fault.Refused r) is = nodes_fail place index front d ds r is
 nodes_refused place index front d ds fault.OutOfMemory is = tt

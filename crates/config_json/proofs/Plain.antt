@@ -7,7 +7,8 @@ use Rattle.descriptor_tree.specs.declared.policy.Policy.{Policy}
 use Rattle.descriptor_tree.specs.declared.policy.Policy.TheVariants.{Limited, Unlimited}
 use Rattle.descriptor_tree.specs.declared.node.Node.{Node}
 use Rattle.descriptor_tree.specs.Trees.{NodeFields, Branch, branch, Branches, no_branches, and_branch, branches_of, node_view, DomainTree}
-use Rattle.config_json.specs.Printed.{and_member, members_there, text_there, number_there, true_there, list_there, names_json, rule_json, rule_there, node_members, branch_json, branches_json, tree_json}
+use Rattle.config_json.specs.Printed.{and_member, members_there, text_there, number_there, true_there, list_there, names_json, rule_json, rule_there, node_members, branch_json}
+use Rattle.config_json.specs.Printed.{branches_json, tree_json}
 
 -- ---- no float
 
@@ -54,13 +55,24 @@ plain_rule node = by node.policy
     by : (p : Option Policy) → Plain (option_map (λ q. rule_json q node.name node.replaces) p)
     by None = tt
     by (Some Unlimited) = plain_member _ _ _ (plain_string node.name) (plain_member _ _ _ (plain_list (names_json node.replaces) (plain_names node.replaces)) refl)
-    by (Some (Limited limit Second)) = plain_member _ _ _ (plain_string node.name) (plain_member _ _ _ (plain_list (names_json node.replaces) (plain_names node.replaces)) (plain_member _ _ _ (plain_number limit) refl))
-    by (Some (Limited limit Minute)) = plain_member _ _ _ (plain_string node.name) (plain_member _ _ _ (plain_list (names_json node.replaces) (plain_names node.replaces)) (plain_member _ _ _ (plain_number limit) refl))
-    by (Some (Limited limit Hour)) = plain_member _ _ _ (plain_string node.name) (plain_member _ _ _ (plain_list (names_json node.replaces) (plain_names node.replaces)) (plain_member _ _ _ (plain_number limit) refl))
-    by (Some (Limited limit Day)) = plain_member _ _ _ (plain_string node.name) (plain_member _ _ _ (plain_list (names_json node.replaces) (plain_names node.replaces)) (plain_member _ _ _ (plain_number limit) refl))
+    by (Some (Limited limit Second)) =
+        plain_member _ _ _ (plain_string node.name) (plain_member _ _ _ (plain_list (names_json node.replaces) (plain_names node.replaces))
+        (plain_member _ _ _ (plain_number limit) refl))
+    by (Some (Limited limit Minute)) =
+        plain_member _ _ _ (plain_string node.name) (plain_member _ _ _ (plain_list (names_json node.replaces) (plain_names node.replaces))
+        (plain_member _ _ _ (plain_number limit) refl))
+    by (Some (Limited limit Hour)) =
+        plain_member _ _ _ (plain_string node.name) (plain_member _ _ _ (plain_list (names_json node.replaces) (plain_names node.replaces))
+        (plain_member _ _ _ (plain_number limit) refl))
+    by (Some (Limited limit Day)) =
+        plain_member _ _ _ (plain_string node.name) (plain_member _ _ _ (plain_list (names_json node.replaces) (plain_names node.replaces))
+        (plain_member _ _ _ (plain_number limit) refl))
 
 plain_node : (node : NodeFields) (below : Option Data) → Plain below → has_float (object (members_there (node_members node below))) ≡ false
-plain_node node below is = plain_member _ below _ is (plain_member _ (text_there node.key) _ (plain_text node.key) (plain_member _ (rule_there node) _ (plain_rule node) (plain_member _ (true_there node.shadow) _ (plain_true node.shadow) (plain_member _ (option_map string node.value) _ (plain_string node.value) refl))))
+plain_node node below is =
+    plain_member _ below _ is (plain_member _ (text_there node.key) _ (plain_text node.key)
+    (plain_member _ (rule_there node) _ (plain_rule node) (plain_member _ (true_there node.shadow) _ (plain_true node.shadow)
+    (plain_member _ (option_map string node.value) _ (plain_string node.value) refl))))
 
 mutual
   plain_branch : (b : Branch) → has_float (branch_json b) ≡ false
@@ -72,7 +84,8 @@ mutual
 
 pub no_float : (tree : DomainTree) → has_float (tree_json tree) ≡ false
 unfolding tree_json
-no_float tree = plain_member _ (list_there (branches_json tree.forest)) _ (plain_list (branches_json tree.forest) (plain_branches tree.forest)) (plain_member _ (text_there tree.domain) _ (plain_text tree.domain) refl)
+no_float tree = plain_member _ (list_there (branches_json tree.forest)) _ (plain_list (branches_json tree.forest) (plain_branches tree.forest))
+    (plain_member _ (text_there tree.domain) _ (plain_text tree.domain) refl)
 
 -- ---- how many nodes there are
 

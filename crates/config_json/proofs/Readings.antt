@@ -30,7 +30,8 @@ found_by_order Greater place e rest later is = is
 below_found : (place : List ℕ) (ms : Members) → found_below place (get_member (codes "descriptors") ms) ≡ below_in place ms
 unfolding found_below below_in
 below_found place no_members = refl
-below_found place (member k d ms) = found_by_order (slice_cmp nat_cmp (codes "descriptors") k) place d _ _ (below_found place ms) ∙ rw (is_eq-slice_cmp (codes "descriptors") k) refl
+below_found place (member k d ms) = found_by_order (slice_cmp nat_cmp (codes "descriptors") k) place d _ _ (below_found place ms)
+    ∙ rw (is_eq-slice_cmp (codes "descriptors") k) refl
 
 preceded_none : {X : Type 0} (part : Said X) → preceded [] part ≡ part
 preceded_none (said found x) = refl
@@ -39,7 +40,8 @@ field_below : (o : Object) → field nodes_kind descriptors o ≡ below_in o.pla
 unfolding field standing kinds.and_read kinds.list found_below below_at
 field_below o = by (get_member (codes "descriptors") o.members) refl ∙ below_found o.place o.members
   where
-    by : (found : Option Data) → get_member (codes "descriptors") o.members ≡ found → field nodes_kind descriptors o ≡ found_below o.place (get_member (codes "descriptors") o.members)
+    by : (found : Option Data) → get_member (codes "descriptors") o.members ≡ found
+        → field nodes_kind descriptors o ≡ found_below o.place (get_member (codes "descriptors") o.members)
     by None is = rw is refl
     by (Some null) is = rw is refl
     by (Some (boolean b)) is = rw is refl
@@ -49,8 +51,11 @@ field_below o = by (get_member (codes "descriptors") o.members) refl ∙ below_f
     by (Some (object ms)) is = rw is refl
 
 -- taking the other fields leaves the nodes
-below_after : (o : Object) → reading_of (field nodes_kind descriptors (after detailed_metric (after shadow_mode (after rate_limit (after value (after key o)))))) ≡ reading_of (below_in o.place o.members)
-below_after o = ap reading_of (field_after nodes_kind descriptors detailed_metric _ apart5 ∙ field_after nodes_kind descriptors shadow_mode _ apart4 ∙ field_after nodes_kind descriptors rate_limit _ apart3
+below_after : (o : Object)
+    → reading_of (field nodes_kind descriptors (after detailed_metric (after shadow_mode (after rate_limit (after value (after key o))))))
+    ≡ reading_of (below_in o.place o.members)
+below_after o = ap reading_of (field_after nodes_kind descriptors detailed_metric _ apart5 ∙ field_after nodes_kind descriptors shadow_mode _ apart4
+    ∙ field_after nodes_kind descriptors rate_limit _ apart3
     ∙ field_after nodes_kind descriptors value _ apart2 ∙ field_after nodes_kind descriptors key o apart1 ∙ field_below o)
   where
     apart1 : Apart descriptors key
@@ -79,7 +84,8 @@ unfolding node_in
 node_reads o = simp (reading_then, take_field, then_read_assoc, below_after)
 
 -- a node at its place: an object, and then its fields
-pub node_at_reads : (place : List ℕ) (d : Data) → reading_of (node_at place d) ≡ then_read (reading_of (kinds.message place d)) (λ o. reading_of (kinds.read_some (λ x. node_in x (below_in x.place x.members)) o))
+pub node_at_reads : (place : List ℕ) (d : Data) → reading_of (node_at place d) ≡ then_read (reading_of (kinds.message place d))
+    (λ o. reading_of (kinds.read_some (λ x. node_in x (below_in x.place x.members)) o))
 unfolding node_at kinds.message
 node_at_reads place null = refl
 node_at_reads place (boolean b) = refl

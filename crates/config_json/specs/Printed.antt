@@ -3,7 +3,8 @@
 use Rattle.std.specs.Prelude.{ℕ, zero, suc, List, [], ◌∷◌, Bool, true, false, Option, Some, None, option_map, codes}
 use Rattle.rate_types.specs.declared.unit.Unit.{Unit}
 use Rattle.rate_types.specs.declared.unit.Unit.TheVariants.{Second, Minute, Hour, Day}
-use Rattle.serde_json.specs.Data.{Data, boolean, number, string, array, object, unsigned, Items, no_items, item, Members, no_members, member}
+use Rattle.serde_json.specs.Data.{Data, boolean, number, string, array, object, unsigned, Items, no_items, item}
+use Rattle.serde_json.specs.Data.{Members, no_members, member}
 use Rattle.descriptor_tree.specs.declared.policy.Policy.{Policy}
 use Rattle.descriptor_tree.specs.declared.policy.Policy.TheVariants.{Limited, Unlimited}
 use Rattle.descriptor_tree.specs.Trees.{NodeFields, Branch, branch, Branches, no_branches, and_branch, DomainTree}
@@ -90,4 +91,7 @@ abbrev mutual
 
 -- the file of a tree
 unfoldable pub tree_json : DomainTree → Data
-tree_json tree = object (members_there ((codes "descriptors", list_there (branches_json tree.forest)) ∷ (codes "domain", text_there tree.domain) ∷ []))
+tree_json tree = object (members_there (
+    (codes "descriptors", list_there (branches_json tree.forest))
+    ∷ (codes "domain", text_there tree.domain)
+    ∷ []))

@@ -8,7 +8,8 @@ use Rattle.serde_json.specs.Events.{items_len}
 use Rattle.proto_json.specs.Said.{Said, says, refuses, ◌>>=◌}
 use Rattle.proto_json.specs.Fields.{Object, Listed, take, ends}
 use Rattle.rate_types.specs.declared.limits.TheConstants.{MOST_REPLACED}
-use Rattle.rate_types.specs.declared.refusals.TheConstants.{TEXT_TOO_LONG, UNIT_MISSING, UNIT_WITH_UNLIMITED, SELF_REPLACE, TOO_MANY_REPLACES}
+use Rattle.rate_types.specs.declared.refusals.TheConstants.{TEXT_TOO_LONG, UNIT_MISSING, UNIT_WITH_UNLIMITED}
+use Rattle.rate_types.specs.declared.refusals.TheConstants.{SELF_REPLACE, TOO_MANY_REPLACES}
 use Rattle.proto_json.specs.Lists.{each_item}
 use Rattle.proto_json.specs.Kinds as kinds
 use Rattle.descriptor_tree.specs.declared.policy.Policy.{Policy}

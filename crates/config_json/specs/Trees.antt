@@ -17,7 +17,8 @@ use Rattle.config_json.specs.Rules.{Rule, unless_empty, policy_kind}
 -- the fields of a node with this rule or none
 abbrev pub fields_with : List ℕ → Option (List ℕ) → Option Rule → Bool → NodeFields
 fields_with key value None shadow = record { key = key; value = value; policy = None; name = None; replaces = []; shadow = shadow }
-fields_with key value (Some rule) shadow = record { key = key; value = value; policy = Some rule.policy; name = rule.name; replaces = rule.replaces; shadow = shadow }
+fields_with key value (Some rule) shadow =
+    record { key = key; value = value; policy = Some rule.policy; name = rule.name; replaces = rule.replaces; shadow = shadow }
 
 -- the nodes of a list, none where there is no list
 abbrev pub or_none : Option Branches → Branches
@@ -51,12 +52,14 @@ unfoldable mutual
   -- the nodes of a list, from this index on
   pub nodes_at : List ℕ → ℕ → Items → Said (Option Branches)
   nodes_at place index no_items = says (Some no_branches)
-  nodes_at place index (item d ds) = node_at (places.item place index) d >>= λ b. nodes_at place (index + 1) ds >>= λ bs. says (with_branch b bs)
+  nodes_at place index (item d ds) =
+      node_at (places.item place index) d >>= λ b. nodes_at place (index + 1) ds >>= λ bs. says (with_branch b bs)
 
   -- the nodes of the member `descriptors`
   pub below_in : List ℕ → Members → Said (Option Branches)
   below_in place no_members = says None
-  below_in place (member k d ms) = if bytes_eq names.descriptors.camel k then below_at (places.child place names.descriptors.camel) d else below_in place ms
+  below_in place (member k d ms) = if bytes_eq names.descriptors.camel k
+      then below_at (places.child place names.descriptors.camel) d else below_in place ms
 
   -- the value of that member, as a list of nodes
   pub below_at : List ℕ → Data → Said (Option Branches)

@@ -71,7 +71,7 @@ fn is_there(name: &Text) -> bool
 }
 
 // The names in a list of replaced rules that aren't empty.
-#[tactic(auto, using(proto_json::specs::Laws::reading_then, crate::proofs::Replaces::filter_few, crate::proofs::Replaces::filter_there), unfolding(crate::specs::Rules::names_in))]
+#[tactic(auto, using(proto_json::specs::Laws::reading_then, crate::proofs::Replaces::filter_few), unfolding(crate::specs::Rules::names_in))]
 fn read_names(alloc: Global, list: List) -> Result<Vec<Text>, FormFault>
     ensures names { AnswersReading (λ v. Some v.items) result (reading_of (rules.names_in (list_of list))) }
     ensures few { IfOk result (λ v. length v.items ≤ length list.items.items) }

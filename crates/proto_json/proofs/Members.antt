@@ -17,6 +17,7 @@ taken_or : (b : Bool) (e : Entry) (es rest : List Entry) (ms : Members) → memb
 taken_or true e es rest ms is = refl
 taken_or false e es rest ms is = ap (member (string_bytes e.0) (view e.1)) is
 
-pub members_view-remove : (name : List ℕ) (es : List Entry) → members_view (remove_entry (is_at (λ k. slice_cmp nat_cmp name (string_bytes k))) es) ≡ without name (members_view es)
+pub members_view-remove : (name : List ℕ) (es : List Entry) → members_view (remove_entry (is_at
+    (λ k. slice_cmp nat_cmp name (string_bytes k))) es) ≡ without name (members_view es)
 members_view-remove name [] = refl
 members_view-remove name (e ∷ es) = rw (is_eq-slice_cmp name (string_bytes e.0)) (taken_or (bytes_eq name (string_bytes e.0)) e es _ _ (members_view-remove name es))

@@ -1,5 +1,6 @@
 -- The members of an object whose names are data, one after the other.
-use Rattle.std.proofs.Common.{◌≡◌, ℕ, ◌<◌, length, nat_lt, true, arith, subst, List, [], ◌∷◌, ◌++◌, Option, Some, None, option_map, Result, Ok, Err, Less, refl, sym, ap, ◌∙◌, map}
+use Rattle.std.proofs.Common.{◌≡◌, ℕ, ◌<◌, length, nat_lt, true, arith, subst, List, [], ◌∷◌, ◌++◌, Option, Some, None, option_map, Result, Ok, Err, Less, refl, sym, ap, ◌∙◌}
+use Rattle.std.proofs.Common.{map}
 use Rattle.std.proofs.lemmas.List.{append-nil}
 use Rattle.std.proofs.lemmas.Bool.Decides.{nat_tests}
 use Rattle.std.specs.Prelude.{String, string_bytes, string_cmp}
@@ -31,36 +32,42 @@ Entry = String Global × Value
 
 -- ---- the loop over the members
 
-pub members_none : {X : Type 0} (read : List ℕ → List ℕ → Data → Said (Option X)) (place : List ℕ) (front : List X) → behind front (reading_of (members_in read place no_members)) ≡ Ok (Some front)
+pub members_none : {X : Type 0} (read : List ℕ → List ℕ → Data → Said (Option X)) (place : List ℕ) (front : List X)
+    → behind front (reading_of (members_in read place no_members)) ≡ Ok (Some front)
 unfolding members_in
 members_none read place front = ap (λ xs. Ok (Some xs)) (append-nil front)
 
 members_step : {X : Type 0} (read : List ℕ → List ℕ → Data → Said (Option X)) (place name : List ℕ) (d : Data) (ms : Members)
-    → reading_of (members_in read place (member name d ms)) ≡ then_read (reading_of (read place name d)) (λ x. then_read (reading_of (members_in read place ms)) (λ xs. Ok (with_first x xs)))
+    → reading_of (members_in read place (member name d ms)) ≡ then_read (reading_of (read place name d))
+    (λ x. then_read (reading_of (members_in read place ms)) (λ xs. Ok (with_first x xs)))
 unfolding members_in
 members_step {X = X} read place name d ms =
     reading_then (read place name d) rest
-    ∙ ap (λ (f : Option X → Result (Option (List X)) Refused). then_read (reading_of (read place name d)) f) (λ i. λ x. reading_then (members_in read place ms) (λ xs. says (with_first x xs)) i)
+    ∙ ap (λ (f : Option X → Result (Option (List X)) Refused). then_read (reading_of (read place name d)) f)
+    (λ i. λ x. reading_then (members_in read place ms) (λ xs. says (with_first x xs)) i)
   where
     rest : Option X → Said (Option (List X))
     rest x = members_in read place ms >>= λ xs. says (with_first x xs)
 
 -- one more member was read
-pub members_more : {X : Type 0} (read : List ℕ → List ℕ → Data → Said (Option X)) (place name : List ℕ) (front : List X) (d : Data) (ms : Members) (x : X) → reading_of (read place name d) ≡ Ok (Some x)
+pub members_more : {X : Type 0} (read : List ℕ → List ℕ → Data → Said (Option X)) (place name : List ℕ) (front : List X) (d : Data) (ms : Members) (x : X)
+    → reading_of (read place name d) ≡ Ok (Some x)
     → behind front (reading_of (members_in read place (member name d ms))) ≡ behind (front ++ x ∷ []) (reading_of (members_in read place ms))
 members_more read place name front d ms x is =
     ap (behind front) (members_step read place name d ms ∙ ap (λ r. then_read r (λ y. then_read (reading_of (members_in read place ms)) (λ xs. Ok (with_first y xs)))) is)
     ∙ behind_more front x (reading_of (members_in read place ms))
 
 -- a member is refused, and so is the object
-pub members_refused : {X : Type 0} (read : List ℕ → List ℕ → Data → Said (Option X)) (place name : List ℕ) (front : List X) (d : Data) (ms : Members) (e : Fault Refused) → IsRefusal e (reading_of (read place name d))
+pub members_refused : {X : Type 0} (read : List ℕ → List ℕ → Data → Said (Option X)) (place name : List ℕ) (front : List X) (d : Data) (ms : Members) (e : Fault Refused)
+    → IsRefusal e (reading_of (read place name d))
     → IsRefusal e (behind front (reading_of (members_in read place (member name d ms))))
 members_refused read place name front d ms (fault.Refused r) is =
     ap (behind front) (members_step read place name d ms ∙ ap (λ q. then_read q (λ y. then_read (reading_of (members_in read place ms)) (λ xs. Ok (with_first y xs)))) is)
 members_refused read place name front d ms fault.OutOfMemory is = tt
 
 -- a name that is too long
-pub named_long : {V X : Type 0} (kind : List ℕ → Data → Said (Option V)) (make : List ℕ → V → X) (place name : List ℕ) (d : Data) → LONGEST_TEXT < length name → reading_of (named kind make place name d) ≡ Err (record { at = place; number = TEXT_TOO_LONG })
+pub named_long : {V X : Type 0} (kind : List ℕ → Data → Said (Option V)) (make : List ℕ → V → X) (place name : List ℕ) (d : Data) → LONGEST_TEXT < length name
+    → reading_of (named kind make place name d) ≡ Err (record { at = place; number = TEXT_TOO_LONG })
 unfolding named short_name
 named_long {V = V} {X = X} kind make place name d long =
     let longer : nat_lt LONGEST_TEXT (length name) ≡ true = grind (arith, nat_tests) in
@@ -70,17 +77,23 @@ named_long {V = V} {X = X} kind make place name d long =
 abbrev pub ReadSoFar : {X : Type 0} → (List ℕ → List ℕ → Data → Said (Option X)) → List ℕ → List Entry → List Entry → List X → Type 0
 ReadSoFar read place all rest xs = behind xs (reading_of (members_in read place (members_view rest))) ≡ reading_of (members_in read place (members_view all))
 
-pub so_far_more : {X : Type 0} (read : List ℕ → List ℕ → Data → Said (Option X)) (place : List ℕ) (all rest more : List Entry) (xs : List X) (name : String Global) (v : Value) (x : X)
-    → ReadSoFar read place all rest xs → rest ≡ (name, v) ∷ more → reading_of (read place (string_bytes name) (view v)) ≡ Ok (Some x) → ReadSoFar read place all more (xs ++ x ∷ [])
+pub so_far_more : {X : Type 0} (read : List ℕ → List ℕ → Data
+    → Said (Option X)) (place : List ℕ) (all rest more : List Entry) (xs : List X) (name : String Global) (v : Value) (x : X)
+    → ReadSoFar read place all rest xs → rest ≡ (name, v) ∷ more → reading_of (read place (string_bytes name) (view v)) ≡ Ok (Some x)
+    → ReadSoFar read place all more (xs ++ x ∷ [])
 so_far_more read place all rest more xs name v x so_far is one =
     sym (members_more read place (string_bytes name) xs (view v) (members_view more) x one) ∙ subst (λ (es : List Entry). ReadSoFar read place all es xs) is so_far
 
-pub so_far_refused : {X : Type 0} (read : List ℕ → List ℕ → Data → Said (Option X)) (place : List ℕ) (all rest more : List Entry) (xs : List X) (name : String Global) (v : Value) (e : Fault Refused)
-    → ReadSoFar read place all rest xs → rest ≡ (name, v) ∷ more → IsRefusal e (reading_of (read place (string_bytes name) (view v))) → IsRefusal e (reading_of (members_in read place (members_view all)))
+pub so_far_refused : {X : Type 0} (read : List ℕ → List ℕ → Data
+    → Said (Option X)) (place : List ℕ) (all rest more : List Entry) (xs : List X) (name : String Global) (v : Value) (e : Fault Refused)
+    → ReadSoFar read place all rest xs → rest ≡ (name, v) ∷ more → IsRefusal e (reading_of (read place (string_bytes name) (view v)))
+    → IsRefusal e (reading_of (members_in read place (members_view all)))
 so_far_refused {X = X} read place all rest more xs name v e so_far is refused =
-    subst (λ (r : Result (Option (List X)) Refused). IsRefusal e r) (subst (λ (es : List Entry). ReadSoFar read place all es xs) is so_far) (members_refused read place (string_bytes name) xs (view v) (members_view more) e refused)
+    subst (λ (r : Result (Option (List X)) Refused). IsRefusal e r) (subst
+    (λ (es : List Entry). ReadSoFar read place all es xs) is so_far) (members_refused read place (string_bytes name) xs (view v) (members_view more) e refused)
 
-pub so_far_all : {X : Type 0} (read : List ℕ → List ℕ → Data → Said (Option X)) (place : List ℕ) (all rest : List Entry) (xs : List X) → ReadSoFar read place all rest xs → rest ≡ [] → reading_of (members_in read place (members_view all)) ≡ Ok (Some xs)
+pub so_far_all : {X : Type 0} (read : List ℕ → List ℕ → Data → Said (Option X)) (place : List ℕ) (all rest : List Entry) (xs : List X) → ReadSoFar read place all rest xs
+    → rest ≡ [] → reading_of (members_in read place (members_view all)) ≡ Ok (Some xs)
 so_far_all read place all rest xs so_far is = sym (subst (λ (es : List Entry). ReadSoFar read place all es xs) is so_far) ∙ members_none read place xs
 
 -- ---- the names of what was read
@@ -97,11 +110,13 @@ named_label {V = V} {X = X} kind make label labels place name d x is =
     second (Ok None) same = absurd (cc)
     second (Err e) same = absurd (cc)
 
-    first : (read : Result (Option (List ℕ)) Refused) → then_read {Y = Option X} read (λ n. reading_of (kind (child place name) d >>= λ v. says (option_map (make name) v))) ≡ Ok (Some x) → label x ≡ name
+    first : (read : Result (Option (List ℕ)) Refused) → then_read {Y = Option X} read
+        (λ n. reading_of (kind (child place name) d >>= λ v. says (option_map (make name) v))) ≡ Ok (Some x) → label x ≡ name
     first (Ok n) same = second (reading_of (kind (child place name) d)) (sym (reading_then (kind (child place name) d) (λ v. says (option_map (make name) v))) ∙ same)
     first (Err e) same = absurd (cc)
 
-pub members_names : {X : Type 0} (read : List ℕ → List ℕ → Data → Said (Option X)) (label : X → List ℕ) (place : List ℕ) → ((name : List ℕ) (d : Data) (x : X) → reading_of (read place name d) ≡ Ok (Some x) → label x ≡ name)
+pub members_names : {X : Type 0} (read : List ℕ → List ℕ → Data → Said (Option X)) (label : X → List ℕ) (place : List ℕ)
+    → ((name : List ℕ) (d : Data) (x : X) → reading_of (read place name d) ≡ Ok (Some x) → label x ≡ name)
     → (ms : Members) (xs : List X) → reading_of (members_in read place ms) ≡ Ok (Some xs) → map label xs ≡ names_of ms
 unfolding members_in
 members_names read label place labels no_members [] is = refl
@@ -124,7 +139,8 @@ members_names {X = X} read label place labels (member name d ms) xs is =
     none (Ok ys) same = cc
     none (Err e) same = cc
 
-    first : Rest → (one : Result (Option X) Refused) → reading_of (read place name d) ≡ one → then_read {Y = Option (List X)} one (λ x. then_read (reading_of (members_in read place ms)) (λ ys. Ok (with_first x ys))) ≡ Ok (Some xs)
+    first : Rest → (one : Result (Option X) Refused) → reading_of (read place name d) ≡ one
+        → then_read {Y = Option (List X)} one (λ x. then_read (reading_of (members_in read place ms)) (λ ys. Ok (with_first x ys))) ≡ Ok (Some xs)
         → map label xs ≡ name ∷ names_of ms
     first names (Ok (Some x)) one same = third names x one (reading_of (members_in read place ms)) refl same
     first names (Ok None) one same = absurd (none (reading_of (members_in read place ms)) same)
@@ -132,7 +148,8 @@ members_names {X = X} read label place labels (member name d ms) xs is =
 
 -- ---- the names of a map's members rise
 
-rest_after : (key : String Global) (es : List Entry) → AllByRecursion (λ y. string_cmp key y ≡ Less) (keys_of es) → AllByRecursion (λ n. text_cmp (string_bytes key) n ≡ Less) (names_of (members_view es))
+rest_after : (key : String Global) (es : List Entry) → AllByRecursion (λ y. string_cmp key y ≡ Less) (keys_of es)
+    → AllByRecursion (λ n. text_cmp (string_bytes key) n ≡ Less) (names_of (members_view es))
 rest_after key [] after = tt
 rest_after key (e ∷ es) after = (after.0, rest_after key es after.1)
 

@@ -6,7 +6,7 @@ use Rattle.rate_types.specs.Counters.{text_cmp}
 use Rattle.rate_types.specs.declared.refusals.TheConstants.{UNKNOWN_FIELD, TWO_NAMES}
 use Rattle.rate_types.specs.declared.refused.Refused.{Refused}
 use Rattle.rate_types.specs.Places.{child}
-use Rattle.serde_json.specs.Data.{Data, null, boolean, number, string, array, object, Items, Members, no_members, member}
+use Rattle.serde_json.specs.Data.{Data, null, Items, Members, no_members, member}
 use Rattle.serde_json.specs.Find.{get_member}
 use Rattle.proto_json.specs.Said.{Said, said, says, refuses, ◌>>=◌}
 
@@ -40,6 +40,7 @@ pub data Found : Type 0 where
   once : List ℕ → Data → Found
   twice : Found
 
+-- what stands there, of the values of the two spellings
 abbrev pub found_by : Name → Option Data → Option Data → Found
 found_by name None None = absent
 found_by name (Some d) None = once name.camel d
@@ -55,6 +56,7 @@ abbrev pub without : List ℕ → Members → Members
 without name no_members = no_members
 without name (member k d ms) = if bytes_eq name k then ms else member k d (without name ms)
 
+-- the members without either spelling
 abbrev pub without_both : Name → Members → Members
 without_both name ms = if bytes_eq name.camel name.plain then without name.camel ms else without name.plain (without name.camel ms)
 
@@ -65,12 +67,9 @@ after name o = record { place = o.place; members = without_both name o.members }
 -- a value where it isn't null, with the spelling of its name
 abbrev pub unless_null : List ℕ → Data → Option (List ℕ × Data)
 unless_null spelling null = None
-unless_null spelling (boolean b) = Some (spelling, boolean b)
-unless_null spelling (number n) = Some (spelling, number n)
-unless_null spelling (string s) = Some (spelling, string s)
-unless_null spelling (array ds) = Some (spelling, array ds)
-unless_null spelling (object ms) = Some (spelling, object ms)
+unless_null spelling d = Some (spelling, d)
 
+-- what stands there at an object's place
 abbrev pub standing_of : List ℕ → Name → Found → Said (Option (List ℕ × Data))
 standing_of place name absent = says None
 standing_of place name (once spelling d) = says (unless_null spelling d)
@@ -80,6 +79,7 @@ standing_of place name twice = refuses TWO_NAMES (child place name.camel)
 unfoldable pub standing : Name → Object → Said (Option (List ℕ × Data))
 standing name o = standing_of o.place name (find name o.members)
 
+-- what stands there, read at its place
 abbrev pub read_as : {X : Type 0} → (List ℕ → Data → Said (Option X)) → List ℕ → Option (List ℕ × Data) → Said (Option X)
 read_as kind place None = says None
 read_as kind place (Some it) = kind (child place it.0) it.1

@@ -36,5 +36,7 @@ found_of (standing.Once spelling value) = once spelling.now (view value)
 found_of standing.Twice = twice
 
 -- A take answers what the field says, as a value of this kind, and leaves the object without the field.
-abbrev pub Takes : {R X : Type 0} → (Option R → Option X) → (List ℕ → Data → Said (Option X)) → Name → Object → Result (Option R) (Fault Refused) → Object → Type 0
+abbrev pub Takes : {R X : Type 0} → (Option R → Option X) → (List ℕ → Data → Said (Option X)) → Name → Object
+    → Result (Option R) (Fault Refused)
+    → Object → Type 0
 Takes see kind name before result left = AnswersReading (λ o. (see o, left)) result (reading_of (take kind name before))

@@ -13,7 +13,8 @@ use Rattle.proto_json.specs.Said.{Said, says, refuses, ◌>>=◌}
 use Rattle.proto_json.specs.Fields.{Object, Listed, Placed}
 use Rattle.proto_json.specs.declared.kinds.TheConstants.{LONGEST_NUMERAL}
 use Rattle.rate_types.specs.declared.limits.TheConstants.{LONGEST_TEXT}
-use Rattle.rate_types.specs.declared.refusals.TheConstants.{NOT_OBJECT, WRONG_KIND, NUMBER_FORM, NUMBER_RANGE, UNKNOWN_NAME, BAD_DURATION, TOO_FINE, DURATION_TOO_LONG}
+use Rattle.rate_types.specs.declared.refusals.TheConstants.{NOT_OBJECT, WRONG_KIND, NUMBER_FORM, NUMBER_RANGE, UNKNOWN_NAME}
+use Rattle.rate_types.specs.declared.refusals.TheConstants.{BAD_DURATION, TOO_FINE, DURATION_TOO_LONG}
 
 -- a value of the wanted JSON kind, else this refusal
 abbrev pub wanted : {X : Type 0} → ℕ → List ℕ → Option X → Said (Option X)

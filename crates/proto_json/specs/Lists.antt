@@ -14,7 +14,10 @@ with_first None xs = None
 -- the items of a list from this index on, each read at its place
 unfoldable pub items_from : {X : Type 0} → (List ℕ → Data → Said (Option X)) → List ℕ → ℕ → Items → Said (Option (List X))
 items_from read place index no_items = says (Some [])
-items_from read place index (item d ds) = read (places.item place index) d >>= λ x. items_from read place (index + 1) ds >>= λ xs. says (with_first x xs)
+items_from read place index (item d ds) = do
+  x ← read (places.item place index) d
+  xs ← items_from read place (index + 1) ds
+  says (with_first x xs)
 
 -- the items of a list
 unfoldable pub each_item : {X : Type 0} → (List ℕ → Data → Said (Option X)) → Listed → Said (Option (List X))

@@ -5,6 +5,7 @@ use Rattle.std.specs.declared.cmp.Ordering.TheVariants.{Less}
 use Rattle.std.specs.Ordering.{on, then_cmp, eq_of_both}
 use Rattle.std.specs.Cmp.Lexicographic.{slice_cmp, pointwise}
 use Rattle.rate_types.specs.Counters.{text_cmp, same_text}
+use Rattle.rate_types.specs.declared.limits.TheConstants.{MOST_PARTS}
 use Rattle.quota_settings.specs.declared.pair.Pair.{Pair}
 
 -- pairs by the bytes of their names, then of their values
@@ -33,7 +34,7 @@ IsSorted (p ∷ ps) = AllAfter p.name ps × IsSorted ps
 
 -- the name of a bucket: 1 to 32 pairs, sorted by name
 abbrev pub IsBucketId : List Pair → Type 0
-IsBucketId pairs = (0 < length pairs) × (length pairs ≤ 32)
+IsBucketId pairs = (0 < length pairs) × (length pairs ≤ MOST_PARTS)
 
 -- the value of a name
 abbrev pub value_of : List ℕ → List Pair → Option (List ℕ)

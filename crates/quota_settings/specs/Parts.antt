@@ -3,6 +3,7 @@ use Rattle.std.specs.Prelude.{◌≡◌, ℕ, ◌<◌, ◌≤◌, Bool, ⊤, Lis
 use Rattle.std.specs.declared.cmp.Ordering.TheVariants.{Less}
 use Rattle.std.specs.List.{flat_map, list_all}
 use Rattle.rate_types.specs.Counters.{text_cmp}
+use Rattle.rate_types.specs.declared.limits.TheConstants.{MOST_PARTS}
 use Rattle.quota_settings.specs.Pairs.{value_of}
 use Rattle.quota_settings.specs.declared.pair.Pair.{Pair}
 use Rattle.quota_settings.specs.declared.part.PartSource.{PartSource}
@@ -27,7 +28,7 @@ ArePartsSorted (p ∷ ps) = PartsAfter p.name ps × ArePartsSorted ps
 pub record AreParts (parts : List NamePart) : Type 0 where
   pub sorted : ArePartsSorted parts
   pub some : 0 < length parts
-  pub few : length parts ≤ 32
+  pub few : length parts ≤ MOST_PARTS
 
 -- the value of a part for these attributes
 abbrev pub source_value : List Pair → PartSource → Option (List ℕ)

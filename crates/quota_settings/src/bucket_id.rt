@@ -9,6 +9,7 @@ ghost use Rattle.quota_settings.specs.Pairs.{pairs_cmp, same_pairs, IsBucketId};
 use crate::attributes::Attributes;
 use crate::pair::Pair;
 use rate_types::OutOfMemory;
+use rate_types::limits::MOST_PARTS;
 use std::alloc::Global;
 use std::cmp::Ordering;
 use std::marker::Model;
@@ -38,7 +39,7 @@ impl BucketId {
         ensures none { IfNone result (IsBucketId pairs → ⊥) }
     {
         let count = pairs.items().len();
-        if count == 0 || count > 32 {
+        if count == 0 || count > MOST_PARTS {
             return None;
         }
         Some(BucketId { pairs })
@@ -98,7 +99,9 @@ impl Ord for BucketId {
 impl PartialOrd for BucketId {
     ghost partial_cmp = { as_partial_cmp pairs_cmp };
 
-    ghost laws = { partial_order_from_own_ties (Prim.search (comparing, lists_ties, rules) depth 20) (Prim.search (comparing, lists_ties, rules) depth 20) };
+    ghost laws = { partial_order_from_own_ties
+        (Prim.search (comparing, lists_ties, rules) depth 20)
+        (Prim.search (comparing, lists_ties, rules) depth 20) };
 
     fn partial_cmp(&self, other: &BucketId) -> Option<Ordering> {
         Some(self.cmp(other))

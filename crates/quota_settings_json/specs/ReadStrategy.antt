@@ -4,7 +4,8 @@ use Rattle.std.specs.Str.{bytes_eq}
 use Rattle.rate_types.specs.declared.unit.Unit.{Unit}
 use Rattle.serde_json.specs.Data.{Data}
 use Rattle.serde_json.specs.Find.{as_str}
-use Rattle.rate_types.specs.declared.refusals.TheConstants.{WRONG_KIND, UNKNOWN_NAME, UNIT_MISSING, TWO_OF_ONE, NO_TOKENS, NO_FILL, FILL_ZERO}
+use Rattle.rate_types.specs.declared.refusals.TheConstants.{WRONG_KIND, UNKNOWN_NAME, UNIT_MISSING, TWO_OF_ONE}
+use Rattle.rate_types.specs.declared.refusals.TheConstants.{NO_TOKENS, NO_FILL, FILL_ZERO}
 use Rattle.proto_json.specs.Said.{Said, says, refuses, ◌>>=◌}
 use Rattle.proto_json.specs.Fields.{Object, Placed, take, ends}
 use Rattle.proto_json.specs.Kinds as kinds

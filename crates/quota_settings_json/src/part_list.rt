@@ -1,5 +1,6 @@
 ghost use Rattle.std.specs.Prelude.{◌≡◌, ◌<◌, ◌≤◌, [], length};
 ghost use Rattle.quota_settings.specs.Parts.{ArePartsSorted};
+ghost use Rattle.rate_types.specs.declared.limits.TheConstants.{MOST_PARTS};
 
 use quota_settings::{Part, Parts};
 use std::alloc::Global;
@@ -50,7 +51,7 @@ impl PartList {
     /// The parts of a bucket's name.
     pub fn into_parts(self) -> Parts
         requires some { 0 < length self }
-        requires few { length self ≤ 32 }
+        requires few { length self ≤ MOST_PARTS }
         ensures { result ≡ self }
     {
         Parts::of(self.items)

@@ -15,7 +15,8 @@ unfolding tree_json
 returns-clause-text c =
     let same : view c.in_ok-value.value ≡ tree_json (tree_view c.args.tree.now) = c.in_ok-value.ensures
     ∙ ap (λ (o : Option Data). object (members_there ((codes "descriptors", o) ∷ (codes "domain", text_there c.as_str.result.now) ∷ []))) c.in_ok-below.ensures.value
-    ∙ ap (λ (s : List ℕ). object (members_there ((codes "descriptors", list_there (branches_json (forest_view c.args.tree.now.forest))) ∷ (codes "domain", text_there s) ∷ []))) c.as_str.ensures.bytes in
+    ∙ ap (λ (s : List ℕ). object (members_there ((codes "descriptors", list_there (branches_json (forest_view c.args.tree.now.forest))) ∷
+    (codes "domain", text_there s) ∷ []))) c.as_str.ensures.bytes in
     c.in_ok-text.ensures.text (subst (λ (d : Data). has_float d ≡ false) (sym same) (no_float (tree_view c.args.tree.now))) ∙ ap compact_text same
 
 pub returns-clause-reads_back : goal.returns-clause-reads_back
@@ -23,7 +24,9 @@ unfolding tree_json
 returns-clause-reads_back c =
     let same : view c.in_ok-value.value ≡ tree_json (tree_view c.args.tree.now) = c.in_ok-value.ensures
     ∙ ap (λ (o : Option Data). object (members_there ((codes "descriptors", o) ∷ (codes "domain", text_there c.as_str.result.now) ∷ []))) c.in_ok-below.ensures.value
-    ∙ ap (λ (s : List ℕ). object (members_there ((codes "descriptors", list_there (branches_json (forest_view c.args.tree.now.forest))) ∷ (codes "domain", text_there s) ∷ []))) c.as_str.ensures.bytes in
+    ∙ ap (λ (s : List ℕ). object (members_there ((codes "descriptors", list_there (branches_json (forest_view c.args.tree.now.forest))) ∷
+    (codes "domain", text_there s) ∷ []))) c.as_str.ensures.bytes in
     file_back _ (tree_view c.args.tree.now)
-    (json_back _ (tree_json (tree_view c.args.tree.now)) (IsUtf8-string_bytes c.in_ok-text.text) (c.in_ok-text.ensures.reads_back (subst (λ (d : Data). depth d ≤ 127) (sym same) c.requires.shallow) ∙ ap (λ (d : Data). Some d) same))
+    (json_back _ (tree_json (tree_view c.args.tree.now)) (IsUtf8-string_bytes c.in_ok-text.text) (c.in_ok-text.ensures.reads_back (subst
+    (λ (d : Data). depth d ≤ 127) (sym same) c.requires.shallow) ∙ ap (λ (d : Data). Some d) same))
     (tree_back (tree_view c.args.tree.now) c.as_str.ensures.bound c.requires.formed c.in_ok-below.ensures.bounded)

@@ -14,7 +14,8 @@ pub returns-in-Ok : goal.returns-in-Ok
 returns-in-Ok c =
     let trees = map tree_view c.in-Ok.trees.items in
     let same : reading_of c.args.files.now ≡ first_or (config_faults trees) trees =
-    subst (λ (files : List (List ℕ)). reading_of files ≡ first_or (config_faults trees) trees) c.items.ensures (reading_of_trees c.items.result.now trees c.in-Ok.ensures.trees) in
+    subst (λ (files : List (List ℕ)). reading_of files ≡ first_or (config_faults trees) trees) c.items.ensures
+    (reading_of_trees c.items.result.now trees c.in-Ok.ensures.trees) in
     rw same c.build.ensures.first
 
 pub returns-in-Err : goal.returns-in-Err

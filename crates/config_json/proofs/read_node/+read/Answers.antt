@@ -33,7 +33,8 @@ read_node-node_of-requires t c = (omega (arith, message_depth _ _ _ c.in_ok-fiel
 pub read_nodes-read_node-requires : goal.read_nodes-read_node-requires
 read_nodes-read_node-requires t c =
     let all : c.items.yielded ++ c.in-Some.value ∷ c.next.new.self.rest.items ≡ c.args.list.items.items = search rules in
-    let less : depth (view c.in-Some.value) ≤ items_depth (items_view c.args.list.items.items) = subst (λ (x : List Value). depth (view c.in-Some.value) ≤ items_depth (items_view x)) all (item_depth _ _ _) in
+    let less : depth (view c.in-Some.value) ≤ items_depth (items_view c.args.list.items.items) =
+    subst (λ (x : List Value). depth (view c.in-Some.value) ≤ items_depth (items_view x)) all (item_depth _ _ _) in
     (omega arith, tt)
 
 pub take_below-read_nodes-requires : goal.take_below-read_nodes-requires
@@ -42,7 +43,8 @@ take_below-read_nodes-requires t c = (omega (arith, list_depth _ _ _ (rw c.in-So
 pub read_nodes-returns-in-Err-clause-said : goal.read_nodes-returns-in-Err-clause-said
 read_nodes-returns-in-Err-clause-said t c =
     let rest : c.items.value-iterator.rest.items ≡ c.in-Some.value ∷ c.next.new.self.rest.items = search rules in
-    let refused = nodes_refused c.args.list.place c.items.index (map node_view c.items.nodes.items) (view c.in-Some.value) (items_view c.next.new.self.rest.items) c.in-Err.fault (rw c.in_ok-at.ensures at c.in-Err.ensures.said) in
+    let refused = nodes_refused c.args.list.place c.items.index (map node_view c.items.nodes.items) (view c.in-Some.value) (items_view c.next.new.self.rest.items) c.in-Err.fault
+    (rw c.in_ok-at.ensures at c.in-Err.ensures.said) in
     let whole = rw rest at c.items.invariant.4 in
     rw whole at refused
 
@@ -50,16 +52,20 @@ pub read_nodes-items-preserved : goal.read_nodes-items-preserved
 read_nodes-items-preserved t c =
     let rest : c.items.value-iterator.rest.items ≡ c.in-Some.value ∷ c.next.new.self.rest.items = search rules in
     let all : c.items.yielded ++ c.in-Some.value ∷ c.next.new.self.rest.items ≡ c.args.list.items.items = search rules in
-    let read : reading_of (trees.node_at (places.item c.args.list.place c.items.index) (view c.in-Some.value)) ≡ Ok (Some (node_view c.in-Ok.node)) = rw c.in_ok-at.ensures at c.in-Ok.ensures.said in
-    let more = nodes_more c.args.list.place c.items.index (map node_view c.items.nodes.items) (view c.in-Some.value) (items_view c.next.new.self.rest.items) (node_view c.in-Ok.node) read in
+    let read : reading_of (trees.node_at (places.item c.args.list.place c.items.index) (view c.in-Some.value)) ≡ Ok (Some (node_view c.in-Ok.node)) =
+    rw c.in_ok-at.ensures at c.in-Ok.ensures.said in
+    let more = nodes_more c.args.list.place c.items.index (map node_view c.items.nodes.items) (view c.in-Some.value) (items_view c.next.new.self.rest.items)
+    (node_view c.in-Ok.node) read in
     let whole = rw rest at c.items.invariant.4 in
-    let pushed : map node_view c.push.new.self.items ≡ map node_view c.items.nodes.items ++ node_view c.in-Ok.node ∷ [] = rw c.in_ok-push.ensures.items (map_push node_view c.items.nodes.items c.in-Ok.node) in (
+    let pushed : map node_view c.push.new.self.items ≡ map node_view c.items.nodes.items ++ node_view c.in-Ok.node ∷ [] =
+    rw c.in_ok-push.ensures.items (map_push node_view c.items.nodes.items c.in-Ok.node) in (
       tt,
       tt,
       rw append_assoc all,
       omega (arith, length-append {A = Value}),
       rw pushed (sym more ∙ whole),
-      subst (λ (bs : List Branch). AreWellFormed (branches_of bs)) (sym pushed) (formed_push (map node_view c.items.nodes.items) (node_view c.in-Ok.node) c.items.invariant.5 c.in-Ok.ensures.formed),
+      subst (λ (bs : List Branch). AreWellFormed (branches_of bs)) (sym pushed)
+          (formed_push (map node_view c.items.nodes.items) (node_view c.in-Ok.node) c.items.invariant.5 c.in-Ok.ensures.formed),
     )
 
 pub read_nodes-returns-clause-said : goal.read_nodes-returns-clause-said

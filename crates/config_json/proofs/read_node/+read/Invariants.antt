@@ -27,5 +27,6 @@ invariant-read_nodes-items l =
     (goal.iterator-read_nodes-items).is_finite l.value-iterator ×
     (l.yielded ++ l.value-iterator.rest.items ≡ l.fn.list.items.items) ×
     (l.index ≡ length l.yielded) ×
-    (behind (map node_view l.nodes.items) (reading_of (trees.nodes_at l.fn.list.place l.index (items_view l.value-iterator.rest.items))) ≡ reading_of (trees.nodes_at l.fn.list.place 0 (items_view l.fn.list.items.items))) ×
+    (behind (map node_view l.nodes.items) (reading_of (trees.nodes_at l.fn.list.place l.index (items_view l.value-iterator.rest.items)))
+    ≡ reading_of (trees.nodes_at l.fn.list.place 0 (items_view l.fn.list.items.items))) ×
     AreWellFormed (branches_of (map node_view l.nodes.items))

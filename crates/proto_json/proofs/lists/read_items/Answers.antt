@@ -17,9 +17,20 @@ pub items-preserved : goal.items-preserved
 items-preserved g c =
     let rest : c.items.value-iterator.rest.items ≡ c.in-Some.value ∷ c.next.new.self.rest.items = search rules in
     let all : c.items.yielded ++ c.in-Some.value ∷ c.next.new.self.rest.items ≡ c.args.list.items.items = search rules in
-    let read : reading_of (g.K.Kind.says (places.item c.args.list.place c.items.index) (view c.in-Some.value)) ≡ Ok (Some c.in-Ok.item) = rw c.in_ok-at.ensures at c.in-Ok.ensures in
-    let more = items_so_far_more g.K.Kind.says _ _ _ _ _ _ _ _ c.items.invariant.5 rest read in
-    (tt, tt, rw append_assoc all, omega (arith, length-append {A = Value}), rw c.in_ok-push.ensures.items (one_longer _ c.in-Ok.item _ c.items.invariant.4), rw c.in_ok-push.ensures.items more)
+    let read : reading_of (g.K.Kind.says (places.item c.args.list.place c.items.index) (view c.in-Some.value)) ≡ Ok (Some c.in-Ok.item) =
+    rw c.in_ok-at.ensures at c.in-Ok.ensures in
+    let more = items_so_far_more g.K.Kind.says _ _ _ _ _ _ _ _ c.items.invariant.5 rest read in (
+      tt,
+      tt,
+      rw append_assoc all,
+      omega (
+        arith,
+        length-append {A =
+            Value},
+      ),
+      rw c.in_ok-push.ensures.items (one_longer _ c.in-Ok.item _ c.items.invariant.4),
+      rw c.in_ok-push.ensures.items more,
+    )
 
 pub returns-clause-said : goal.returns-clause-said
 unfolding each_item
