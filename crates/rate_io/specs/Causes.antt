@@ -1,13 +1,9 @@
 -- Counts of faults: what a call that failed did to the count of its object.
-use Rattle.std.specs.Prelude.{ℕ, ◌+◌, ◌-◌, ◌^◌, ◌≤◌, max, min, Result, OnErr}
+use Rattle.std.specs.Prelude.{ℕ, ◌+◌, ◌-◌, ◌^◌, ◌≤◌, min, Result, OnErr}
 
 -- a count rose, or stands at the last value of a counter of 64 bits
 abbrev pub Rose : ℕ → ℕ → Type 0
 Rose before now = min (before + 1) (2 ^ 64 - 1) ≤ now
-
--- a count after so many more, which stops at the last value of a counter of 64 bits
-abbrev pub count_after : ℕ → ℕ → ℕ
-count_after before more = max before (min (before + more) (2 ^ 64 - 1))
 
 -- the count didn't fall, and it rose where the call failed
 pub record HasCause {T E : Type 0} (before now : ℕ) (result : Result T E) : Type 0 where

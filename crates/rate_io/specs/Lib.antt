@@ -1,2 +1,5 @@
 pub mod Causes
 pub mod Content
+pub mod Events
+pub mod Stored
+pub mod Calls

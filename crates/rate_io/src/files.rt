@@ -1,6 +1,7 @@
-ghost use Rattle.std.specs.Prelude.{◌≡◌, ◌≤◌, ◌<◌, Option, List, ℕ, length, IfOk, Err};
-ghost use Rattle.rate_io.specs.Causes.{Rose, count_after};
+ghost use Rattle.std.specs.Prelude.{◌≡◌, ◌≤◌, ℕ, List, Option, length, IfOk, Err};
+ghost use Rattle.rate_io.specs.Causes.{Rose};
 ghost use Rattle.rate_io.specs.Content.{Told};
+ghost use Rattle.rate_io.specs.Events.{FileEvent, GrewByFile, ReadWhole};
 ghost use Rattle.rate_io.specs.declared.files.FileFault.TheVariants.{TooLong};
 
 use std::alloc::Global;
@@ -25,21 +26,19 @@ pub trait Files {
     /// The content of each name, where it is told.
     ghost content: { Self → List ℕ → Option (List ℕ) };
 
-    /// How many reads were asked of it. The number stops at the last value of a counter of 64 bits.
-    ghost calls: { Self → ℕ };
+    /// Its calls, in order: the name that was asked for, and the reads of its content.
+    ghost history: { Self → List FileEvent };
 
     /// How often it has failed. The count stops at the last value of a counter of 64 bits.
     ghost faults: { Self → ℕ };
 
     /// The content of a file of at most `limit` bytes.
     fn read(&mut self, alloc: Global, name: &str, limit: u64) -> Result<Vec<u8>, FileFault>
-        ensures counts { calls self.new ≡ count_after (calls self.old) 1 }
         ensures same { content self.new ≡ content self.old }
         ensures bytes { IfOk result (λ v. Told (content self.old name.now) (λ bytes. v.items ≡ bytes)) }
-        ensures within { IfOk result (λ v. length v.items ≤ limit) }
-        ensures too_long { (read : ℕ) → result ≡ Err (TooLong read) → limit < read }
         ensures longer { (read : ℕ) → result ≡ Err (TooLong read)
             → Told (content self.old name.now) (λ bytes. read ≤ length bytes) }
+        ensures event { GrewByFile (history self.old) (history self.new) name.now (ReadWhole (λ v. v.items) limit result) }
         ensures later { faults self.old ≤ faults self.new }
         ensures failed { result ≡ Err FileFault.Failed → Rose (faults self.old) (faults self.new) };
 }

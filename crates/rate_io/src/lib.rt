@@ -7,6 +7,7 @@
 #![tactic(auto)]
 
 mod files;
+mod history;
 mod mem_files;
 mod mem_sink;
 mod mem_source;
@@ -17,6 +18,7 @@ mod sure;
 mod whole;
 
 pub use files::{FileFault, Files};
+pub use history::{Call, FileCall, FileHistory, History};
 pub use mem_files::{MemFile, MemFiles};
 pub use mem_sink::MemSink;
 pub use mem_source::MemSource;

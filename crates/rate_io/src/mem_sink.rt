@@ -1,6 +1,7 @@
 ghost use Rattle.std.specs.Prelude.{◌≡◌, ◌∷◌, OnSome, IfNone, Some, map, [], ◌++◌};
+ghost use Rattle.rate_io.specs.Events.{pieces_written, wrote};
 
-use crate::{Failed, Sink};
+use crate::{Call, Failed, History, Sink};
 use std::alloc::Global;
 
 /// A sink in memory. Calls are counted from 1, and those with a number in `failing` fail and write nothing. A call
@@ -10,22 +11,25 @@ pub struct MemSink {
     alloc: Global,
     bytes: Vec<u8>,
     pieces: Vec<Vec<u8>>,
+    history: History,
     calls: u64,
     failing: Vec<u64>,
     faults: u64,
+    ghost kept: { pieces_written history.events ≡ map (λ v. v.items) pieces.items },
 }
 
 impl MemSink {
     /// A sink that was written nothing. It takes no memory.
     pub fn new(alloc: Global, failing: Vec<u64>) -> MemSink
         ensures written { ⟦<MemSink as Sink>⟧.written result ≡ Some [] }
-        ensures pieces { ⟦<MemSink as Sink>⟧.pieces result ≡ Some [] }
+        ensures history { ⟦<MemSink as Sink>⟧.history result ≡ [] }
         ensures faults { ⟦<MemSink as Sink>⟧.faults result ≡ 0 }
     {
         MemSink {
             alloc,
             bytes: Vec::new(alloc),
             pieces: Vec::new(alloc),
+            history: History::new(),
             calls: 0,
             failing,
             faults: 0,
@@ -41,16 +45,16 @@ impl MemSink {
 
     /// The pieces that were written, each by one call.
     pub fn pieces(&self) -> &[Vec<u8>]
-        ensures { ⟦<MemSink as Sink>⟧.pieces self.now ≡ Some (map (λ v. v.items) result.now) }
+        ensures { pieces_written (⟦<MemSink as Sink>⟧.history self.now) ≡ map (λ v. v.items) result.now }
     {
         &self.pieces
     }
 
     fn keep(&mut self, piece: &[u8]) -> Option<()>
         ensures done { OnSome result ((self.new.bytes.items ≡ self.old.bytes.items ++ piece.now)
-            × (map (λ v. v.items) self.new.pieces.items ≡ map (λ v. v.items) self.old.pieces.items ++ piece.now ∷ [])) }
+            × (self.new.history.events ≡ self.old.history.events ++ wrote piece.now ∷ [])) }
         ensures not_done { IfNone result ((self.new.bytes.items ≡ self.old.bytes.items)
-            × (self.new.pieces.items ≡ self.old.pieces.items)) }
+            × (self.new.history.events ≡ self.old.history.events)) }
         ensures faults { self.new.faults ≡ self.old.faults }
     {
         let copy = piece.to_vec(self.alloc).ok()?;
@@ -61,6 +65,7 @@ impl MemSink {
             return None;
         }
         self.bytes.extend_from_slice(piece).unwrap();
+        self.history = self.history.and(&Call::Wrote(piece));
         Some(())
     }
 }
@@ -68,7 +73,7 @@ impl MemSink {
 impl Sink for MemSink {
     ghost written = { λ s. Some s.bytes.items };
 
-    ghost pieces = { λ s. Some (map (λ v. v.items) s.pieces.items) };
+    ghost history = { λ s. s.history.events };
 
     ghost faults = { λ s. s.faults };
 
@@ -76,6 +81,7 @@ impl Sink for MemSink {
         self.calls = self.calls.saturating_add(1);
         if self.failing.contains(&self.calls) || self.keep(piece).is_none() {
             self.faults = self.faults.saturating_add(1);
+            self.history = self.history.and(&Call::WriteFailed(piece));
             return Err(Failed);
         }
         Ok(())

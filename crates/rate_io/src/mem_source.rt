@@ -1,13 +1,13 @@
-ghost use Rattle.std.specs.Prelude.{◌≡◌, Some, false};
+ghost use Rattle.std.specs.Prelude.{◌≡◌, Some, []};
 
-use crate::{Failed, Source};
+use crate::{Call, Failed, History, Source};
 use std::io::{Cursor, Read};
 
 /// Bytes in memory. Calls are counted from 1, and those with a number in `failing` fail.
 #[derive(Drop)]
 pub struct MemSource {
     bytes: Cursor<Vec<u8>>,
-    has_ended: bool,
+    history: History,
     pub(crate) calls: u64,
     failing: Vec<u64>,
     faults: u64,
@@ -17,12 +17,12 @@ impl MemSource {
     /// A source of these bytes. It takes no memory.
     pub fn new(bytes: Vec<u8>, failing: Vec<u64>) -> MemSource
         ensures left { ⟦<MemSource as Source>⟧.left result ≡ Some bytes.items }
-        ensures ended { ⟦<MemSource as Source>⟧.ended result ≡ false }
+        ensures history { ⟦<MemSource as Source>⟧.history result ≡ [] }
         ensures faults { ⟦<MemSource as Source>⟧.faults result ≡ 0 }
     {
         MemSource {
             bytes: Cursor::new(bytes),
-            has_ended: false,
+            history: History::new(),
             calls: 0,
             failing,
             faults: 0,
@@ -33,7 +33,7 @@ impl MemSource {
 impl Source for MemSource {
     ghost left = { λ s. ⟦<Cursor<Vec<u8>> as Read>⟧.remaining s.bytes };
 
-    ghost ended = { λ s. s.has_ended };
+    ghost history = { λ s. s.history.events };
 
     ghost faults = { λ s. s.faults };
 
@@ -41,12 +41,13 @@ impl Source for MemSource {
         self.calls = self.calls.saturating_add(1);
         if self.failing.contains(&self.calls) {
             self.faults = self.faults.saturating_add(1);
+            self.history = self.history.and(&Call::ReadFailed);
             return Err(Failed);
         }
         let Ok(count) = self.bytes.read(buf) else {
             unreachable!();
         };
-        self.has_ended = self.has_ended || (count == 0 && !buf.is_empty());
+        self.history = self.history.and(&Call::of_read(count, buf));
         Ok(count)
     }
 }

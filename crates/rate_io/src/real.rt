@@ -1,7 +1,11 @@
 // The adapters over the real input, output and files. They tell no content; what std answers is trusted.
-ghost use Rattle.std.specs.Prelude.{◌≡◌, None, false};
+ghost use Rattle.std.specs.Prelude.{◌≡◌, ◌∷◌, [], ◌++◌, None, OnOk, OnErr};
+ghost use Rattle.std.specs.Io.KnownBytes as known;
+ghost use Rattle.rate_io.specs.Causes.{HasCause};
+ghost use Rattle.rate_io.specs.Content.{Appends, AppendsPart};
+ghost use Rattle.rate_io.specs.Events.{write_event};
 
-use crate::{Failed, FileFault, Files, Sink, Source};
+use crate::{Call, Failed, FileCall, FileFault, FileHistory, Files, History, Sink, Source};
 use std::alloc::Global;
 use std::fs;
 use std::io::{Read, Write};
@@ -10,7 +14,7 @@ use std::io::{Read, Write};
 #[derive(Drop)]
 pub struct ReaderSource<R: Read + Drop> {
     inner: R,
-    has_ended: bool,
+    history: History,
     faults: u64,
 }
 
@@ -18,12 +22,12 @@ impl<R: Read + Drop> ReaderSource<R> {
     /// The source that this reader is.
     pub fn new(inner: R) -> Self
         ensures left { ⟦<ReaderSource<R> as Source>⟧.left result ≡ R.remaining inner }
-        ensures ended { ⟦<ReaderSource<R> as Source>⟧.ended result ≡ false }
+        ensures history { ⟦<ReaderSource<R> as Source>⟧.history result ≡ [] }
         ensures faults { ⟦<ReaderSource<R> as Source>⟧.faults result ≡ 0 }
     {
         ReaderSource {
             inner,
-            has_ended: false,
+            history: History::new(),
             faults: 0,
         }
     }
@@ -32,18 +36,19 @@ impl<R: Read + Drop> ReaderSource<R> {
 impl<R: Read + Drop> Source for ReaderSource<R> {
     ghost left = { λ s. R.remaining s.inner };
 
-    ghost ended = { λ s. s.has_ended };
+    ghost history = { λ s. s.history.events };
 
     ghost faults = { λ s. s.faults };
 
     fn read(&mut self, buf: &mut [u8]) -> Result<usize, Failed> {
         match self.inner.read(buf) {
             Ok(count) => {
-                self.has_ended = self.has_ended || (count == 0 && !buf.is_empty());
+                self.history = self.history.and(&Call::of_read(count, buf));
                 Ok(count)
             }
             Err(_) => {
                 self.faults = self.faults.saturating_add(1);
+                self.history = self.history.and(&Call::ReadFailed);
                 Err(Failed)
             }
         }
@@ -54,30 +59,47 @@ impl<R: Read + Drop> Source for ReaderSource<R> {
 #[derive(Drop)]
 pub struct WriterSink<W: Write + Drop> {
     inner: W,
+    history: History,
     faults: u64,
 }
 
 impl<W: Write + Drop> WriterSink<W> {
     /// The sink that this writer is.
     pub fn new(inner: W) -> Self
-        ensures { ⟦<WriterSink<W> as Sink>⟧.faults result ≡ 0 }
+        ensures history { ⟦<WriterSink<W> as Sink>⟧.history result ≡ [] }
+        ensures faults { ⟦<WriterSink<W> as Sink>⟧.faults result ≡ 0 }
     {
-        WriterSink { inner, faults: 0 }
+        WriterSink {
+            inner,
+            history: History::new(),
+            faults: 0,
+        }
     }
 }
 
 impl<W: Write + Drop> Sink for WriterSink<W> {
     ghost written = { λ _. None };
 
-    ghost pieces = { λ _. None };
+    ghost history = { λ s. s.history.events };
 
     ghost faults = { λ s. s.faults };
 
-    fn write(&mut self, piece: &[u8]) -> Result<(), Failed> {
+    // Beside what each sink promises, the writer itself took the piece, where it tells what it holds.
+    fn write(&mut self, piece: &[u8]) -> Result<(), Failed>
+        ensures bytes { OnOk result (Appends None None piece.now) }
+        ensures part { OnErr result (AppendsPart None None piece.now) }
+        ensures event { self.new.history.events ≡ self.old.history.events ++ write_event result piece.now ∷ [] }
+        ensures cause { HasCause self.old.faults self.new.faults result }
+        ensures inner { OnOk result (known.Appends (W.contents self.old.inner) (W.contents self.new.inner) piece.now) }
+    {
         match self.inner.write_all(piece) {
-            Ok(()) => Ok(()),
+            Ok(()) => {
+                self.history = self.history.and(&Call::Wrote(piece));
+                Ok(())
+            }
             Err(_) => {
                 self.faults = self.faults.saturating_add(1);
+                self.history = self.history.and(&Call::WriteFailed(piece));
                 Err(Failed)
             }
         }
@@ -88,19 +110,19 @@ impl<W: Write + Drop> Sink for WriterSink<W> {
 #[derive(Drop)]
 pub struct HostFiles<R: std::rt::Files + Drop> {
     rt: R,
-    calls: u64,
+    history: FileHistory,
     faults: u64,
 }
 
 impl<R: std::rt::Files + Drop> HostFiles<R> {
     /// The files that this runtime reaches.
     pub fn new(rt: R) -> Self
-        ensures calls { ⟦<HostFiles<R> as Files>⟧.calls result ≡ 0 }
+        ensures history { ⟦<HostFiles<R> as Files>⟧.history result ≡ [] }
         ensures faults { ⟦<HostFiles<R> as Files>⟧.faults result ≡ 0 }
     {
         HostFiles {
             rt,
-            calls: 0,
+            history: FileHistory::new(),
             faults: 0,
         }
     }
@@ -109,25 +131,24 @@ impl<R: std::rt::Files + Drop> HostFiles<R> {
 impl<R: std::rt::Files + Drop> Files for HostFiles<R> {
     ghost content = { λ _ _. None };
 
-    ghost calls = { λ s. s.calls };
+    ghost history = { λ s. s.history.events };
 
     ghost faults = { λ s. s.faults };
 
     fn read(&mut self, alloc: Global, name: &str, limit: u64) -> Result<Vec<u8>, FileFault> {
-        self.calls = self.calls.saturating_add(1);
         let Ok(file) = fs::open(&self.rt, name) else {
+            let reads = &History::new().and(&Call::ReadFailed);
+            self.history = self.history.and(&FileCall { name, reads });
             self.faults = self.faults.saturating_add(1);
             return Err(FileFault::Failed);
         };
         let mut source = ReaderSource::new(file);
-        match crate::read_up_to(alloc, &mut source, limit) {
-            Ok(bytes) => Ok(bytes),
-            Err(FileFault::Failed) => {
-                self.faults = self.faults.saturating_add(1);
-                Err(FileFault::Failed)
-            }
-            Err(FileFault::TooLong { read }) => Err(FileFault::TooLong { read }),
-            Err(FileFault::OutOfMemory) => Err(FileFault::OutOfMemory),
+        let read = crate::read_up_to(alloc, &mut source, limit);
+        let reads = &source.history;
+        self.history = self.history.and(&FileCall { name, reads });
+        if let Err(FileFault::Failed) = read {
+            self.faults = self.faults.saturating_add(1);
         }
+        read
     }
 }

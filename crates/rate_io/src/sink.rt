@@ -1,6 +1,7 @@
-ghost use Rattle.std.specs.Prelude.{Option, List, ℕ, OnOk, OnErr};
+ghost use Rattle.std.specs.Prelude.{◌≡◌, ◌∷◌, [], ◌++◌, Option, List, ℕ, OnOk, OnErr};
 ghost use Rattle.rate_io.specs.Causes.{HasCause};
-ghost use Rattle.rate_io.specs.Content.{Appends, AppendsPart, AddsPiece, KeepsPieces};
+ghost use Rattle.rate_io.specs.Content.{Appends, AppendsPart};
+ghost use Rattle.rate_io.specs.Events.{Event, write_event};
 
 use crate::Failed;
 
@@ -9,8 +10,8 @@ pub trait Sink {
     /// The bytes that were written, where they are told.
     ghost written: { Self → Option (List ℕ) };
 
-    /// The pieces that were written, each by one call that answered Ok, where they are told.
-    ghost pieces: { Self → Option (List (List ℕ)) };
+    /// Its writes, in order, and whether each was done.
+    ghost history: { Self → List Event };
 
     /// How often it has failed. The count stops at the last value of a counter of 64 bits.
     ghost faults: { Self → ℕ };
@@ -18,8 +19,7 @@ pub trait Sink {
     /// Writes a piece. After `Failed` the first bytes of the piece may have been written.
     fn write(&mut self, piece: &[u8]) -> Result<(), Failed>
         ensures bytes { OnOk result (Appends (written self.old) (written self.new) piece.now) }
-        ensures piece { OnOk result (AddsPiece (pieces self.old) (pieces self.new) piece.now) }
         ensures part { OnErr result (AppendsPart (written self.old) (written self.new) piece.now) }
-        ensures none { OnErr result (KeepsPieces (pieces self.old) (pieces self.new)) }
+        ensures event { history self.new ≡ history self.old ++ write_event result piece.now ∷ [] }
         ensures cause { HasCause (faults self.old) (faults self.new) result };
 }

@@ -1,6 +1,6 @@
-ghost use Rattle.std.specs.Prelude.{◌≡◌, [], Some, None, false, IfOk, if◌then◌else◌};
+ghost use Rattle.std.specs.Prelude.{◌≡◌, [], Some, None, IfOk, if◌then◌else◌};
 
-use crate::{Failed, Sink, Source};
+use crate::{Call, Failed, History, Sink, Source};
 use rate_types::OutOfMemory;
 use std::alloc::Global;
 use std::io::{Cursor, Read};
@@ -9,18 +9,18 @@ use std::io::{Cursor, Read};
 #[derive(Drop)]
 pub struct SureSource {
     bytes: Cursor<Vec<u8>>,
-    has_ended: bool,
+    history: History,
 }
 
 impl SureSource {
     /// A source of these bytes. It takes no memory.
     pub fn new(bytes: Vec<u8>) -> SureSource
         ensures left { ⟦<SureSource as Source>⟧.left result ≡ Some bytes.items }
-        ensures ended { ⟦<SureSource as Source>⟧.ended result ≡ false }
+        ensures history { ⟦<SureSource as Source>⟧.history result ≡ [] }
     {
         SureSource {
             bytes: Cursor::new(bytes),
-            has_ended: false,
+            history: History::new(),
         }
     }
 }
@@ -28,7 +28,7 @@ impl SureSource {
 impl Source for SureSource {
     ghost left = { λ s. ⟦<Cursor<Vec<u8>> as Read>⟧.remaining s.bytes };
 
-    ghost ended = { λ s. s.has_ended };
+    ghost history = { λ s. s.history.events };
 
     ghost faults = { λ _. 0 };
 
@@ -36,7 +36,7 @@ impl Source for SureSource {
         let Ok(count) = self.bytes.read(buf) else {
             unreachable!();
         };
-        self.has_ended = self.has_ended || (count == 0 && !buf.is_empty());
+        self.history = self.history.and(&Call::of_read(count, buf));
         Ok(count)
     }
 }
@@ -47,16 +47,19 @@ impl Source for SureSource {
 pub struct SureSink {
     bytes: Vec<u8>,
     is_whole: bool,
+    history: History,
 }
 
 impl SureSink {
     /// A sink that was written nothing. It takes no memory.
     pub fn new(alloc: Global) -> SureSink
-        ensures { ⟦<SureSink as Sink>⟧.written result ≡ Some [] }
+        ensures written { ⟦<SureSink as Sink>⟧.written result ≡ Some [] }
+        ensures history { ⟦<SureSink as Sink>⟧.history result ≡ [] }
     {
         SureSink {
             bytes: Vec::new(alloc),
             is_whole: true,
+            history: History::new(),
         }
     }
 
@@ -75,7 +78,7 @@ impl SureSink {
 impl Sink for SureSink {
     ghost written = { λ s. if s.is_whole then Some s.bytes.items else None };
 
-    ghost pieces = { λ _. None };
+    ghost history = { λ s. s.history.events };
 
     ghost faults = { λ _. 0 };
 
@@ -83,6 +86,7 @@ impl Sink for SureSink {
         if self.bytes.extend_from_slice(piece).is_err() {
             self.is_whole = false;
         }
+        self.history = self.history.and(&Call::Wrote(piece));
         Ok(())
     }
 }

@@ -2,6 +2,7 @@ ghost use Rattle.std.specs.Prelude.{ℕ, ◌≡◌, ◌≤◌, ◌<◌, IfOk, On
 ghost use Rattle.std.specs.Io.KnownBytes.{IsAtEnd};
 ghost use Rattle.rate_io.specs.Causes.{Rose};
 ghost use Rattle.rate_io.specs.Content.{Told};
+ghost use Rattle.rate_io.specs.Events.{Grew, ReadWhole};
 ghost use Rattle.rate_io.specs.declared.files.FileFault.TheVariants.{TooLong};
 
 use crate::{FileFault, Source};
@@ -15,9 +16,7 @@ pub fn read_up_to<S: Source>(
 ) -> Result<Vec<u8>, FileFault>
     ensures whole { IfOk result (λ v. Told (S.left source.old) (λ bytes. v.items ≡ bytes)) }
     ensures end { OnOk result (IsAtEnd (S.left source.new)) }
-    ensures ended { OnOk result (S.ended source.new ≡ true) }
-    ensures within { IfOk result (λ v. length v.items ≤ limit) }
-    ensures too_long { (read : ℕ) → result ≡ Err (TooLong read) → limit < read }
+    ensures reads { Grew (S.history source.old) (S.history source.new) (ReadWhole (λ v. v.items) limit result) }
     ensures longer { (read : ℕ) → result ≡ Err (TooLong read)
         → Told (S.left source.old) (λ bytes. read ≤ length bytes) }
     ensures later { S.faults source.old ≤ S.faults source.new }
