@@ -1,6 +1,7 @@
 -- What objects of the outside did, call by call, in order. Every source, sink and set of files has such a history; it
 -- takes no memory, and a clause reads it.
-use Rattle.std.specs.Prelude.{◌≡◌, ℕ, ◌==◌, ◌&&◌, ◌<◌, ◌≤◌, List, [], ◌∷◌, ◌++◌, length, take, Bool, true, false, nat_lt, Result, Ok, Err, ⊤, if◌then◌else◌}
+use Rattle.std.specs.Prelude.{◌≡◌, ℕ, ◌==◌, ◌&&◌, ◌<◌, ◌≤◌, List, [], ◌∷◌, ◌++◌, length, take, drop, Bool, true, false, nat_lt}
+use Rattle.std.specs.Prelude.{Result, Ok, Err, ⊤, if◌then◌else◌}
 use Rattle.std.specs.List.{flat_map, list_any}
 use Rattle.rate_io.specs.declared.files.FileFault.{FileFault}
 use Rattle.rate_io.specs.declared.files.FileFault.TheVariants as fault
@@ -25,10 +26,7 @@ FileEvent = List ℕ × List Event
 -- the bytes of one event that a read handed out
 abbrev pub bytes_given : Event → List ℕ
 bytes_given (gave bytes) = bytes
-bytes_given ended = []
-bytes_given read_failed = []
-bytes_given (wrote piece) = []
-bytes_given (write_failed piece) = []
+bytes_given other = []
 
 -- all bytes that reads handed out, in order
 abbrev pub given : List Event → List ℕ
@@ -36,10 +34,7 @@ given = flat_map bytes_given
 
 abbrev pub is_ended : Event → Bool
 is_ended ended = true
-is_ended (gave bytes) = false
-is_ended read_failed = false
-is_ended (wrote piece) = false
-is_ended (write_failed piece) = false
+is_ended other = false
 
 -- a read answered the end
 abbrev pub has_ended : List Event → Bool
@@ -47,22 +42,24 @@ has_ended = list_any is_ended
 
 abbrev pub is_read_failed : Event → Bool
 is_read_failed read_failed = true
-is_read_failed (gave bytes) = false
-is_read_failed ended = false
-is_read_failed (wrote piece) = false
-is_read_failed (write_failed piece) = false
+is_read_failed other = false
 
 -- a read failed
 abbrev pub has_failed : List Event → Bool
 has_failed = list_any is_read_failed
 
+abbrev pub is_write_failed : Event → Bool
+is_write_failed (write_failed piece) = true
+is_write_failed other = false
+
+-- a write failed
+abbrev pub has_write_failed : List Event → Bool
+has_write_failed = list_any is_write_failed
+
 -- the piece of one event that was written
 abbrev pub piece_written : Event → List (List ℕ)
 piece_written (wrote piece) = piece ∷ []
-piece_written (gave bytes) = []
-piece_written ended = []
-piece_written read_failed = []
-piece_written (write_failed piece) = []
+piece_written other = []
 
 -- the pieces that were written, in order
 abbrev pub pieces_written : List Event → List (List ℕ)
@@ -78,17 +75,25 @@ abbrev pub write_event : {T E : Type 0} → Result T E → List ℕ → Event
 write_event (Ok done) piece = wrote piece
 write_event (Err e) piece = write_failed piece
 
--- a history grew by these events
-pub record Grew (old new : List Event) (P : List Event → Type 0) : Type 0 where
-  pub events : List Event
+-- a history grew by these events, of which this holds
+pub record Grew {E : Type 0} (old new : List E) (P : List E → Type 0) : Type 0 where
+  pub events : List E
   pub grew : new ≡ old ++ events
   pub are : P events
 
--- a history of files grew by one call for this name
+-- a history of files grew by one call for this name, of whose reads this holds
 pub record GrewByFile (old new : List FileEvent) (name : List ℕ) (P : List Event → Type 0) : Type 0 where
   pub reads : List Event
   pub grew : new ≡ old ++ (name, reads) ∷ []
   pub are : P reads
+
+-- what a history has beyond an earlier state of it
+abbrev pub since : {E : Type 0} → List E → List E → List E
+since old new = drop (length old) new
+
+-- a history only grew
+abbrev pub Continues : {E : Type 0} → List E → List E → Type 0
+Continues old new = new ≡ old ++ since old new
 
 -- What the reads of a file, or of what a source has left, say of the answer. With Ok they handed out its bytes, at most as
 -- many as the limit, and then answered the end; TooLong counts the bytes that they handed out, more than the limit; one of

@@ -1,73 +1,71 @@
 -- Where nothing but want of memory stands against it, the exit is Done.
-use Rattle.std.proofs.Common.{◌≡◌, ℕ, ◌<◌, ◌⊎◌, List, [], ◌∷◌, zero, suc, length, Option, Some, Result, Ok, Err, inl, inr, slice_get, sym, ◌∙◌, subst, arith}
+use Rattle.std.proofs.Common.{◌≡◌, ℕ, ◌<◌, ◌≤◌, ◌⊎◌, ◌||◌, List, [], ◌∷◌, ◌++◌, Bool, true, false, map, take, length, Option, Some, Result, Ok, Err, inl, inr, refl, sym, ap, ◌∙◌, subst, arith, true≢false}
+use Rattle.std.specs.List.{AllByRecursion}
 use Rattle.std.proofs.lemmas.Option.{same_Some, none-some}
+use Rattle.std.proofs.lemmas.List.Folds.{list_any-append}
 use Rattle.rate_types.specs.declared.limits.TheConstants.{MOST_BYTES}
-use Rattle.rate_io.specs.Content.{Told}
 use Rattle.rate_types.specs.declared.refused.At.{At}
-use Rattle.rule_lookup.specs.declared.flat.FlatConfig.{FlatConfig}
+use Rattle.rate_io.specs.Events.{Event, wrote, write_failed, FileEvent, given, has_failed, has_write_failed, is_write_failed}
 use Rattle.ratelimit_cli.specs.Configs.{configuration_of}
-use Rattle.ratelimit_cli.specs.Words.{command_of}
-use Rattle.ratelimit_cli.specs.Exits.{World, AreFilesOf, AreToldFiles, FilesSay, HasLongFile, HasNoCause, IsTooLong, Explains, IsExitOf}
+use Rattle.ratelimit_cli.specs.Exits.{World, AreFilesOf, FilesSay, StopsAt, IsLong, IsUnread, HasNoCause, WroteUpTo, Explains, IsExitOf}
 use Rattle.ratelimit_cli.specs.declared.exit.Exit.{Exit}
 use Rattle.ratelimit_cli.specs.declared.exit.Exit.TheVariants.{Done, Usage, ConfigRefused, TooLong, ReadFault, WriteFault, FileFault, OutOfMemory}
 
--- what was read is what is told
-same_files : (content : List ℕ → Option (List ℕ)) (names files told : List (List ℕ)) → AreFilesOf content names files → AreToldFiles content names told → files ≡ told
-same_files content [] [] [] h k = λ i. []
-same_files content [] [] (t ∷ told) h k = absurd k
-same_files content [] (b ∷ files) told h k = absurd h
-same_files content (n ∷ names) [] told h k = absurd h
-same_files content (n ∷ names) (b ∷ files) [] h k = absurd k
-same_files content (n ∷ names) (b ∷ files) (t ∷ told) h k =
-    let same : b ≡ t = subst (λ (o : Option (List ℕ)). Told o (λ bytes. b ≡ bytes)) k.0 h.0 in
-    λ i. same i ∷ same_files content names files told h.2 k.2 i
+-- the bytes of the files are those that their reads handed out
+same_files : (content : List ℕ → Option (List ℕ)) (names : List (List ℕ)) (calls : List FileEvent) (files : List (List ℕ)) → AreFilesOf content names calls files
+    → files ≡ map (λ call. given call.1) calls
+same_files content [] [] [] h = refl
+same_files content [] [] (b ∷ files) h = absurd h
+same_files content [] (c ∷ calls) files h = absurd h
+same_files content (n ∷ names) [] files h = absurd h
+same_files content (n ∷ names) (c ∷ calls) [] h = absurd h
+same_files content (n ∷ names) (c ∷ calls) (b ∷ files) h = λ i. sym h.1.0 i ∷ same_files content names calls files h.2 i
 
--- none of the files that are told is too long
-not_long : (content : List ℕ → Option (List ℕ)) (names files : List (List ℕ)) → AreToldFiles content names files → (name : List ℕ) (index : ℕ) → slice_get names index ≡ Some name
-    → Told (content name) (λ bytes. MOST_BYTES < length bytes) → ⊥
-not_long content [] [] k name index is long = none-some name is
-not_long content [] (b ∷ files) k name index is long = absurd k
-not_long content (n ∷ names) [] k name index is long = absurd k
-not_long content (n ∷ names) (b ∷ files) k name zero is long =
-    let told : content name ≡ Some b = subst (λ (x : List ℕ). content x ≡ Some b) (same_Some n name is) k.0 in
-    let more : MOST_BYTES < length b = subst (λ (o : Option (List ℕ)). Told o (λ bytes. MOST_BYTES < length bytes)) told long in
-    omega (arith, k.1, more)
-not_long content (n ∷ names) (b ∷ files) k name (suc index) is long = not_long content names files k.2 name index is long
+-- what holds of all holds of the last
+last_of : {X : Type 0} (P : X → Type 0) (xs : List X) (x : X) → AllByRecursion P (xs ++ x ∷ []) → P x
+last_of P [] x h = h.0
+last_of P (y ∷ xs) x h = last_of P xs x h.1
 
--- it is a refusal
-abbrev IsRefused : Result (List FlatConfig) At → Type 0
-IsRefused (Ok config) = ⊥
-IsRefused (Err at) = Unit {0}
+abbrev Fits : FileEvent → Type 0
+Fits call = (has_failed call.1 ≡ false) × (length (given call.1) ≤ MOST_BYTES)
+
+-- the last call for a file
+stopped : (content : List ℕ → Option (List ℕ)) (names : List (List ℕ)) (calls : List FileEvent) (index : ℕ) (P : List ℕ → List Event → Type 0) → AllByRecursion Fits calls
+    → (s : StopsAt content names calls index P) → Fits (s.name, s.reads)
+stopped content names calls index P all s = last_of Fits s.earlier (s.name, s.reads) (subst (λ (cs : List FileEvent). AllByRecursion Fits cs) s.last all)
+
+or_true : (b : Bool) → (b || true) ≡ true
+or_true true = refl
+or_true false = refl
+
+write_fails : (pieces : List (List ℕ)) (writes : List Event) → WroteUpTo pieces writes → has_write_failed writes ≡ true
+write_fails pieces writes h =
+    ap has_write_failed h.each ∙ list_any-append is_write_failed (map wrote (take h.count pieces)) (write_failed h.piece ∷ [])
+    ∙ or_true (has_write_failed (map wrote (take h.count pieces)))
 
 module _ (w : World) (no : HasNoCause w) where
-  same_names : (names : List (List ℕ)) → command_of w.words ≡ Some names → names ≡ no.names
-  same_names names is = same_Some names no.names (sym is ∙ no.command)
-
   not_refused : (at : At) → FilesSay w (Err at) → ⊥
   not_refused at say =
-      let contents : AreFilesOf w.content no.names say.files =
-      subst (λ (names : List (List ℕ)). AreFilesOf w.content names say.files) (same_names say.names say.command) say.contents in
-      let same : say.files ≡ no.files = same_files w.content no.names say.files no.files contents no.contents in
-      let spells : configuration_of no.files ≡ Err at = subst (λ (files : List (List ℕ)). configuration_of files ≡ Err at) same say.spells in
-      subst IsRefused (sym spells ∙ no.spells) tt
+      no.lawful at (subst (λ (files : List (List ℕ)). configuration_of files ≡ Err at) (same_files w.content say.names w.files say.files say.contents) say.spells)
 
-  no_long_file : HasLongFile w → ⊥
-  no_long_file long = not_long w.content no.names no.files no.contents long.name long.index
-      (subst (λ (names : List (List ℕ)). slice_get names long.index ≡ Some long.name) (same_names long.names long.command) long.named) long.long
+  not_long : (names : List (List ℕ)) (index : ℕ) → StopsAt w.content names w.files index (IsLong w.content) → ⊥
+  not_long names index s =
+      let fits = stopped w.content names w.files index (IsLong w.content) no.files s in
+      omega (arith, fits.1, s.stops.0)
 
-  input_fits : Told w.left IsTooLong → ⊥
-  input_fits long = no.fits (subst (λ (o : Option (List ℕ)). Told o IsTooLong) no.left long)
+  not_unread : (names : List (List ℕ)) (index : ℕ) → StopsAt w.content names w.files index IsUnread → ⊥
+  not_unread names index s = true≢false (sym s.stops ∙ (stopped w.content names w.files index IsUnread no.files s).0)
 
   complete_exit : (e : Exit) → Explains e w → (e ≡ Done) ⊎ (e ≡ OutOfMemory)
   complete_exit Done h = inl (λ i. Done)
   complete_exit OutOfMemory h = inr (λ i. OutOfMemory)
   complete_exit Usage h = absurd (none-some no.names (sym h.0 ∙ no.command))
   complete_exit (ConfigRefused at) h = absurd (not_refused at h.0)
-  complete_exit TooLong (inl long, none) = absurd (no_long_file long)
-  complete_exit TooLong (inr long, none) = absurd (input_fits long.1)
-  complete_exit ReadFault h = absurd (no.source_faults h.1)
-  complete_exit WriteFault h = absurd (no.sink_faults h.1)
-  complete_exit (FileFault index) h = absurd (no.file_faults h.0.2.rose)
+  complete_exit TooLong (inl long, none) = absurd (not_long long.0.0 long.0.2.0 long.0.2.1)
+  complete_exit TooLong (inr long, none) = absurd (no.fits long.1)
+  complete_exit ReadFault h = absurd (true≢false (sym h.1 ∙ no.read))
+  complete_exit WriteFault h = absurd (true≢false (sym (write_fails _ w.writes h.0.each) ∙ no.written))
+  complete_exit (FileFault index) h = absurd (not_unread h.0.0 index h.0.2)
 
 pub answers : (e : Exit) (w : World) → Explains e w → IsExitOf e w
 answers e w h = record { cause = h; complete = λ no. complete_exit w no e h }

@@ -2,3 +2,4 @@ pub mod Pieces
 pub mod Told
 pub mod Explaining
 mod Completing
+pub mod Histories

@@ -2,8 +2,8 @@
 use Rattle.std.proofs.Common.{◌≡◌, ℕ, ◌+◌, ◌<◌, List, [], ◌∷◌, ◌++◌, take, drop, length, Option, Some, None, get_or, refl, sym, ap, ◌∙◌, append_assoc, take-append-drop}
 use Rattle.std.specs.List.{concat}
 use Rattle.std.proofs.lemmas.List.{take_more, append-nil}
-use Rattle.rate_io.specs.Content.{Appends, AddsPiece, AppendsPart}
-use Rattle.ratelimit_cli.specs.Output.{AddsPieces, AppendsFront}
+use Rattle.rate_io.specs.Content.{Appends, AppendsPart}
+use Rattle.ratelimit_cli.specs.Output.{AppendsFront}
 
 pub appends_more : (a b c : Option (List ℕ)) (xs ys : List ℕ) → Appends a b xs → Appends b c ys → Appends a c (xs ++ ys)
 appends_more a b None xs ys p q = tt
@@ -11,19 +11,9 @@ appends_more a None (Some cs) xs ys p q = absurd q
 appends_more None (Some bs) (Some cs) xs ys p q = absurd p
 appends_more (Some old) (Some bs) (Some cs) xs ys p q = q ∙ ap (λ l. l ++ ys) p ∙ append_assoc old xs ys
 
-pub adds_more : (a b c : Option (List (List ℕ))) (ps : List (List ℕ)) (p : List ℕ) → AddsPieces a b ps → AddsPiece b c p → AddsPieces a c (ps ++ p ∷ [])
-adds_more a b None ps p x y = tt
-adds_more a None (Some cs) ps p x y = absurd y
-adds_more None (Some bs) (Some cs) ps p x y = absurd x
-adds_more (Some old) (Some bs) (Some cs) ps p x y = y ∙ ap (λ l. l ++ p ∷ []) x ∙ append_assoc old ps (p ∷ [])
-
 pub appends_none : (a : Option (List ℕ)) → Appends a a []
 appends_none None = tt
 appends_none (Some old) = sym (append-nil old)
-
-pub adds_none : (a : Option (List (List ℕ))) → AddsPieces a a []
-adds_none None = tt
-adds_none (Some old) = sym (append-nil old)
 
 pub concat_push : (ps : List (List ℕ)) (p : List ℕ) → concat (ps ++ p ∷ []) ≡ concat ps ++ p
 concat_push [] p = append-nil p

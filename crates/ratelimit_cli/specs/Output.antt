@@ -1,5 +1,5 @@
 -- What a run writes: one line a record, then one line a total, each with its line feed by one call.
-use Rattle.std.specs.Prelude.{◌≡◌, ℕ, List, [], ◌∷◌, ◌++◌, map, Option, None, Some, ⊤}
+use Rattle.std.specs.Prelude.{◌≡◌, ℕ, List, [], ◌∷◌, ◌++◌, map, Option}
 use Rattle.rate_io.specs.Content.{Appends}
 use Rattle.rls_core.specs.declared.totals.Total.{Total}
 use Rattle.reply_text.specs.declared.record.Record.{Record}
@@ -12,12 +12,6 @@ with_line_feed text = text ++ 10 ∷ []
 -- the lines of a run, in order
 abbrev pub lines_of : List Record → List Total → List (List ℕ)
 lines_of records totals = map (λ r. with_line_feed (record_text_of r)) records ++ map (λ t. with_line_feed (total_text_of t)) totals
-
--- the pieces of a sink grew by these
-abbrev pub AddsPieces : Option (List (List ℕ)) → Option (List (List ℕ)) → List (List ℕ) → Type 0
-AddsPieces old None pieces = ⊤
-AddsPieces None (Some new) pieces = ⊥
-AddsPieces (Some old) (Some new) pieces = new ≡ old ++ pieces
 
 -- its bytes grew by the first part of these bytes
 abbrev pub AppendsFront : Option (List ℕ) → Option (List ℕ) → List ℕ → Type 0

@@ -2,6 +2,7 @@
 ghost use Rattle.std.specs.Prelude.{◌≡◌, Ok, IfOk, IfErr};
 ghost use Rattle.ratelimit_cli.specs.Configs.{configuration_of, flat_or_first};
 ghost use Rattle.descriptor_tree.specs.Views.{config_view};
+ghost use Rattle.rate_io.specs.Events.{Grew};
 ghost use Rattle.ratelimit_cli.specs.Exits.{AreFilesOf};
 ghost use Rattle.ratelimit_cli.specs.Parts.{IsOfFiles, IsOfConfig};
 
@@ -18,9 +19,10 @@ use std::alloc::Global;
 
 /// The bytes of the files of these names, in order. The first that can't be read ends it.
 pub fn read_files<F: Files>(alloc: Global, files: &mut F, names: &[Word]) -> Result<Blobs, Exit>
-    ensures contents { IfOk result (λ b. AreFilesOf (F.content files.old) names.now b) }
-    ensures fault { IfErr result (IsOfFiles (F.content files.old) names.now
-        (F.calls files.old, F.calls files.new) (F.faults files.old, F.faults files.new)) }
+    ensures contents { IfOk result (λ b. Grew (F.history files.old) (F.history files.new)
+        (λ calls. AreFilesOf (F.content files.old) names.now calls b)) }
+    ensures fault { IfErr result (λ exit. Grew (F.history files.old) (F.history files.new)
+        (IsOfFiles (F.content files.old) names.now (F.faults files.old, F.faults files.new) exit)) }
 {
     let mut blobs = Vec::new(alloc);
     'names: for index in 0..names.len() {

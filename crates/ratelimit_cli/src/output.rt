@@ -4,7 +4,9 @@ ghost use Rattle.std.specs.List.{concat};
 ghost use Rattle.rate_io.specs.Causes.{HasCause};
 ghost use Rattle.rate_io.specs.Content.{Appends};
 ghost use Rattle.reply_text.specs.Texts.{record_text_of, total_text_of};
-ghost use Rattle.ratelimit_cli.specs.Output.{AddsPieces, AppendsFront, lines_of, with_line_feed};
+ghost use Rattle.rate_io.specs.Events.{Grew, wrote};
+ghost use Rattle.ratelimit_cli.specs.Exits.{WroteUpTo};
+ghost use Rattle.ratelimit_cli.specs.Output.{AppendsFront, lines_of, with_line_feed};
 
 use rate_io::{Failed, Sink};
 use rate_types::OutOfMemory;
@@ -49,7 +51,8 @@ pub fn all_lines(
 /// Writes each line by one call.
 pub fn write_lines<K: Sink>(sink: &mut K, lines: &[String]) -> Result<(), Failed>
     ensures bytes { OnOk result (Appends (K.written sink.old) (K.written sink.new) (concat (map (λ t. string_bytes t) lines.now))) }
-    ensures each { OnOk result (AddsPieces (K.pieces sink.old) (K.pieces sink.new) (map (λ t. string_bytes t) lines.now)) }
+    ensures each { OnOk result (K.history sink.new ≡ K.history sink.old ++ map wrote (map (λ t. string_bytes t) lines.now)) }
+    ensures up_to { OnErr result (Grew (K.history sink.old) (K.history sink.new) (WroteUpTo (map (λ t. string_bytes t) lines.now))) }
     ensures part { OnErr result (AppendsFront (K.written sink.old) (K.written sink.new) (concat (map (λ t. string_bytes t) lines.now))) }
     ensures cause { HasCause (K.faults sink.old) (K.faults sink.new) result }
 {

@@ -1,4 +1,4 @@
-ghost use Rattle.std.specs.Prelude.{◌≡◌};
+ghost use Rattle.rate_io.specs.Events.{Continues, Grew, since};
 ghost use Rattle.ratelimit_cli.specs.Exits.{Explains, IsExitOf, exit_of};
 ghost use Rattle.ratelimit_cli.specs.Parts.{IsOfOutput};
 
@@ -21,14 +21,11 @@ fn run_and_write<K: Sink>(
     script: Script,
     sink: &mut K,
 ) -> Result<(), Exit>
-    ensures { IsOfOutput config script (record {
+    ensures { Grew (K.history sink.old) (K.history sink.new) (IsOfOutput config script (record {
       written = K.written sink.old;
       after = K.written sink.new;
-      pieces = K.pieces sink.old;
-      more = K.pieces sink.new;
-      before_faults = K.faults sink.old;
-      after_faults = K.faults sink.new;
-    }) (exit_of result) }
+      faults = (K.faults sink.old, K.faults sink.new);
+    }) (exit_of result)) }
 {
     let Ok(driven) = drive_script(alloc, script, config, DEFAULT_CELLS, Seconds::capped(0)) else {
         return Err(Exit::OutOfMemory);
@@ -50,21 +47,23 @@ fn drive<F: Files, S: Source, K: Sink>(
     source: &mut S,
     sink: &mut K,
 ) -> Result<(), Exit>
-    ensures { Explains (exit_of result) (record {
+    ensures exit { Explains (exit_of result) (record {
       words = words.now;
-      content = F.content files.old;
-      left = S.left source.old;
-      rest = S.left source.new;
-      ended = S.ended source.new;
-      written = K.written sink.old;
-      after = K.written sink.new;
-      pieces = K.pieces sink.old;
-      more = K.pieces sink.new;
-      file_calls = (F.calls files.old, F.calls files.new);
+      files = since (F.history files.old) (F.history files.new);
+      reads = since (S.history source.old) (S.history source.new);
+      writes = since (K.history sink.old) (K.history sink.new);
       file_faults = (F.faults files.old, F.faults files.new);
       source_faults = (S.faults source.old, S.faults source.new);
       sink_faults = (K.faults sink.old, K.faults sink.new);
+      content = F.content files.old;
+      left = S.left source.old;
+      rest = S.left source.new;
+      written = K.written sink.old;
+      after = K.written sink.new;
     }) }
+    ensures files { Continues (F.history files.old) (F.history files.new) }
+    ensures source { Continues (S.history source.old) (S.history source.new) }
+    ensures sink { Continues (K.history sink.old) (K.history sink.new) }
 {
     let Some(names) = command_of(words.items()) else {
         return Err(Exit::Usage);
@@ -96,21 +95,23 @@ pub fn ratelimit<F: Files, S: Source, K: Sink>(
     source: &mut S,
     sink: &mut K,
 ) -> Exit
-    ensures { IsExitOf result (record {
+    ensures exit { IsExitOf result (record {
       words = words.now;
-      content = F.content files.old;
-      left = S.left source.old;
-      rest = S.left source.new;
-      ended = S.ended source.new;
-      written = K.written sink.old;
-      after = K.written sink.new;
-      pieces = K.pieces sink.old;
-      more = K.pieces sink.new;
-      file_calls = (F.calls files.old, F.calls files.new);
+      files = since (F.history files.old) (F.history files.new);
+      reads = since (S.history source.old) (S.history source.new);
+      writes = since (K.history sink.old) (K.history sink.new);
       file_faults = (F.faults files.old, F.faults files.new);
       source_faults = (S.faults source.old, S.faults source.new);
       sink_faults = (K.faults sink.old, K.faults sink.new);
+      content = F.content files.old;
+      left = S.left source.old;
+      rest = S.left source.new;
+      written = K.written sink.old;
+      after = K.written sink.new;
     }) }
+    ensures files { Continues (F.history files.old) (F.history files.new) }
+    ensures source { Continues (S.history source.old) (S.history source.new) }
+    ensures sink { Continues (K.history sink.old) (K.history sink.new) }
 {
     match drive(alloc, words, files, source, sink) {
         Ok(()) => Exit::Done,

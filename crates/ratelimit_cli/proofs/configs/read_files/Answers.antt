@@ -1,34 +1,82 @@
-use Rattle.std.proofs.Common.{◌≡◌, ◌<◌, ◌≤◌, ◌+◌, ◌++◌, ◌∷◌, [], Some, length, take, slice_get, sym, ap, ◌∙◌, arith, rules}
+use Rattle.std.proofs.Common.{◌≡◌, ◌<◌, ◌≤◌, ◌+◌, ◌++◌, ◌∷◌, [], ℕ, List, Some, length, take, slice_get, sym, ap, ◌∙◌, append_assoc, arith, rules}
 use Rattle.std.proofs.lemmas.List.{take_more}
 use Rattle.std.proofs.lemmas.Option.{slice_get_read}
 use Rattle.rate_types.specs.declared.limits.TheConstants.{MOST_BYTES}
 use Rattle.rate_io.specs.Content.{Told}
-use Rattle.ratelimit_cli.proofs.Told.{told_map, files_push, count_more}
+use Rattle.rate_io.specs.Events.{FileEvent, given}
+use Rattle.ratelimit_cli.proofs.Told.{told_map, files_push}
 use Rattle.ratelimit_cli.proofs.configs.read_files.Goals as goal
+
+-- one more call
+one_more : (old mid new calls : List FileEvent) (call : FileEvent) → mid ≡ old ++ calls → new ≡ mid ++ call ∷ [] → new ≡ old ++ (calls ++ call ∷ [])
+one_more old mid new calls call so_far is = is ∙ ap (λ l. l ++ call ∷ []) so_far ∙ append_assoc old calls (call ∷ [])
+
+pub returns-in-Err-Failed-clause-fault : goal.returns-in-Err-Failed-clause-fault
+returns-in-Err-Failed-clause-fault g c =
+    let inv = c.names.invariant in
+    let event = rw c.in-Err-Failed.field-0-is at c.in-Err-Failed.ensures.event in
+    let named : slice_get c.args.names.now c.names.index ≡ Some c.index-names-index.result =
+    slice_get_read c.args.names.now (length c.args.names.now) c.names.index c.index-names-index.result (λ i. length c.args.names.now) (omega arith) c.index-names-index.is in
+    record {
+      events = inv.read.events ++ (c.as_str.result.now, event.reads) ∷ [];
+      grew = one_more _ _ _ inv.read.events (c.as_str.result.now, event.reads) inv.read.grew event.grew;
+      are = (
+        record {
+          files = c.names.blobs.items;
+          earlier = inv.read.events;
+          read = inv.read.are;
+          name = c.as_str.result.now;
+          named = named ∙ ap Some (sym c.as_str.ensures);
+          reads = event.reads;
+          last = λ i. inv.read.events ++ (c.as_str.result.now, event.reads) ∷ [];
+          stops = event.are;
+        },
+        omega (arith, inv.later, c.in-Err-Failed.ensures.failed (search rules)),
+      );
+    }
 
 pub returns-in-Err-TooLong-clause-fault : goal.returns-in-Err-TooLong-clause-fault
 returns-in-Err-TooLong-clause-fault g c =
-    let long : Told (g.F.Files.content c.names.files c.index-names-index.result) (λ bytes. MOST_BYTES < length bytes) =
-    told_map (g.F.Files.content c.names.files c.index-names-index.result) (λ bytes. c.in-Err-TooLong.field-0-0 ≤ length bytes) (λ bytes. MOST_BYTES < length bytes)
-    (λ bytes h. omega (arith, h, c.in-Err-TooLong.ensures.too_long c.in-Err-TooLong.field-0-0 (search rules)))
-    (rw (← c.as_str.ensures) (c.in-Err-TooLong.ensures.longer c.in-Err-TooLong.field-0-0 (search rules))) in
+    let inv = c.names.invariant in
+    let event = rw c.in-Err-TooLong.field-0-is at c.in-Err-TooLong.ensures.event in
+    let long : Told (g.F.Files.content c.names.files c.as_str.result.now) (λ bytes. MOST_BYTES < length bytes) =
+    told_map (g.F.Files.content c.names.files c.as_str.result.now) (λ bytes. c.in-Err-TooLong.field-0-0 ≤ length bytes) (λ bytes. MOST_BYTES < length bytes)
+    (λ bytes h. omega (arith, h, event.are.1)) (c.in-Err-TooLong.ensures.longer c.in-Err-TooLong.field-0-0 (search rules)) in
     let named : slice_get c.args.names.now c.names.index ≡ Some c.index-names-index.result =
     slice_get_read c.args.names.now (length c.args.names.now) c.names.index c.index-names-index.result (λ i. length c.args.names.now) (omega arith) c.index-names-index.is in
-    record { name = c.index-names-index.result; index = c.names.index; named = named; long = rw (← c.names.invariant.same) long }
+    record {
+      events = inv.read.events ++ (c.as_str.result.now, event.reads) ∷ [];
+      grew = one_more _ _ _ inv.read.events (c.as_str.result.now, event.reads) inv.read.grew event.grew;
+      are = (c.names.index, record {
+        files = c.names.blobs.items;
+        earlier = inv.read.events;
+        read = inv.read.are;
+        name = c.as_str.result.now;
+        named = named ∙ ap Some (sym c.as_str.ensures);
+        reads = event.reads;
+        last = λ i. inv.read.events ++ (c.as_str.result.now, event.reads) ∷ [];
+        stops = (omega (arith, event.are.0, event.are.1), rw (← inv.same) long);
+      });
+    }
 
 pub names-preserved : goal.names-preserved
 names-preserved g c =
     let inv = c.names.invariant in
-    let taken : take (c.names.index + 1) c.args.names.now ≡ take c.names.index c.args.names.now ++ c.index-names-index.result ∷ [] =
-    take_more c.args.names.now c.names.index c.index-names-index.result (omega arith) ∙ ap (λ l. take c.names.index c.args.names.now ++ l ∷ []) (sym c.index-names-index.is) in
+    let event = c.in-Ok.ensures.event in
+    let taken : take (c.names.index + 1) c.args.names.now ≡ take c.names.index c.args.names.now ++ c.as_str.result.now ∷ [] =
+    take_more c.args.names.now c.names.index c.index-names-index.result (omega arith)
+    ∙ ap (λ l. take c.names.index c.args.names.now ++ l ∷ []) (sym c.index-names-index.is ∙ sym c.as_str.ensures) in
     let pushed : c.push.new.self.items ≡ c.names.blobs.items ++ c.of.result ∷ [] = search rules in
-    let told : Told (g.F.Files.content c.args.files.now c.index-names-index.result) (λ bytes. c.of.result ≡ bytes) =
-    rw (← inv.same, ← c.as_str.ensures, c.of.ensures) c.in-Ok.ensures.bytes in
+    let given_is : given event.reads ≡ c.of.result = event.are.0 ∙ sym c.of.ensures in
+    let told : Told (g.F.Files.content c.args.files.now c.as_str.result.now) (λ bytes. c.of.result ≡ bytes) =
+    rw (← inv.same, c.of.ensures) c.in-Ok.ensures.bytes in
     record {
       same = c.read.ensures.same ∙ inv.same;
       later = omega (arith, inv.later, c.read.ensures.later);
-      asked = count_more (g.F.Files.calls c.args.files.now) c.names.index (g.F.Files.calls c.names.files) (g.F.Files.calls c.read.new.self) inv.asked c.read.ensures.counts;
-      read = rw (taken, pushed)
-          (files_push (g.F.Files.content c.args.files.now) (take c.names.index c.args.names.now) c.names.blobs.items c.index-names-index.result c.of.result inv.read told
-          (rw c.of.ensures c.in-Ok.ensures.within));
+      read = record {
+        events = inv.read.events ++ (c.as_str.result.now, event.reads) ∷ [];
+        grew = one_more _ _ _ inv.read.events (c.as_str.result.now, event.reads) inv.read.grew event.grew;
+        are = rw (taken, pushed) (files_push (g.F.Files.content c.args.files.now) (take c.names.index c.args.names.now) inv.read.events c.names.blobs.items
+            c.as_str.result.now c.of.result event.reads inv.read.are (given_is, event.are.1, rw c.of.ensures event.are.2, told));
+      };
     }

@@ -1,7 +1,9 @@
-use Rattle.std.proofs.Common.{◌≡◌, ◌++◌, ◌∷◌, [], ℕ, ◌+◌, List, String, map, take, drop, string_bytes, sym, ap, ◌∙◌, arith}
+use Rattle.std.proofs.Common.{◌≡◌, ◌++◌, ◌∷◌, [], ℕ, ◌+◌, List, String, Some, map, option_map, take, drop, length, slice_get, string_bytes, sym, ap, ◌∙◌, append_assoc, arith}
 use Rattle.std.specs.declared.alloc.Global.{Global}
-use Rattle.std.proofs.lemmas.List.{take_more, map-append}
-use Rattle.ratelimit_cli.proofs.Pieces.{appends_more, adds_more, concat_push, front_of, cut_list}
+use Rattle.std.proofs.lemmas.List.{take_more, take-map, map-append}
+use Rattle.std.proofs.lemmas.Option.{slice_get-map, slice_get_read}
+use Rattle.rate_io.specs.Events.{Event, wrote, write_failed}
+use Rattle.ratelimit_cli.proofs.Pieces.{appends_more, concat_push, front_of, cut_list}
 use Rattle.ratelimit_cli.proofs.output.write_lines.Goals as goal
 
 abbrev texts_of : List (String Global) → List (List ℕ)
@@ -9,6 +11,12 @@ texts_of ts = map (λ t. string_bytes t) ts
 
 pushed : (ts : List (String Global)) (t : String Global) → texts_of (ts ++ t ∷ []) ≡ texts_of ts ++ string_bytes t ∷ []
 pushed ts t = map-append (λ (t : String Global). string_bytes t) ts (t ∷ [])
+
+-- one more piece was written
+one_more : (old mid new : List Event) (pieces : List (List ℕ)) (piece : List ℕ) → mid ≡ old ++ map wrote pieces → new ≡ mid ++ wrote piece ∷ []
+    → new ≡ old ++ map wrote (pieces ++ piece ∷ [])
+one_more old mid new pieces piece so_far is =
+    is ∙ ap (λ l. l ++ wrote piece ∷ []) so_far ∙ append_assoc old (map wrote pieces) (wrote piece ∷ []) ∙ ap (λ l. old ++ l) (sym (map-append wrote pieces (piece ∷ [])))
 
 pub lines-preserved : goal.lines-preserved
 lines-preserved g c =
@@ -20,8 +28,26 @@ lines-preserved g c =
     ∙ ap (λ b. texts_of (take c.lines.line-index c.args.lines.now) ++ b ∷ []) (sym c.as_bytes.ensures.value) in
     record {
       bytes = rw (list, concat_push) (appends_more _ _ _ _ _ inv.bytes c.in-Ok.ensures.bytes);
-      each = rw list (adds_more _ _ _ _ _ inv.each c.in-Ok.ensures.piece);
+      each = rw list (one_more _ _ _ _ _ inv.each c.in-Ok.ensures.event);
       later = omega (arith, inv.later, c.in-Ok.ensures.cause.later);
+    }
+
+pub returns-in_default-clause-up_to : goal.returns-in_default-clause-up_to
+returns-in_default-clause-up_to g c =
+    let inv = c.lines.invariant in
+    let item : slice_get c.args.lines.now c.lines.line-index ≡ Some c.line-item.result =
+    slice_get_read c.args.lines.now (length c.args.lines.now) c.lines.line-index c.line-item.result (λ i. length c.args.lines.now) (omega arith) c.line-item.is in
+    record {
+      events = map wrote (texts_of (take c.lines.line-index c.args.lines.now)) ++ write_failed c.as_bytes.result.now ∷ [];
+      grew = c.in_default.ensures.event ∙ ap (λ l. l ++ write_failed c.as_bytes.result.now ∷ []) inv.each
+          ∙ append_assoc (g.K.Sink.history c.args.sink.now) (map wrote (texts_of (take c.lines.line-index c.args.lines.now))) (write_failed c.as_bytes.result.now ∷ []);
+      are = record {
+        count = c.lines.line-index;
+        piece = c.as_bytes.result.now;
+        next = slice_get-map (λ (t : String Global). string_bytes t) c.args.lines.now c.lines.line-index ∙ ap (option_map (λ (t : String Global). string_bytes t)) item
+            ∙ ap Some (sym c.as_bytes.ensures.value);
+        each = ap (λ l. map wrote l ++ write_failed c.as_bytes.result.now ∷ []) (sym (take-map (λ (t : String Global). string_bytes t) c.lines.line-index c.args.lines.now));
+      };
     }
 
 pub returns-in_default-clause-part : goal.returns-in_default-clause-part

@@ -1,5 +1,5 @@
 use Rattle.ratelimit_cli.proofs.Completing.{answers}
 use Rattle.ratelimit_cli.proofs.top.ratelimit.Goals as goal
 
-pub returns-in-Err : goal.returns-in-Err
-returns-in-Err g c = answers c.in-Err.exit _ c.in-Err.ensures
+pub returns-in-Err-clause-exit : goal.returns-in-Err-clause-exit
+returns-in-Err-clause-exit g c = answers c.in-Err.exit _ c.in-Err.ensures.exit
