@@ -4,3 +4,4 @@ pub mod Ledgers
 pub mod Bounds
 pub mod Nexts
 pub mod Running
+pub mod Admits

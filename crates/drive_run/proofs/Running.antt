@@ -24,6 +24,7 @@ use Rattle.drive_run.specs.Totals.{tick_of, moment_after, charges_shown, ledger_
 use Rattle.drive_run.specs.Refusals.{counters_bound, is_bound, HasRefusalCause}
 use Rattle.drive_run.specs.Run.{EachLine, IsOfKind, IsByRule, IsInTurn, IsRecordOf, IsRun}
 use Rattle.drive_run.specs.Steps.{IsAnswered, IsRefused, Outcomes, Steps}
+use Rattle.drive_run.proofs.Admits.{limit_holds}
 use Rattle.drive_run.proofs.Ledgers.{Reaches, all_map}
 use Rattle.drive_run.proofs.Bounds.{ledger_push, AgreesWith, charged_here, room_by, lacks_by, agrees_still, agrees_later, agrees_charged}
 use Rattle.drive_run.proofs.Nexts.{lawful_next, charges_next, sequential_by}
@@ -174,6 +175,7 @@ module _ (start : ℕ) (ls : List Line) (rs : List Record) (old : PlainState) (r
         one_record_per_line = each_push (λ before earlier l r. IsRecordOf start before l r) ls rs l r runs.run.as_many runs.run.one_record_per_line rec;
         replies_by_rule = each_push (λ before earlier l r. IsByRule old.config l r.moment r.outcome) ls rs l r runs.run.as_many runs.run.replies_by_rule b.rule;
         charges_form_ledger = b.lawful.0;
+        limits_hold = λ c limit. limit_holds c limit (ledger_of (ls ++ l ∷ []) (rs ++ r ∷ [])) b.lawful.0;
         refusals_have_causes =
             each_push (λ before earlier l r. HasRefusalCause old.config old.cells before earlier l r.moment r.outcome) ls rs l r runs.run.as_many runs.run.refusals_have_causes
             b.cause;

@@ -1,7 +1,8 @@
 -- The run of a script by one worker, as a relation between its lines and its records.
-use Rattle.std.specs.Prelude.{◌≡◌, ℕ, ◌+◌, List, [], ◌∷◌, ◌++◌, length, take, false, slice_get, Some, ⊤}
+use Rattle.std.specs.Prelude.{◌≡◌, ℕ, ◌+◌, ◌≤◌, List, [], ◌∷◌, ◌++◌, length, take, false, slice_get, Some, ⊤}
 use Rattle.rate_types.specs.Counters.{same_counter}
-use Rattle.rate_types.specs.Ledger.{IsLawfulLedger}
+use Rattle.rate_types.specs.Ledger.{IsLawfulLedger, admitted_in}
+use Rattle.rate_types.specs.declared.counter_key.CounterKey.{CounterKey}
 use Rattle.rule_lookup.specs.declared.flat.FlatConfig.{FlatConfig}
 use Rattle.rls_core.specs.Reply.{IsReplyOf}
 use Rattle.rls_core.specs.Sequential.{AreSequential, HasRoom}
@@ -52,5 +53,6 @@ pub record IsRun (config : List FlatConfig) (cells start : ℕ) (lines : List Li
   pub one_record_per_line : EachLine lines records (λ before earlier l r. IsRecordOf start before l r)
   pub replies_by_rule : EachLine lines records (λ before earlier l r. IsByRule config l r.moment r.outcome)
   pub charges_form_ledger : IsLawfulLedger same_counter (ledger_of lines records)
+  pub limits_hold : (c : CounterKey) (limit : ℕ) → admitted_in same_counter c limit (ledger_of lines records) ≤ limit
   pub refusals_have_causes : EachLine lines records (λ before earlier l r. HasRefusalCause config cells before earlier l r.moment r.outcome)
   pub sequential_with_one_worker : EachLine lines records (λ before earlier l r. IsInTurn config cells before earlier l r.moment r.outcome)

@@ -1,6 +1,6 @@
 -- The ledger: which hits were charged on which counter, and what was seen of a counter.
 -- Any type can name counters; `same` says which two names are one counter.
-use Rattle.std.specs.Prelude.{◌≡◌, ℕ, ◌≤◌, ◌&&◌, ◌==◌, List, Bool, nat_lt, sum_by, count_by, if◌then◌else◌}
+use Rattle.std.specs.Prelude.{◌≡◌, ℕ, ◌+◌, ◌≤◌, ◌&&◌, ◌==◌, List, Bool, nat_lt, nat_le, sum_by, count_by, if◌then◌else◌}
 use Rattle.std.specs.List.{AllByRecursion}
 
 -- hits added to a counter on which `before` had been charged
@@ -20,6 +20,11 @@ charged_below same c bound ledger = sum_by (λ x. if same x.counter c && nat_lt 
 -- how many charges on it had exactly this before them
 abbrev pub charges_at : {C : Type 0} → (C → C → Bool) → C → ℕ → List (Charge C) → ℕ
 charges_at same c before ledger = count_by (λ x. same x.counter c && (x.before == before)) ledger
+
+-- The hits of those charges on it that end within a limit. A charge that a rule admits ends within the rule's limit, so
+-- these are at least the hits that rules with a limit of at most this admit.
+abbrev pub admitted_in : {C : Type 0} → (C → C → Bool) → C → ℕ → List (Charge C) → ℕ
+admitted_in same c limit ledger = sum_by (λ x. if same x.counter c && nat_le (x.before + x.hits) limit then x.hits else 0) ledger
 
 -- Each charge has hits, and before it stand exactly the hits of the charges with less before them; no two charges
 -- of one counter have the same before them. The order of the list doesn't matter.

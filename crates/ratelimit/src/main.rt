@@ -1,6 +1,10 @@
 //! The program: the real files, input and output, the text of the exit on standard error, and the exit status.
 #![tactic(auto)]
 
+ghost use Rattle.std.specs.Prelude.{◌≡◌};
+ghost use Rattle.std.specs.Process.{exit_status};
+ghost use Rattle.ratelimit_cli.specs.Reports.{status_of};
+
 use rate_io::{HostFiles, ReaderSource, WriterSink};
 use rate_types::{Names, Word};
 use ratelimit_cli::{Exit, ratelimit};
@@ -14,39 +18,6 @@ fn words_of(rt: &HostRuntime, alloc: Global) -> io::Result<Names> {
         words.push(Word::of(word))?;
     }
     Ok(Names::of(words))
-}
-
-// Writes the text of an exit to standard error.
-fn write_text(rt: &HostRuntime, exit: &Exit) -> io::Result<()> {
-    match exit {
-        Exit::Done => {}
-        Exit::Usage => eprintln!(rt; "ratelimit: usage")?,
-        Exit::ConfigRefused(at) => {
-            let file = at.file;
-            let number = at.refused.number;
-            let place = at.refused.at.as_str();
-            eprintln!(rt; "ratelimit: config {file}: refused {number} at {place}")?;
-        }
-        Exit::TooLong => eprintln!(rt; "ratelimit: input too long")?,
-        Exit::ReadFault => eprintln!(rt; "ratelimit: read failed")?,
-        Exit::WriteFault => eprintln!(rt; "ratelimit: write failed")?,
-        Exit::FileFault(index) => eprintln!(rt; "ratelimit: file {index}: read failed")?,
-        Exit::OutOfMemory => eprintln!(rt; "ratelimit: out of memory")?,
-    }
-    Ok(())
-}
-
-fn status_of(exit: &Exit) -> u8 {
-    match exit {
-        Exit::Done => 0,
-        Exit::Usage => 1,
-        Exit::ConfigRefused(_) => 2,
-        Exit::TooLong => 3,
-        Exit::ReadFault => 4,
-        Exit::WriteFault => 5,
-        Exit::FileFault(_) => 6,
-        Exit::OutOfMemory => 7,
-    }
 }
 
 // Does the command of the words over the real files, input and output.
@@ -66,12 +37,26 @@ fn exit_before(error: io::Error) -> Exit {
     }
 }
 
+// Writes the text of an exit to standard error.
+fn write_text(rt: &HostRuntime, exit: &Exit) -> io::Result<()> {
+    match exit.text(rt.alloc()) {
+        Ok(Some(text)) => eprintln!(rt; "{text}"),
+        Ok(None) => Ok(()),
+        Err(_) => eprintln!(rt; "ratelimit: out of memory"),
+    }
+}
+
+// Ends with an exit: its text on standard error, and its status, which stands whether or not the text can be written.
+fn end(rt: &HostRuntime, exit: &Exit) -> ExitCode
+    ensures { exit_status result ≡ status_of exit.now }
+{
+    let _written = write_text(rt, exit);
+    ExitCode::from(exit.status())
+}
+
 fn main(rt: HostRuntime) -> ExitCode {
-    let exit = match run(&rt, rt.alloc()) {
-        Ok(exit) => exit,
-        Err(error) => exit_before(error),
-    };
-    // The status stands whether or not its text can be written.
-    let _written = write_text(&rt, &exit);
-    ExitCode::from(status_of(&exit))
+    match run(&rt, rt.alloc()) {
+        Ok(exit) => end(&rt, &exit),
+        Err(error) => end(&rt, &exit_before(error)),
+    }
 }

@@ -3,3 +3,4 @@ pub mod Words
 pub mod Configs
 pub mod Exits
 pub mod Parts
+pub mod Reports

@@ -1,3 +1,6 @@
+ghost use Rattle.std.specs.Prelude.{◌≡◌};
+ghost use Rattle.ratelimit_cli.specs.Reports as reports;
+
 use rate_types::At;
 
 /// How the program ended.
@@ -19,4 +22,22 @@ pub enum Exit {
     FileFault(u64),
     /// There was no memory, and nothing was written.
     OutOfMemory,
+}
+
+impl Exit {
+    /// The exit status of the program.
+    pub fn status(&self) -> u8
+        ensures { result ≡ reports.status_of self.now }
+    {
+        match self {
+            Exit::Done => 0,
+            Exit::Usage => 1,
+            Exit::ConfigRefused(_) => 2,
+            Exit::TooLong => 3,
+            Exit::ReadFault => 4,
+            Exit::WriteFault => 5,
+            Exit::FileFault(_) => 6,
+            Exit::OutOfMemory => 7,
+        }
+    }
 }

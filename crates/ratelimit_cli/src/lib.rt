@@ -8,6 +8,7 @@ mod configs;
 mod exit;
 mod input;
 mod output;
+mod report;
 mod top;
 mod words;
 

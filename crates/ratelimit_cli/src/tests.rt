@@ -1,5 +1,6 @@
 mod limits;
 mod lines;
+mod reports;
 
 use crate::configs::configuration;
 use crate::output::all_lines;

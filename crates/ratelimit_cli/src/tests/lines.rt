@@ -9,6 +9,10 @@ const BAD_JSON: &str =
 const NOT_BUILT: &str =
     "done\n{\"line\":1,\"moment\":0,\"refused\":{\"at\":\"\",\"number\":9},\"version\":0,\"worker\":0}\n";
 
+// The record of a check that no rule limits.
+const WITHOUT_RULE: &str =
+    "done\n{\"counts\":[null],\"line\":1,\"moment\":0,\"reply\":{\"overallCode\":\"OK\",\"statuses\":[{\"code\":\"OK\"}]},\"version\":0,\"worker\":0}\n";
+
 #[test]
 fn lines_are_refused_by_number(rt: HostRuntime) -> Result<(), Fail> {
     let rows = [
@@ -90,5 +94,18 @@ fn a_text_has_at_most_1024_bytes(rt: HostRuntime) -> Result<(), Fail> {
     let longer = check_of_length(alloc, 1025)?;
     let answer = said(alloc, &["drive", "a"], &[A], longer.as_str(), NONE)?;
     assert_eq!(rt; answer.as_str(), NOT_BUILT);
+    Ok(())
+}
+
+#[test]
+fn a_check_without_a_rule_is_answered(rt: HostRuntime) -> Result<(), Fail> {
+    let unknown_domain =
+        r#"{"check":{"domain":"x","descriptors":[{"entries":[{"key":"k","value":"a"}]}]}}"#;
+    let unknown_key =
+        r#"{"check":{"domain":"d","descriptors":[{"entries":[{"key":"x","value":"a"}]}]}}"#;
+    for line in [unknown_domain, unknown_key] {
+        let found = said(rt.alloc(), &["drive", "a"], &[A], line, NONE)?;
+        assert_eq!(rt; found.as_str(), WITHOUT_RULE, "at {line}");
+    }
     Ok(())
 }

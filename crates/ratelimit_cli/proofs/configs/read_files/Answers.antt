@@ -47,16 +47,19 @@ returns-in-Err-TooLong-clause-fault g c =
     record {
       events = inv.read.events ++ (c.as_str.result.now, event.reads) ∷ [];
       grew = one_more _ _ _ inv.read.events (c.as_str.result.now, event.reads) inv.read.grew event.grew;
-      are = (c.names.index, record {
-        files = c.names.blobs.items;
-        earlier = inv.read.events;
-        read = inv.read.are;
-        name = c.as_str.result.now;
-        named = named ∙ ap Some (sym c.as_str.ensures);
-        reads = event.reads;
-        last = λ i. inv.read.events ++ (c.as_str.result.now, event.reads) ∷ [];
-        stops = (omega (arith, event.are.0, event.are.1), rw (← inv.same) long);
-      });
+      are = (
+        c.names.index,
+        record {
+          files = c.names.blobs.items;
+          earlier = inv.read.events;
+          read = inv.read.are;
+          name = c.as_str.result.now;
+          named = named ∙ ap Some (sym c.as_str.ensures);
+          reads = event.reads;
+          last = λ i. inv.read.events ++ (c.as_str.result.now, event.reads) ∷ [];
+          stops = (omega (arith, event.are.0, event.are.1), rw (← inv.same) long);
+        },
+      );
     }
 
 pub names-preserved : goal.names-preserved

@@ -12,6 +12,6 @@ returns-in-Err-TooLong-clause-fault g c =
       are = (
         inl (omega (arith, reads.are.0, reads.are.1)),
         told_map (g.S.Source.left c.args.source.now) (λ bytes. c.in-Err-TooLong.field-0-0 ≤ length bytes) IsTooLong
-        (λ bytes h. inl (omega (arith, h, reads.are.1))) (c.in-Err-TooLong.ensures.longer c.in-Err-TooLong.field-0-0 (search rules)),
+            (λ bytes h. inl (omega (arith, h, reads.are.1))) (c.in-Err-TooLong.ensures.longer c.in-Err-TooLong.field-0-0 (search rules)),
       );
     }
