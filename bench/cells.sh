@@ -1,19 +1,11 @@
-#!/bin/bash
+#!/usr/bin/env bash
 # Nanoseconds of one pin, look, charge and unpin of counter_cells, from 1, 2 and 4 threads on 1 and on 64 cells, beside
 # the three atomic additions that these make, in a bare loop of C with as many threads.
 # Run it at the top of the repository: bench/cells.sh [ROUNDS of each thread, 2000000 unless given]
-# It builds a small program in a folder of its own, which takes some minutes, since only proved code is built.
 set -e
+. "$(dirname "$0")/lib.sh"
 rounds=${1:-2000000}
-top=$(cd "$(dirname "$0")/.." && pwd)
-work=$(mktemp -d)
-trap 'rm -rf "$work"' EXIT
-mkdir -p "$work/crates/cells_bench/src"
-for crate in rate_types counter_cells; do
-    mkdir -p "$work/crates/$crate"
-    cp -r "$top/crates/$crate/src" "$top/crates/$crate/specs" "$top/crates/$crate/proofs" "$work/crates/$crate/"
-done
-printf 'rate_types:\ncounter_cells: rate_types atomic_table\ncells_bench: rate_types counter_cells\n' > "$work/crates.txt"
+bench_program cells_bench rate_types counter_cells
 
 cat > "$work/crates/cells_bench/src/main.rt" <<'RT'
 //! Times pins, looks, charges and unpins.
@@ -177,7 +169,7 @@ int main(int argc, char **argv) {
 C
 clang -O2 -pthread -o "$work/bare" "$work/bare.c"
 "$work/bare" "$rounds" > "$work/bare.txt"
-(cd "$work/crates/cells_bench" && rt run > "$work/run.txt" 2> "$work/run.err") || { tail -n 20 "$work/run.txt" "$work/run.err"; exit 1; }
+run_program cells_bench > "$work/run.txt"
 grep -E '^[0-9]+ [0-9]+ [0-9]+$' "$work/run.txt" > "$work/cells.txt"
 echo "threads cells  ns/round  bare ns/round  ratio"
 paste -d ' ' "$work/cells.txt" "$work/bare.txt" | awk -v n="$rounds" '{ printf "%7d %5d %9.1f %14.1f %6.2f\n", $1, $2, $3 / n, $6 / n, $3 / $6 }'

@@ -1,24 +1,10 @@
-#!/bin/bash
+#!/usr/bin/env bash
 # Microseconds that read_config takes over one file of flat nodes with a limit each, beside serde_json's own parse of the
 # same bytes, from 1,024 to 65,536 nodes: the least of nine tries of each, and the ratio of the two.
 # Run it at the top of the repository: bench/config.sh
-# It builds a small program in a folder of its own, which takes some minutes, since only proved code is built.
 set -e
-top=$(cd "$(dirname "$0")/.." && pwd)
-work=$(mktemp -d)
-trap 'rm -rf "$work"' EXIT
-mkdir -p "$work/crates/config_bench/src"
-for crate in rate_types proto_json descriptor_tree config_json; do
-    mkdir -p "$work/crates/$crate"
-    cp -r "$top/crates/$crate/src" "$top/crates/$crate/specs" "$top/crates/$crate/proofs" "$work/crates/$crate/"
-done
-cat > "$work/crates.txt" <<'TXT'
-rate_types:
-proto_json: rate_types serde_json
-descriptor_tree: rate_types
-config_json: rate_types proto_json descriptor_tree serde_json
-config_bench: rate_types proto_json descriptor_tree config_json
-TXT
+. "$(dirname "$0")/lib.sh"
+bench_program config_bench rate_types proto_json descriptor_tree config_json anyhow
 cat > "$work/crates/config_bench/src/main.rt" <<'RT'
 //! Times the reading of configuration files.
 #![tactic(auto)]
@@ -88,8 +74,6 @@ fn main(rt: HostRuntime) -> anyhow::Result<()> {
     Ok(())
 }
 RT
-sed -i 's/^config_bench:.*/& anyhow/' "$work/crates.txt"
-cd "$work/crates/config_bench"
-rt run > "$work/out" 2> "$work/log" || { tail -n 20 "$work/log"; exit 1; }
+run_program config_bench > "$work/out"
 printf '%8s %12s %12s %8s %14s\n' nodes parse_us read_us ratio read_ns_a_node
 awk 'NF == 3 { printf "%8d %12d %12d %8.2f %14.1f\n", $1, $2, $3, $3 / $2, 1000 * $3 / $1 }' "$work/out"

@@ -1,27 +1,12 @@
-#!/bin/bash
+#!/usr/bin/env bash
 # Nanoseconds a name that counter_directory takes to bind new names, one a call, to 1,024 up to 1,048,576 cells: at first
 # to cells that were never taken, and, when their windows have ended, to the same cells again, each the least of three
 # tries. The third column is of 1,048,576 names in as many windows as that takes, so that as many claims are made whatever
 # the number of cells. The last line has the ratio of the largest to the smallest of each column.
 # Run it at the top of the repository: bench/directory.sh
-# It builds a small program in a folder of its own, which takes some minutes, since only proved code is built.
 set -e
-top=$(cd "$(dirname "$0")/.." && pwd)
-work=$(mktemp -d)
-trap 'rm -rf "$work"' EXIT
-for crate in rate_types window_keys told_list counter_cells counter_directory; do
-    mkdir -p "$work/crates/$crate"
-    cp -r "$top/crates/$crate/src" "$top/crates/$crate/specs" "$top/crates/$crate/proofs" "$work/crates/$crate/"
-done
-cp "$top/HANDLES" "$work/"
-cat > "$work/crates.txt" <<'TXT'
-rate_types:
-window_keys: rate_types arrayvec
-told_list: rate_types atomic_table
-counter_cells: rate_types atomic_table
-counter_directory: rate_types window_keys atomic_table told_list counter_cells arrayvec thiserror
-directory_bench: rate_types told_list counter_cells counter_directory arrayvec
-TXT
+. "$(dirname "$0")/lib.sh"
+bench_program directory_bench rate_types told_list counter_cells counter_directory arrayvec
 bench="$work/crates/directory_bench"
 mkdir -p "$bench/src" "$bench/proofs/unpin_all" "$bench/proofs/take_each" "$bench/proofs/fill" "$bench/proofs/fill_often" \
     "$bench/proofs/one_try" "$bench/proofs/turns_of"
@@ -300,7 +285,7 @@ abbrev pub ghosts-both : goal.ghosts-both
 ghosts-both g a = record { table = table_of a.opened; setup = setup_of a.opened }
 PF
 sed 's/one_try/turns_of/; s/ghosts-both/ghosts-in_turns/g' "$bench/proofs/one_try/Invariants.antt" > "$bench/proofs/turns_of/Invariants.antt"
-(cd "$bench" && rt run > "$work/run.txt" 2> "$work/run.err") || { tail -n 20 "$work/run.txt" "$work/run.err"; exit 1; }
+run_program directory_bench > "$work/run.txt"
 grep -E '^[0-9]+ [0-9]+ [0-9]+ [0-9]+$' "$work/run.txt" | awk '
 BEGIN { print "    cells  new ns/name  again ns/name  in turns ns/name" }
 {

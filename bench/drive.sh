@@ -9,7 +9,7 @@
 # is the whole time that passes. Lines per second are counted by each of the two. Other work on the machine changes `wall`
 # far more than `cpu`, so `ratio` is taken from `cpu`: how many times the row's lines per second are those of `ratelimit`.
 set -u
-top=$(cd "$(dirname "${BASH_SOURCE[0]}")/.." && pwd)
+. "$(dirname "${BASH_SOURCE[0]}")/lib.sh"
 lines=${1:-20000}
 program=${2:-$top/crates/ratelimit/out/ratelimit}
 if [ ! -x "$program" ]; then
@@ -17,8 +17,6 @@ if [ ! -x "$program" ]; then
     exit 1
 fi
 
-work=$(mktemp -d) || exit 1
-trap 'rm -rf "$work"' EXIT
 config=$work/config.json
 out=$work/out
 # The form of the times that the word `time` prints: passed, in the program and in the system.

@@ -1,4 +1,4 @@
-#!/bin/bash
+#!/usr/bin/env bash
 # Nanoseconds of one call on quota buckets, with 100, 1,000, 10,000 and 100,000 buckets of one stream, and how many times
 # those with 100 buckets that is. Each number is the mean over so many calls or reports.
 #   find     the name of a request's bucket
@@ -9,21 +9,10 @@
 #   all due  advance to a moment up to which each bucket reports once, for each report
 # Names come in an order that is scattered over the buckets. Each bucket allows 100 requests a second.
 # Run it at the top of the repository: bench/quota.sh [CALLS of each kind, 1000000 unless given; a multiple of 100000]
-# It builds a small program in a folder of its own, which takes some minutes, since only proved code is built.
 set -e
+. "$(dirname "$0")/lib.sh"
 calls=${1:-1000000}
-top=$(cd "$(dirname "$0")/.." && pwd)
-work=$(mktemp -d)
-trap 'rm -rf "$work"' EXIT
-mkdir -p "$work/crates/quota_bench/src"
-for crate in rate_types proto_json agenda quota_bucket quota_settings quota_settings_json quota_buckets; do
-    mkdir -p "$work/crates/$crate"
-    for part in src specs proofs; do
-        if [ -d "$top/crates/$crate/$part" ]; then cp -r "$top/crates/$crate/$part" "$work/crates/$crate/"; fi
-    done
-    grep "^$crate:" "$top/crates.txt" >> "$work/crates.txt"
-done
-echo 'quota_bench: rate_types quota_settings_json quota_buckets' >> "$work/crates.txt"
+bench_program quota_bench rate_types quota_settings_json quota_buckets
 
 cat > "$work/crates/quota_bench/src/main.rt" <<'RT'
 //! Times decisions and reports of quota buckets.
@@ -389,7 +378,7 @@ fn main(rt: HostRuntime) -> std::io::Result<()> {
 }
 RT
 sed -i "s/CALLSu64/${calls}u64/g" "$work/crates/quota_bench/src/main.rt"
-(cd "$work/crates/quota_bench" && rt run > "$work/run.txt" 2> "$work/run.err") || { tail -n 20 "$work/run.txt"; tail -n 20 "$work/run.err"; exit 1; }
+run_program quota_bench > "$work/run.txt"
 grep -E '^[0-9]+( [0-9]+){6}$' "$work/run.txt" > "$work/quota.txt" || { cat "$work/run.txt"; exit 1; }
 # A row that counted another number of answers than of calls has 0 there.
 awk -v n="$calls" '

@@ -1,4 +1,4 @@
--- Inside: lawful cells: what holds of the words and of all views between any two steps, in seven parts.
+-- Lawful cells: what holds of the words and of all views between any two steps, in seven parts.
 use Rattle.std.specs.Prelude.{◌≡◌, ℕ, ◌+◌, ◌*◌, ◌≤◌, ◌<◌, ◌⊎◌, ◌==◌, nat_lt, true, false, IfSome, List, [], length}
 use Rattle.std.specs.Prelude.{if◌then◌else◌}
 use Rattle.std.specs.List.{AllByRecursion}
