@@ -14,7 +14,8 @@ to_parts (wrote piece) = (3, piece)
 to_parts (write_failed piece) = (4, piece)
 
 abbrev from_parts : Parts → Event
-from_parts p = cond (p.0 == 0) (gave p.1) (cond (p.0 == 1) ended (cond (p.0 == 2) read_failed (cond (p.0 == 3) (wrote p.1) (write_failed p.1))))
+from_parts p =
+    cond (p.0 == 0) (gave p.1) (cond (p.0 == 1) ended (cond (p.0 == 2) read_failed (cond (p.0 == 3) (wrote p.1) (write_failed p.1))))
 
 pub from_parts-to_parts : (e : Event) → from_parts (to_parts e) ≡ e
 from_parts-to_parts (gave bytes) = refl

@@ -35,7 +35,8 @@ pub entries_alike : Alike same_entries entries_writes
 entries_alike = items_Alike entry_alike
 
 pub name_alike : Alike same_name name_writes
-name_alike = and-Alike (on_Alike (λ n. n.domain) text_alike) (and-Alike (on_Alike (λ n. n.entries) entries_alike) (on_Alike (λ n. unit_rank n.unit) (same_Alike written.u8 unsigned_Decides)))
+name_alike = and-Alike (on_Alike (λ n. n.domain) text_alike)
+    (and-Alike (on_Alike (λ n. n.entries) entries_alike) (on_Alike (λ n. unit_rank n.unit) (same_Alike written.u8 unsigned_Decides)))
 
 pub key_alike : Alike same_counter key_writes
 key_alike = and-Alike (on_Alike (λ k. k.name) name_alike) (on_Alike (λ k. k.start) (same_Alike written.u64 unsigned_Decides))

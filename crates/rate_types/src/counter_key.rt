@@ -61,7 +61,9 @@ impl Ord for CounterKey {
 impl PartialOrd for CounterKey {
     ghost partial_cmp = { as_partial_cmp key_cmp };
 
-    ghost laws = { partial_order_from_own_ties (Prim.search (comparing, name_ties, rules) depth 20) (Prim.search (comparing, name_ties, rules) depth 20) };
+    ghost laws = { partial_order_from_own_ties
+        (Prim.search (comparing, name_ties, rules) depth 20)
+        (Prim.search (comparing, name_ties, rules) depth 20) };
 
     fn partial_cmp(&self, other: &CounterKey) -> Option<Ordering> {
         Some(self.cmp(other))

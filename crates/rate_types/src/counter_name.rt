@@ -64,7 +64,9 @@ impl Ord for CounterName {
 impl PartialOrd for CounterName {
     ghost partial_cmp = { as_partial_cmp name_cmp };
 
-    ghost laws = { partial_order_from_own_ties (Prim.search (comparing, entries_ties, rules) depth 20) (Prim.search (comparing, entries_ties, rules) depth 20) };
+    ghost laws = { partial_order_from_own_ties
+        (Prim.search (comparing, entries_ties, rules) depth 20)
+        (Prim.search (comparing, entries_ties, rules) depth 20) };
 
     fn partial_cmp(&self, other: &CounterName) -> Option<Ordering> {
         Some(self.cmp(other))

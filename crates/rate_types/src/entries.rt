@@ -63,7 +63,9 @@ impl Ord for Entry {
 impl PartialOrd for Entry {
     ghost partial_cmp = { as_partial_cmp entry_cmp };
 
-    ghost laws = { partial_order_from_own_ties (Prim.search (comparing, lists_ties, rules) depth 20) (Prim.search (comparing, lists_ties, rules) depth 20) };
+    ghost laws = { partial_order_from_own_ties
+        (Prim.search (comparing, lists_ties, rules) depth 20)
+        (Prim.search (comparing, lists_ties, rules) depth 20) };
 
     fn partial_cmp(&self, other: &Entry) -> Option<Ordering> {
         Some(self.cmp(other))
@@ -180,7 +182,9 @@ impl Ord for Entries {
 impl PartialOrd for Entries {
     ghost partial_cmp = { as_partial_cmp entries_cmp };
 
-    ghost laws = { partial_order_from_own_ties (Prim.search (comparing, lists_ties, rules) depth 20) (Prim.search (comparing, lists_ties, rules) depth 20) };
+    ghost laws = { partial_order_from_own_ties
+        (Prim.search (comparing, lists_ties, rules) depth 20)
+        (Prim.search (comparing, lists_ties, rules) depth 20) };
 
     fn partial_cmp(&self, other: &Entries) -> Option<Ordering> {
         Some(self.cmp(other))

@@ -54,7 +54,8 @@ impl Model for Request {
 
     ghost view = { λ r. record { domain = r.domain; descriptors = r.descriptors.items; hits = r.hits } };
 
-    ghost invariant = { λ r. request_of r.domain r.descriptors.items r.hits ≡ Ok (record { domain = r.domain; descriptors = r.descriptors.items; hits = r.hits }) };
+    ghost invariant = { λ r. request_of r.domain r.descriptors.items r.hits
+        ≡ Ok (record { domain = r.domain; descriptors = r.descriptors.items; hits = r.hits }) };
 }
 
 impl Request {

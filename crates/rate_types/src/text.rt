@@ -47,7 +47,8 @@ impl Text {
     /// A copy of a text of at most 1,024 bytes.
     pub fn new(alloc: Global, text: &str) -> Result<Text, TextFault>
         ensures same { IfOk result (λ t. t ≡ text.now) }
-        ensures too_long { (len : ℕ) → (result ≡ Err (TextFault.TooLong len)) ↔ ((LONGEST_TEXT < length text.now) × (len ≡ length text.now)) }
+        ensures too_long { (len : ℕ) → (result ≡ Err (TextFault.TooLong len))
+            ↔ ((LONGEST_TEXT < length text.now) × (len ≡ length text.now)) }
     {
         if text.len() > LONGEST_TEXT {
             return Err(TextFault::TooLong {
