@@ -8,13 +8,13 @@ use Rattle.counter_directory.proofs.directory.Directory.acquire.Goals as goal
 pub returns-clause-turn : goal.returns-clause-turn
 returns-clause-turn g c =
     let t = c.with.ensures.turn in
-    let office = c.args.self.now in
+    let state = c.args.self.now in
     let cells = g.N.CellNaming.setup.cells in
-    let claims : t.0.pool.most ≡ office.claims_max = t.4 ∙ ap (λ (o : DirectoryView). o.claims_max) c.self.view_is in
-    let left : t.1.pool.most ≡ office.claims_max = t.5 ∙ ap (λ (o : DirectoryView). o.claims_max) c.self.view_is in
-    let passes : c.self.inside.passes ≡ office.passes = c.self.invariant.0 ∙ ap (λ (o : DirectoryView). o.passes) c.self.view_is in
+    let claims : t.0.pool.most ≡ state.claims_max = t.4 ∙ ap (λ (o : DirectoryView). o.claims_max) c.self.view_is in
+    let left : t.1.pool.most ≡ state.claims_max = t.5 ∙ ap (λ (o : DirectoryView). o.claims_max) c.self.view_is in
+    let passes : c.self.inside.passes ≡ state.passes = c.self.invariant.0 ∙ ap (λ (o : DirectoryView). o.passes) c.self.view_is in
     let b : Bounds = record { cells = cells; claims = t.0.pool.most; held = 32 * (c.self.inside.passes - 1) } in
-    let b' : Bounds = record { cells = cells; claims = office.claims_max; held = 32 * (office.passes - 1) } in
+    let b' : Bounds = record { cells = cells; claims = state.claims_max; held = 32 * (state.passes - 1) } in
     let same : b ≡ b' = λ i. record { cells = cells; claims = claims i; held = 32 * (passes i - 1) } in
     let cell_pass : c.cell_pass-1.given.0 ≡ c.with.new.act.cell_pass.now = search rules in
     turns b b' t.1.pool.most c.args.names.now c.args.cell_pass.now c.with.new.act.cell_pass.now c.cell_pass-1.given.0
