@@ -8,19 +8,17 @@ set -e
 . "$(dirname "$0")/lib.sh"
 bench_program directory_bench rate_types told_list counter_cells counter_directory arrayvec
 bench="$work/crates/directory_bench"
-mkdir -p "$bench/src" "$bench/proofs/unpin_all" "$bench/proofs/take_each" "$bench/proofs/fill" "$bench/proofs/fill_often" \
+mkdir -p "$bench/src" "$bench/proofs/take_each" "$bench/proofs/fill" "$bench/proofs/fill_often" \
     "$bench/proofs/one_try" "$bench/proofs/turns_of"
 cat > "$bench/src/main.rt" <<'RT'
 //! Times the binding of new names to cells.
 #![tactic(auto)]
 ghost use Rattle.std.specs.Prelude.{◌≡◌, ℕ, ◌*◌, ◌≤◌, ◌<◌, [], length, All, IfSome};
-ghost use Rattle.counter_cells.specs.Views.{good_on};
 ghost use Rattle.counter_cells.specs.Opened.{table_of, setup_of};
 ghost use Rattle.told_list.specs.Tokens.{list_of};
-ghost use Rattle.counter_directory.specs.Spots.{spots_on};
 
 use counter_cells::{CellNaming, CellPass, Cells, OpenedCells, Spot};
-use counter_directory::{Directory, DirectoryPass};
+use counter_directory::{Directory, DirectoryPass, give_back};
 use rate_types::{CounterName, Entries, Entry, Seconds, Text, Unit};
 use std::alloc::Global;
 use std::marker::Brand;
@@ -58,16 +56,6 @@ fn names(alloc: Global, batch: u32) -> Option<Vec<CounterName>> {
     Some(names)
 }
 
-fn unpin_all<N: CellNaming>(cells: &Cells<N>, cell_pass: &mut CellPass<N>, spots: &[Spot])
-    requires cells { All (λ s. s.cell < N.setup.cells) spots.now }
-    requires pins { (cell : ℕ) → good_on cell cell_pass.old ≡ spots_on cell spots.now }
-    ensures none { cell_pass.new.good ≡ [] }
-{
-    for spot in spots {
-        cells.unpin(cell_pass, spot.cell);
-    }
-}
-
 // Acquires each of the names by a call of its own, and gives its pin back. False where one is refused.
 fn take_each<N: CellNaming, R: Wait>(
     rt: &R,
@@ -91,7 +79,7 @@ fn take_each<N: CellNaming, R: Wait>(
         ) else {
             return false;
         };
-        unpin_all(cells, &mut worker.cell_pass, acquired.spots.as_slice());
+        give_back(cells, &mut worker.cell_pass, acquired.spots.as_slice());
     }
     true
 }
@@ -258,12 +246,6 @@ fn main(rt: HostRuntime) -> std::io::Result<()> {
     Ok(())
 }
 RT
-own() { sed 's/counter_directory\.proofs\.tests/directory_bench.proofs/; s/counter_directory\.proofs/directory_bench.proofs/' "$1"; }
-own "$top/crates/counter_directory/proofs/Unpinning.antt" > "$bench/proofs/Unpinning.antt"
-echo 'mod Unpinning' > "$bench/proofs/Lib.antt"
-for file in Invariants Answers; do
-    own "$top/crates/counter_directory/proofs/tests/unpin_all/$file.antt" > "$bench/proofs/unpin_all/$file.antt"
-done
 cat > "$bench/proofs/take_each/Invariants.antt" <<'PF'
 use Rattle.std.proofs.Common.{◌≡◌, []}
 use Rattle.told_list.specs.Tokens.{list_of}

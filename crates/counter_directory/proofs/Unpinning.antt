@@ -7,7 +7,7 @@ use Rattle.counter_cells.specs.Views.{good_on}
 use Rattle.counter_cells.specs.Steps.{drop_pin, unpinned}
 use Rattle.counter_cells.specs.declared.view.CellView.{CellView}
 use Rattle.counter_cells.specs.declared.answers.Spot.{Spot}
-use Rattle.counter_directory.specs.Spots.{spots_on}
+use Rattle.counter_directory.specs.Spots.{spots_on, LeavesAllButPins}
 
 -- a pin given back is one less on its cell
 pins_less : (k j : ℕ) (ps : List (ℕ × ℕ)) → 1 ≤ total (λ p. one_if (p.0 == k)) ps
@@ -56,3 +56,8 @@ none_left k [] zero h = refl
 none_left k [] (suc i) h = refl
 none_left k (x ∷ xs) zero h = absurd (omega arith)
 none_left k (x ∷ xs) (suc i) h = none_left k xs i (omega arith)
+
+-- one more pin given back changes nothing else
+pub left_rest : (before v w : CellView) (cell : ℕ) → LeavesAllButPins before v → w ≡ unpinned cell v → LeavesAllButPins before w
+left_rest before v w cell so_far is =
+    is ∙ ap (unpinned cell) so_far ∙ sym (ap (λ (x : CellView). record before { good = x.good; unused = x.unused }) (is ∙ ap (unpinned cell) so_far))

@@ -27,3 +27,7 @@ pinned_on (s ∷ ss) v = pinned_on ss (good_pin s.cell s.claim v)
 -- spots of one cell have one number
 abbrev pub Agree : List Spot → Type 0
 Agree spots = (i j : ℕ) (s t : Spot) → get_elem? spots i ≡ some s → get_elem? spots j ≡ some t → s.cell ≡ t.cell → s.claim ≡ t.claim
+
+-- nothing of a pass's view changed but its good pins, and the looks that were to be used under them
+abbrev pub LeavesAllButPins : CellView → CellView → Type 0
+LeavesAllButPins before after = after ≡ record before { good = after.good; unused = after.unused }

@@ -21,6 +21,7 @@ mod counter;
 mod directory;
 mod keys;
 mod new_counter;
+mod pins;
 mod ring;
 mod ticks;
 
@@ -28,6 +29,7 @@ pub use acquired::{AcquireFault, Acquired};
 pub use claim::{Claim, Claims};
 pub use counter::SharedCounter;
 pub use directory::{ClosedDirectory, Directory, DirectoryPass, claims};
+pub use pins::give_back;
 
 #[cfg(test)]
 mod tests;

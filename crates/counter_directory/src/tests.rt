@@ -77,17 +77,6 @@ fn name(alloc: Global, value: &str) -> Option<CounterName> {
     })
 }
 
-// Gives all pins back.
-fn unpin_all<N: CellNaming>(cells: &Cells<N>, cell_pass: &mut CellPass<N>, spots: &[Spot])
-    requires cells { All (λ s. s.cell < N.setup.cells) spots.now }
-    requires pins { (cell : ℕ) → good_on cell cell_pass.old ≡ spots_on cell spots.now }
-    ensures none { cell_pass.new.good ≡ [] }
-{
-    for spot in spots {
-        cells.unpin(cell_pass, spot.cell);
-    }
-}
-
 // Acquires the names.
 fn pin<N: CellNaming, R: Wait>(
     rt: &R,
@@ -122,7 +111,7 @@ fn take<N: CellNaming, R: Wait>(
     ensures cell_pass { worker.new.cell_pass.good ≡ [] }
 {
     let acquired = pin(rt, directory, cells, worker, names)?;
-    unpin_all(cells, &mut worker.cell_pass, acquired.spots.as_slice());
+    give_back(cells, &mut worker.cell_pass, acquired.spots.as_slice());
     Ok(acquired)
 }
 
@@ -259,7 +248,7 @@ fn take_beside_a_pin<N: CellNaming, R: Abort + Wait>(
     };
     cells.tick(&mut other.cell_pass, Seconds::capped(60));
     let refused = take_one(rt, alloc, directory, cells, other, "b");
-    unpin_all(cells, &mut one.cell_pass, held.spots.as_slice());
+    give_back(cells, &mut one.cell_pass, held.spots.as_slice());
     let second = take_one(rt, alloc, directory, cells, other, "b");
     assert_eq!(rt;
         refused,
