@@ -17,7 +17,7 @@ ghost use Rattle.std.specs.Prelude.{◌≡◌, ℕ, ◌*◌, ◌≤◌, ◌<◌,
 ghost use Rattle.counter_cells.specs.Opened.{table_of, setup_of};
 ghost use Rattle.told_list.specs.Tokens.{list_of};
 
-use counter_cells::{CellNaming, CellPass, Cells, OpenedCells, Spot};
+use counter_cells::{CellNaming, CellPass, Cells, OpenedCells};
 use counter_directory::{Directory, DirectoryPass, give_back};
 use rate_types::{CounterName, Entries, Entry, Seconds, Text, Unit};
 use std::alloc::Global;

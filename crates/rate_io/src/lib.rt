@@ -1,9 +1,13 @@
 //! What reaches outside, as traits: a source and a sink of bytes, and files by name.
 //!
-//! Each trait has a count of faults that never falls, and a call answers `Failed` only where the count rose in that
-//! call. What a source has left, what a sink was written and what a file contains are told where the object knows
-//! them: the versions in memory tell, the adapters over the real input, output and files don't. The adapters are the
-//! trusted edge.
+//! Each object keeps a history of its calls (`specs/Events.antt`), which takes no memory: what each read handed out or that it
+//! answered the end, which pieces were written, which files were asked for with the reads of their content. The real ones keep
+//! it as those in memory do, so what is proved of a history is proved of the real program. Each has a count of faults
+//! besides that never falls, and a call answers `Failed` only where the count rose in that call.
+//!
+//! What a source has left, what a sink was written and what a file contains are told where the object knows them: the versions
+//! in memory tell, the adapters over the real input, output and files don't. That std's read and write do what they answer is
+//! trusted.
 #![tactic(auto)]
 
 mod files;
