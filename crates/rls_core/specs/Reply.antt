@@ -1,7 +1,7 @@
 -- The reply to a request: the status of each descriptor, by one configuration at one moment.
 use Rattle.std.specs.Prelude.{◌≡◌, ℕ, ◌&&◌, not, List, [], ◌∷◌, ◌++◌, Bool, true, false, Option, Some, unwrap_or}
 use Rattle.std.specs.List.{list_any, flat_map}
-use Rattle.rate_types.specs.Ledger.{Charge}
+use Rattle.rate_types.specs.Ledger.{Charge, Sight}
 use Rattle.rate_types.specs.Requests.{RequestParts}
 use Rattle.rate_types.specs.declared.counter_key.CounterKey.{CounterKey}
 use Rattle.rate_types.specs.declared.request.Descriptor.{Descriptor}
@@ -15,7 +15,7 @@ use Rattle.rls_core.specs.declared.status.Code.{Code}
 use Rattle.rls_core.specs.declared.status.Code.TheVariants.{OverLimit}
 use Rattle.rls_core.specs.declared.status.Code.TheVariants as code
 use Rattle.rls_core.specs.declared.status.Count.{Count}
-use Rattle.rls_core.specs.declared.status.Count.TheVariants.{Before}
+use Rattle.rls_core.specs.declared.status.Count.TheVariants.{Before, Seen}
 use Rattle.rls_core.specs.declared.status.Status.{Status}
 use Rattle.rls_core.specs.Status.{status_of}
 
@@ -55,6 +55,16 @@ charge_shown request moment d limit other = []
 abbrev pub charges_of : RequestParts → ℕ → List Descriptor → List Status → List (Charge CounterKey)
 charges_of request moment (d ∷ ds) (s ∷ ss) = charge_shown request moment d s.limit s.count ++ charges_of request moment ds ss
 charges_of request moment ds ss = []
+
+-- the sight that a status shows, where its hits weren't charged
+abbrev pub sight_shown : RequestParts → ℕ → Descriptor → Option OwnLimit → Count → List (Sight CounterKey)
+sight_shown request moment d (Some own) (Seen seen) = record { counter = counter_of request.domain d own.unit moment; seen = seen } ∷ []
+sight_shown request moment d limit other = []
+
+-- the sights of a reply, in the order of its descriptors
+abbrev pub sights_of : RequestParts → ℕ → List Descriptor → List Status → List (Sight CounterKey)
+sights_of request moment (d ∷ ds) (s ∷ ss) = sight_shown request moment d s.limit s.count ++ sights_of request moment ds ss
+sights_of request moment ds ss = []
 
 -- the counter of a descriptor, where it has a limit
 abbrev pub counter_under : RequestParts → ℕ → Descriptor → Found → List CounterKey
