@@ -24,26 +24,31 @@ use Rattle.rls_core.specs.Sums.{Sums, has_sum, sum_on}
 use Rattle.rls_core.specs.Plain.{PlainState, Drops, Charges}
 use Rattle.reply_text.specs.declared.record.Record.{Record}
 use Rattle.drive_run.specs.declared.line.Line.{Line}
-use Rattle.drive_run.specs.Totals.{ledger_of, charged_in, charges_shown}
+use Rattle.drive_run.specs.Totals.{ledger_of, sights_of, charged_in, charges_shown, sights_shown}
 use Rattle.drive_run.specs.Refusals.{all_bound, counters_bound, is_bound}
 use Rattle.window_keys.proofs.Counters.{same_end, ends_later}
 
--- a further line
+-- a further line, in a list that is made line after line
+module _ {X : Type 0} (one : Line → Record → List X) (all : List Line → List Record → List X) (none : all [] [] ≡ [])
+    (first : (l : Line) (r : Record) (ls : List Line) (rs : List Record) → all (l ∷ ls) (r ∷ rs) ≡ one l r ++ all ls rs) where
+  line_push : (ls : List Line) (rs : List Record) (l : Line) (r : Record) → length rs ≡ length ls → all (ls ++ l ∷ []) (rs ++ r ∷ []) ≡ all ls rs ++ one l r
+  line_push [] [] l r h = first l r [] [] ∙ ap (λ k. one l r ++ k) none ∙ append-nil (one l r) ∙ ap (λ k. k ++ one l r) (sym none)
+  line_push [] (s ∷ rs) l r h = absurd (omega (arith, h))
+  line_push (m ∷ ls) [] l r h = absurd (omega (arith, h))
+  line_push (m ∷ ls) (s ∷ rs) l r h = first m s (ls ++ l ∷ []) (rs ++ r ∷ []) ∙ ap (λ k. one m s ++ k) (line_push ls rs l r (omega (arith, h)))
+      ∙ sym (append_assoc (one m s) (all ls rs) (one l r)) ∙ ap (λ k. k ++ one l r) (sym (first m s ls rs))
+
 pub ledger_push : (ls : List Line) (rs : List Record) (l : Line) (r : Record) → length rs ≡ length ls
     → ledger_of (ls ++ l ∷ []) (rs ++ r ∷ []) ≡ ledger_of ls rs ++ charges_shown l r.moment r.outcome
-ledger_push [] [] l r h = append-nil (charges_shown l r.moment r.outcome)
-ledger_push [] (s ∷ rs) l r h = absurd (omega (arith, h))
-ledger_push (m ∷ ls) [] l r h = absurd (omega (arith, h))
-ledger_push (m ∷ ls) (s ∷ rs) l r h = ap (λ k. charges_shown m s.moment s.outcome ++ k) (ledger_push ls rs l r (omega (arith, h)))
-    ∙ sym (append_assoc (charges_shown m s.moment s.outcome) (ledger_of ls rs) (charges_shown l r.moment r.outcome))
+ledger_push = line_push (λ l r. charges_shown l r.moment r.outcome) ledger_of refl (λ l r ls rs. refl)
+
+pub sights_push : (ls : List Line) (rs : List Record) (l : Line) (r : Record) → length rs ≡ length ls
+    → sights_of (ls ++ l ∷ []) (rs ++ r ∷ []) ≡ sights_of ls rs ++ sights_shown l r.moment r.outcome
+sights_push = line_push (λ l r. sights_shown l r.moment r.outcome) sights_of refl (λ l r ls rs. refl)
 
 pub bound_push : (config : List FlatConfig) (ls : List Line) (rs : List Record) (l : Line) (r : Record) → length rs ≡ length ls
     → all_bound config (ls ++ l ∷ []) (rs ++ r ∷ []) ≡ all_bound config ls rs ++ counters_bound config l r.moment r.outcome
-bound_push config [] [] l r h = append-nil (counters_bound config l r.moment r.outcome)
-bound_push config [] (s ∷ rs) l r h = absurd (omega (arith, h))
-bound_push config (m ∷ ls) [] l r h = absurd (omega (arith, h))
-bound_push config (m ∷ ls) (s ∷ rs) l r h = ap (λ k. counters_bound config m s.moment s.outcome ++ k) (bound_push config ls rs l r (omega (arith, h)))
-    ∙ sym (append_assoc (counters_bound config m s.moment s.outcome) (all_bound config ls rs) (counters_bound config l r.moment r.outcome))
+bound_push config = line_push (λ l r. counters_bound config l r.moment r.outcome) (all_bound config) refl (λ l r ls rs. refl)
 
 -- the counters of a request are open at its moment
 any_open : (moment : ℕ) (c k : CounterKey) → same_counter c k ≡ true → moment < window_end_of k → nat_lt moment (window_end_of c) ≡ true

@@ -1,5 +1,5 @@
 -- One more charge in a lawful ledger.
-use Rattle.std.proofs.Common.{◌≡◌, ℕ, ◌+◌, ◌<◌, ◌≤◌, ◌==◌, ◌&&◌, Bool, true, false, cond, List, [], ◌∷◌, ◌++◌, nat_lt, refl, sym, ap, ◌∙◌, arith}
+use Rattle.std.proofs.Common.{◌≡◌, ℕ, ◌+◌, ◌<◌, ◌≤◌, ◌==◌, ◌&&◌, Bool, true, false, cond, List, [], ◌∷◌, ◌++◌, nat_lt, refl, sym, ap, subst, ◌∙◌, arith}
 use Rattle.std.proofs.lemmas.Bool.Decides.{nat_tests}
 use Rattle.std.proofs.lemmas.List.Sums.{sum_by-cons, sum_by_push}
 use Rattle.std.specs.List.{AllByRecursion}
@@ -9,9 +9,12 @@ use Rattle.rate_types.specs.declared.counter_key.CounterKey.{CounterKey}
 use Rattle.drive_run.specs.Totals.{charged_in}
 use Rattle.window_keys.proofs.Counters.{same_is, same_itself}
 
+pub all_append : {X : Type 0} (P : X → Type 0) (xs ys : List X) → AllByRecursion P xs → AllByRecursion P ys → AllByRecursion P (xs ++ ys)
+all_append P [] ys h k = k
+all_append P (x ∷ xs) ys h k = (h.0, all_append P xs ys h.1 k)
+
 pub all_push : {X : Type 0} (P : X → Type 0) (xs : List X) (x : X) → AllByRecursion P xs → P x → AllByRecursion P (xs ++ x ∷ [])
-all_push P [] x h is = (is, tt)
-all_push P (y ∷ ys) x h is = (h.0, all_push P ys x h.1 is)
+all_push P xs x h is = all_append P xs (x ∷ []) h (is, tt)
 
 pub all_map : {X : Type 0} (P Q : X → Type 0) → ((x : X) → P x → Q x) → (xs : List X) → AllByRecursion P xs → AllByRecursion Q xs
 all_map P Q f [] h = tt
@@ -33,7 +36,7 @@ module _ (ledger : List (Charge CounterKey)) (x : Charge CounterKey) where
   pub charged_push : (c : CounterKey) → charged_in (ledger ++ x ∷ []) c ≡ charged_in ledger c + cond (same_counter x.counter c) x.hits 0
   charged_push c = sum_by_push (λ y. cond (same_counter y.counter c) y.hits 0) ledger x
 
-  below_push : (c : CounterKey) (b : ℕ) → charged_below same_counter c b (ledger ++ x ∷ [])
+  pub below_push : (c : CounterKey) (b : ℕ) → charged_below same_counter c b (ledger ++ x ∷ [])
       ≡ charged_below same_counter c b ledger + cond (same_counter x.counter c && nat_lt x.before b) x.hits 0
   below_push c b = sum_by_push (λ y. cond (same_counter y.counter c && nat_lt y.before b) y.hits 0) ledger x
 
@@ -41,7 +44,7 @@ module _ (ledger : List (Charge CounterKey)) (x : Charge CounterKey) where
   at_push c b = sum_by_push (λ y. cond (same_counter y.counter c && (y.before == b)) 1 0) ledger x
 
 -- where each charge of a counter stands below a bound, all of it is below that
-all_below : (c : CounterKey) (b : ℕ) (ledger : List (Charge CounterKey)) → AllByRecursion (λ y. same_counter y.counter c ≡ true → y.before < b) ledger
+pub all_below : (c : CounterKey) (b : ℕ) (ledger : List (Charge CounterKey)) → AllByRecursion (λ y. same_counter y.counter c ≡ true → y.before < b) ledger
     → charged_below same_counter c b ledger ≡ charged_in ledger c
 all_below c b [] h = refl
 all_below c b (y ∷ ys) h =
@@ -67,15 +70,20 @@ none_at c b (y ∷ ys) h =
     by true is = let other : (y.before == b) ≡ false = let less : y.before < b = h.0 is in grind (arith, nat_tests) in rw (is, other) refl
     by false is = rw is refl
 
+-- each charge of a counter stands before its total
+pub before_total : (ledger : List (Charge CounterKey)) → IsLawfulLedger same_counter ledger → Reaches ledger → (c : CounterKey)
+    → AllByRecursion (λ y. same_counter y.counter c ≡ true → y.before < charged_in ledger c) ledger
+before_total ledger lawful reaches c = all_map (λ y. (1 ≤ y.hits) × (y.before + y.hits ≤ charged_in ledger y.counter))
+    (λ y. same_counter y.counter c ≡ true → y.before < charged_in ledger c)
+    (λ y h is. omega (arith, h.0, h.1, charged_same ledger y.counter c is))
+    ledger (all_both (λ y. 1 ≤ y.hits) (λ y. y.before + y.hits ≤ charged_in ledger y.counter) ledger lawful.hits reaches)
+
 module _ (ledger : List (Charge CounterKey)) (x : Charge CounterKey) (lawful : IsLawfulLedger same_counter ledger) (reaches : Reaches ledger)
     (next : x.before ≡ charged_in ledger x.counter) (some : 1 ≤ x.hits) where
   -- the charges of its counter stand before it
   earlier : (c : CounterKey) → same_counter x.counter c ≡ true → AllByRecursion (λ y. same_counter y.counter c ≡ true → y.before < x.before) ledger
-  earlier c same = all_map (λ y. (1 ≤ y.hits) × (y.before + y.hits ≤ charged_in ledger y.counter)) (λ y. same_counter y.counter c ≡ true → y.before < x.before)
-      (λ y h is.
-      let one : same_counter y.counter x.counter ≡ true = ap (same_counter y.counter) (same_is x.counter c same) ∙ is in
-      omega (arith, h.0, h.1, charged_same ledger y.counter x.counter one, next))
-      ledger (all_both (λ y. 1 ≤ y.hits) (λ y. y.before + y.hits ≤ charged_in ledger y.counter) ledger lawful.hits reaches)
+  earlier c same = subst (λ n. AllByRecursion (λ y. same_counter y.counter c ≡ true → y.before < n) ledger)
+      (sym (next ∙ charged_same ledger x.counter c same)) (before_total ledger lawful reaches c)
 
   abbrev after : List (Charge CounterKey)
   after = ledger ++ x ∷ []

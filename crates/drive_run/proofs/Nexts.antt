@@ -31,7 +31,7 @@ lawful_next ledger [] lawful reaches are = rw (append-nil ledger) (lawful, reach
 lawful_next ledger (x ∷ []) lawful reaches are = lawful_push ledger x lawful reaches are.0 are.1
 lawful_next ledger (x ∷ y ∷ more) lawful reaches are = absurd are
 
-if_some : (b : Bool) (s t : Status) → cond b (Some s) None ≡ Some t → (b ≡ true) × (s ≡ t)
+pub if_some : (b : Bool) (s t : Status) → cond b (Some s) None ≡ Some t → (b ≡ true) × (s ≡ t)
 if_some true s t h = (refl, cc)
 if_some false s t h = (cc, cc)
 

@@ -1,10 +1,11 @@
 -- One more line in a run.
 use Rattle.std.proofs.Common.{◌≡◌, ℕ, zero, suc, ◌+◌, ◌<◌, max, nat_lt, true, cond, List, [], ◌∷◌, ◌++◌, length, take, Some, slice_get, ◌⊎◌, inl, inr, ⊎_elim, refl, sym, ap, subst}
-use Rattle.std.proofs.Common.{◌∙◌, arith, length-append}
+use Rattle.std.proofs.Common.{◌≤◌, ◌∙◌, arith, length-append}
 use Rattle.std.proofs.lemmas.Bool.Decides.{nat_tests}
 use Rattle.std.proofs.lemmas.List.{take-append-le, take_all}
+use Rattle.std.specs.List.{AllByRecursion}
 use Rattle.rate_types.specs.Counters.{same_counter}
-use Rattle.rate_types.specs.Ledger.{IsLawfulLedger}
+use Rattle.rate_types.specs.Ledger.{IsLawfulLedger, IsLawfulSight}
 use Rattle.rate_types.specs.Requests.{RequestParts}
 use Rattle.rate_types.specs.declared.counter_key.CounterKey.{CounterKey}
 use Rattle.window_keys.specs.Counter.{window_end_of}
@@ -20,14 +21,15 @@ use Rattle.reply_text.specs.declared.record.Outcome.TheVariants as outcome
 use Rattle.drive_run.specs.declared.line.Line.{Line}
 use Rattle.drive_run.specs.declared.line.Line.TheVariants.{Check, Tick, Bad}
 use Rattle.drive_run.specs.Script.{IsFlatLine, AreFlatLines}
-use Rattle.drive_run.specs.Totals.{tick_of, moment_after, charges_shown, ledger_of, charged_in, AreTotalsOf}
+use Rattle.drive_run.specs.Totals.{tick_of, moment_after, charges_shown, sights_shown, ledger_of, sights_of, charged_in, AreTotalsOf}
 use Rattle.drive_run.specs.Refusals.{counters_bound, is_bound, HasRefusalCause}
-use Rattle.drive_run.specs.Run.{EachLine, IsOfKind, IsByRule, IsInTurn, IsRecordOf, IsRun}
+use Rattle.drive_run.specs.Run.{EachLine, IsOfKind, IsByRule, IsInTurn, IsRecordOf, IsAtLeastEarlier, IsRun}
 use Rattle.drive_run.specs.Steps.{IsAnswered, IsRefused, Outcomes, Steps}
 use Rattle.drive_run.proofs.Admits.{limit_holds}
-use Rattle.drive_run.proofs.Ledgers.{Reaches, all_map}
-use Rattle.drive_run.proofs.Bounds.{ledger_push, AgreesWith, charged_here, room_by, lacks_by, agrees_still, agrees_later, agrees_charged}
-use Rattle.drive_run.proofs.Nexts.{lawful_next, charges_next, sequential_by}
+use Rattle.drive_run.proofs.Ledgers.{Reaches, all_map, all_push}
+use Rattle.drive_run.proofs.Bounds.{ledger_push, sights_push, AgreesWith, charged_here, room_by, lacks_by, agrees_still, agrees_later, agrees_charged}
+use Rattle.drive_run.proofs.Nexts.{AreNext, lawful_next, charges_next, sequential_by}
+use Rattle.drive_run.proofs.Seeing.{ShowTotals, sights_next, totals_shown}
 
 pub moment_push : (start : ℕ) (ls : List Line) (l : Line) → moment_after start (ls ++ l ∷ []) ≡ max (tick_of l) (moment_after start ls)
 moment_push start [] l = refl
@@ -62,11 +64,16 @@ each_push Fact ls rs l r size each next = λ i m s is_line is_record. ⊎_elim
         )
         (subst (λ m. Fact ls rs m s) is_line (subst (λ s. Fact ls rs l s) is_record next))
 
+-- a record of version 0, made at a moment or before
+abbrev pub IsUntil : ℕ → Record → Type 0
+IsUntil moment r = (r.version ≡ 0) × (r.moment ≤ moment)
+
 -- the lines so far are a run, and the limiter has what they left
 pub record Runs (start : ℕ) (ls : List Line) (rs : List Record) (plain : PlainState) : Type 0 where
   pub moment : plain.moment ≡ moment_after start ls
   pub run : IsRun plain.config plain.cells start ls rs
   pub reaches : Reaches (ledger_of ls rs)
+  pub until : AllByRecursion (IsUntil plain.moment) rs
   pub agrees : AgreesWith plain.config ls rs plain.moment plain.sums
 
 -- what one line brings
@@ -79,13 +86,10 @@ record Brings (ls : List Line) (rs : List Record) (l : Line) (r : Record) (old n
   pub rule : IsByRule old.config l r.moment r.outcome
   pub cause : HasRefusalCause old.config old.cells ls rs l r.moment r.outcome
   pub turn : IsInTurn old.config old.cells ls rs l r.moment r.outcome
-  pub lawful : IsLawfulLedger same_counter (ledger_of (ls ++ l ∷ []) (rs ++ r ∷ [])) × Reaches (ledger_of (ls ++ l ∷ []) (rs ++ r ∷ []))
+  pub charges : AreNext (ledger_of ls rs) (charges_shown l r.moment r.outcome)
+  pub sights : ShowTotals (ledger_of ls rs) (sights_shown l r.moment r.outcome)
 
 module _ (start : ℕ) (ls : List Line) (rs : List Record) (old : PlainState) (runs : Runs start ls rs old) where
-  still_lawful : (l : Line) (r : Record) → charges_shown l r.moment r.outcome ≡ []
-      → IsLawfulLedger same_counter (ledger_of (ls ++ l ∷ []) (rs ++ r ∷ [])) × Reaches (ledger_of (ls ++ l ∷ []) (rs ++ r ∷ []))
-  still_lawful l r none = rw (ledger_push ls rs l r runs.run.as_many, none) (lawful_next (ledger_of ls rs) [] runs.run.charges_form_ledger runs.reaches tt)
-
   ticks : (now shown : ℕ) (r : Record) (new : PlainState) → r.outcome ≡ outcome.Ticked shown → (shown ≡ now) × Drops (max now old.moment) old new
       → Brings ls rs (Tick now) r old new
   ticks now shown r new is h = record {
@@ -98,15 +102,17 @@ module _ (start : ℕ) (ls : List Line) (rs : List Record) (old : PlainState) (r
     rule = tt;
     cause = tt;
     turn = tt;
-    lawful = still_lawful (Tick now) r refl;
+    charges = tt;
+    sights = tt;
   }
 
   -- a line that leaves the limiter as it was
-  stays : (l : Line) (r : Record) (new : PlainState) → new ≡ old → tick_of l ≡ 0 → counters_bound old.config l r.moment r.outcome ≡ [] → charges_shown l r.moment r.outcome ≡ []
+  stays : (l : Line) (r : Record) (new : PlainState) → new ≡ old → tick_of l ≡ 0 → counters_bound old.config l r.moment r.outcome ≡ []
+      → charges_shown l r.moment r.outcome ≡ [] → sights_shown l r.moment r.outcome ≡ []
       → IsOfKind l r.outcome
       → IsByRule old.config l r.moment r.outcome → HasRefusalCause old.config old.cells ls rs l r.moment r.outcome → IsInTurn old.config old.cells ls rs l r.moment r.outcome
       → Brings ls rs l r old new
-  stays l r new same still none nothing kind rule cause turn = record {
+  stays l r new same still none nothing unseen kind rule cause turn = record {
     config = ap (λ s. s.config) same;
     cells = ap (λ s. s.cells) same;
     moment = ap (λ s. s.moment) same ∙ omega (arith, still);
@@ -116,7 +122,8 @@ module _ (start : ℕ) (ls : List Line) (rs : List Record) (old : PlainState) (r
     rule = rule;
     cause = cause;
     turn = turn;
-    lawful = still_lawful l r nothing;
+    charges = rw nothing tt;
+    sights = rw unseen tt;
   }
 
   refuses : (request : RequestParts) (live held wanted : ℕ) (r : Record) (new : PlainState) → r.outcome ≡ outcome.Full live held wanted → r.moment ≡ new.moment
@@ -124,7 +131,7 @@ module _ (start : ℕ) (ls : List Line) (rs : List Record) (old : PlainState) (r
       → Brings ls rs (Check request) r old new
   refuses request live held wanted r new is at h =
       let moment : r.moment ≡ old.moment = at ∙ ap (λ s. s.moment) h.same in
-      stays (Check request) r new h.same refl (rw is refl) (rw is refl) (rw is tt) (rw is tt)
+      stays (Check request) r new h.same refl (rw is refl) (rw is refl) (rw is refl) (rw is tt) (rw is tt)
       (rw (is, moment) (h.nobody, lacks_by old.config old.cells request old.moment (has_sum old.sums) (is_bound old.config ls rs old.moment) live wanted runs.agrees.bound h.lacks))
       (rw is tt)
 
@@ -146,9 +153,8 @@ module _ (start : ℕ) (ls : List Line) (rs : List Record) (old : PlainState) (r
         rule = rw (is, moment) h.reply;
         cause = rw is tt;
         turn = rw (is, moment) (counts, room_by old.config old.cells request old.moment (has_sum old.sums) (is_bound old.config ls rs old.moment) runs.agrees.bound h.room);
-        lawful = rw (ledger_push ls rs (Check request) r runs.run.as_many, shown)
-            (lawful_next (ledger_of ls rs) (charges_of request old.moment request.descriptors answer.statuses) runs.run.charges_form_ledger runs.reaches
-            (charges_next (ledger_of ls rs) old.config request old.moment request.descriptors answer.statuses one h.reply.each counts));
+        charges = rw shown (charges_next (ledger_of ls rs) old.config request old.moment request.descriptors answer.statuses one h.reply.each counts);
+        sights = rw (is, moment) (totals_shown (ledger_of ls rs) old.config request old.moment request.descriptors answer.statuses one h.reply.each counts);
       }
 
   brings : (l : Line) (r : Record) (new : PlainState) (o : Outcome) → r.outcome ≡ o → r.moment ≡ new.moment → IsFlatLine l → Outcomes l o old new → Brings ls rs l r old new
@@ -160,7 +166,7 @@ module _ (start : ℕ) (ls : List Line) (rs : List Record) (old : PlainState) (r
   brings (Tick now) r new (outcome.Checked answer) is at flat h = absurd h
   brings (Tick now) r new (outcome.Full live held wanted) is at flat h = absurd h
   brings (Tick now) r new (outcome.Bad shown) is at flat h = absurd h
-  brings (Bad refused) r new (outcome.Bad shown) is at flat h = stays (Bad refused) r new h.1 refl refl refl (rw is h.0) tt tt tt
+  brings (Bad refused) r new (outcome.Bad shown) is at flat h = stays (Bad refused) r new h.1 refl refl refl refl (rw is h.0) tt tt tt
   brings (Bad refused) r new (outcome.Checked answer) is at flat h = absurd h
   brings (Bad refused) r new (outcome.Full live held wanted) is at flat h = absurd h
   brings (Bad refused) r new (outcome.Ticked shown) is at flat h = absurd h
@@ -169,13 +175,30 @@ module _ (start : ℕ) (ls : List Line) (rs : List Record) (old : PlainState) (r
   goes_on l r new flat steps =
       let b : Brings ls rs l r old new = brings l r new r.outcome refl steps.at flat steps.outcome in
       let moment : new.moment ≡ moment_after start (ls ++ l ∷ []) = b.moment ∙ ap (max (tick_of l)) runs.moment ∙ sym (moment_push start ls l) in
+      let lawful : IsLawfulLedger same_counter (ledger_of (ls ++ l ∷ []) (rs ++ r ∷ [])) × Reaches (ledger_of (ls ++ l ∷ []) (rs ++ r ∷ [])) =
+      rw (ledger_push ls rs l r runs.run.as_many)
+      (lawful_next (ledger_of ls rs) (charges_shown l r.moment r.outcome) runs.run.charges_form_ledger runs.reaches b.charges) in
+      let sights : AllByRecursion (IsLawfulSight same_counter (ledger_of (ls ++ l ∷ []) (rs ++ r ∷ []))) (sights_of (ls ++ l ∷ []) (rs ++ r ∷ [])) =
+      rw (ledger_push ls rs l r runs.run.as_many, sights_push ls rs l r runs.run.as_many)
+      (sights_next (ledger_of ls rs) (charges_shown l r.moment r.outcome) (sights_of ls rs) (sights_shown l r.moment r.outcome) runs.run.charges_form_ledger runs.reaches
+      b.charges runs.run.sights_lawful b.sights) in
+      let versions : IsAtLeastEarlier (λ s. s.version) rs r =
+      all_map (IsUntil old.moment) (λ e. e.worker ≡ r.worker → e.version ≤ r.version) (λ e h same. omega (arith, h.0)) rs runs.until in
+      let moments : IsAtLeastEarlier (λ s. s.moment) rs r =
+      all_map (IsUntil old.moment) (λ e. e.worker ≡ r.worker → e.moment ≤ r.moment) (λ e h same. omega (arith, h.1, steps.at, b.moment)) rs runs.until in
+      let until : AllByRecursion (IsUntil new.moment) (rs ++ r ∷ []) =
+      all_push (IsUntil new.moment) rs r (all_map (IsUntil old.moment) (IsUntil new.moment) (λ e h. (h.0, omega (arith, h.1, b.moment))) rs runs.until)
+      (steps.by_worker.1, omega (arith, steps.at)) in
       let rec : IsRecordOf start ls l r = record { numbered = steps.numbered; by_worker = steps.by_worker; at = steps.at ∙ moment; kind = b.kind } in
       let run : IsRun old.config old.cells start (ls ++ l ∷ []) (rs ++ r ∷ []) = record {
         as_many = omega (arith, runs.run.as_many, length-append ls (l ∷ []), length-append rs (r ∷ []));
         one_record_per_line = each_push (λ before earlier l r. IsRecordOf start before l r) ls rs l r runs.run.as_many runs.run.one_record_per_line rec;
+        versions_never_fall = each_push (λ before earlier l r. IsAtLeastEarlier (λ s. s.version) earlier r) ls rs l r runs.run.as_many runs.run.versions_never_fall versions;
+        moments_never_fall = each_push (λ before earlier l r. IsAtLeastEarlier (λ s. s.moment) earlier r) ls rs l r runs.run.as_many runs.run.moments_never_fall moments;
         replies_by_rule = each_push (λ before earlier l r. IsByRule old.config l r.moment r.outcome) ls rs l r runs.run.as_many runs.run.replies_by_rule b.rule;
-        charges_form_ledger = b.lawful.0;
-        limits_hold = λ c limit. limit_holds c limit (ledger_of (ls ++ l ∷ []) (rs ++ r ∷ [])) b.lawful.0;
+        charges_form_ledger = lawful.0;
+        limits_hold = λ c limit. limit_holds c limit (ledger_of (ls ++ l ∷ []) (rs ++ r ∷ [])) lawful.0;
+        sights_lawful = sights;
         refusals_have_causes =
             each_push (λ before earlier l r. HasRefusalCause old.config old.cells before earlier l r.moment r.outcome) ls rs l r runs.run.as_many runs.run.refusals_have_causes
             b.cause;
@@ -186,7 +209,8 @@ module _ (start : ℕ) (ls : List Line) (rs : List Record) (old : PlainState) (r
       record {
         moment = moment;
         run = rw (b.config, b.cells) run;
-        reaches = b.lawful.1;
+        reaches = lawful.1;
+        until = until;
         agrees = rw b.config b.agrees;
       }
 

@@ -1,7 +1,8 @@
 -- The run of a script by one worker, as a relation between its lines and its records.
 use Rattle.std.specs.Prelude.{◌≡◌, ℕ, ◌+◌, ◌≤◌, List, [], ◌∷◌, ◌++◌, length, take, false, slice_get, Some, ⊤}
+use Rattle.std.specs.List.{AllByRecursion}
 use Rattle.rate_types.specs.Counters.{same_counter}
-use Rattle.rate_types.specs.Ledger.{IsLawfulLedger, admitted_in}
+use Rattle.rate_types.specs.Ledger.{IsLawfulLedger, IsLawfulSight, admitted_in}
 use Rattle.rate_types.specs.declared.counter_key.CounterKey.{CounterKey}
 use Rattle.rule_lookup.specs.declared.flat.FlatConfig.{FlatConfig}
 use Rattle.rls_core.specs.Reply.{IsReplyOf}
@@ -11,7 +12,7 @@ use Rattle.reply_text.specs.declared.record.Outcome.{Outcome}
 use Rattle.reply_text.specs.declared.record.Outcome.TheVariants as outcome
 use Rattle.drive_run.specs.declared.line.Line.{Line}
 use Rattle.drive_run.specs.declared.line.Line.TheVariants.{Check, Tick, Bad}
-use Rattle.drive_run.specs.Totals.{moment_after, ledger_of, charged_in}
+use Rattle.drive_run.specs.Totals.{moment_after, ledger_of, sights_of, charged_in}
 use Rattle.drive_run.specs.Refusals.{is_bound, HasRefusalCause}
 
 -- a fact about each line and its record, and about the lines and records before them
@@ -47,12 +48,19 @@ pub record IsRecordOf (start : ℕ) (before : List Line) (l : Line) (r : Record)
   pub at : r.moment ≡ moment_after start (before ++ l ∷ [])
   pub kind : IsOfKind l r.outcome
 
+-- what a record shows is at least what each earlier record of its worker shows
+abbrev pub IsAtLeastEarlier : (Record → ℕ) → List Record → Record → Type 0
+IsAtLeastEarlier number earlier r = AllByRecursion (λ e. e.worker ≡ r.worker → number e ≤ number r) earlier
+
 -- The run of these lines from a start, with so many cells.
 pub record IsRun (config : List FlatConfig) (cells start : ℕ) (lines : List Line) (records : List Record) : Type 0 where
   pub as_many : length records ≡ length lines
   pub one_record_per_line : EachLine lines records (λ before earlier l r. IsRecordOf start before l r)
+  pub versions_never_fall : EachLine lines records (λ before earlier l r. IsAtLeastEarlier (λ s. s.version) earlier r)
+  pub moments_never_fall : EachLine lines records (λ before earlier l r. IsAtLeastEarlier (λ s. s.moment) earlier r)
   pub replies_by_rule : EachLine lines records (λ before earlier l r. IsByRule config l r.moment r.outcome)
   pub charges_form_ledger : IsLawfulLedger same_counter (ledger_of lines records)
   pub limits_hold : (c : CounterKey) (limit : ℕ) → admitted_in same_counter c limit (ledger_of lines records) ≤ limit
+  pub sights_lawful : AllByRecursion (IsLawfulSight same_counter (ledger_of lines records)) (sights_of lines records)
   pub refusals_have_causes : EachLine lines records (λ before earlier l r. HasRefusalCause config cells before earlier l r.moment r.outcome)
   pub sequential_with_one_worker : EachLine lines records (λ before earlier l r. IsInTurn config cells before earlier l r.moment r.outcome)

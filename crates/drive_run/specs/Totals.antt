@@ -1,10 +1,11 @@
--- The ledger that the records of a script show, and the totals of the windows that are open at its end.
+-- The ledger and the sights that the records of a script show, and the totals of the windows that are open at its end.
 use Rattle.std.specs.Prelude.{ℕ, List, [], ◌∷◌, ◌++◌, max}
 use Rattle.rate_types.specs.Counters.{same_counter}
-use Rattle.rate_types.specs.Ledger.{Charge, charged_total}
+use Rattle.rate_types.specs.Ledger.{Charge, Sight, charged_total}
 use Rattle.rate_types.specs.declared.counter_key.CounterKey.{CounterKey}
 use Rattle.rls_core.specs.declared.totals.Total.{Total}
 use Rattle.rls_core.specs.Reply.{charges_of}
+use Rattle.rls_core.specs.Reply as reply
 use Rattle.rls_core.specs.Totals.{AreTotals}
 use Rattle.reply_text.specs.declared.record.Record.{Record}
 use Rattle.reply_text.specs.declared.record.Outcome.{Outcome}
@@ -31,6 +32,16 @@ charges_shown line moment other = []
 abbrev pub ledger_of : List Line → List Record → List (Charge CounterKey)
 ledger_of (l ∷ ls) (r ∷ rs) = charges_shown l r.moment r.outcome ++ ledger_of ls rs
 ledger_of lines records = []
+
+-- the sights that an answered check shows
+abbrev pub sights_shown : Line → ℕ → Outcome → List (Sight CounterKey)
+sights_shown (Check request) moment (outcome.Checked answer) = reply.sights_of request moment request.descriptors answer.statuses
+sights_shown line moment other = []
+
+-- The sights of all answered checks, line after line.
+abbrev pub sights_of : List Line → List Record → List (Sight CounterKey)
+sights_of (l ∷ ls) (r ∷ rs) = sights_shown l r.moment r.outcome ++ sights_of ls rs
+sights_of lines records = []
 
 -- what a ledger has on a counter
 abbrev pub charged_in : List (Charge CounterKey) → CounterKey → ℕ
