@@ -16,7 +16,7 @@ use Rattle.proto_json.specs.Said.{reading_of}
 use Rattle.descriptor_tree.specs.declared.policy.Policy.{Policy}
 use Rattle.descriptor_tree.specs.declared.policy.Policy.TheVariants.{Limited, Unlimited}
 use Rattle.descriptor_tree.specs.declared.tree.Tree.{Tree}
-use Rattle.descriptor_tree.specs.Trees.{NodeFields, Branch, branch, Branches, no_branches, and_branch, fields_of, branches_of, DomainTree, tree_view}
+use Rattle.descriptor_tree.specs.Trees.{NodeFields, Branch, branch, Branches, no_branches, and_branch, fields_of, DomainTree, tree_view}
 use Rattle.descriptor_tree.specs.Nodes.{branch_nodes, forest_nodes, tree_nodes, config_nodes}
 use Rattle.descriptor_tree.specs.Config.{IsWellFormed, IsWellFormedBranch, AreWellFormed, IsLawfulNode, IsLawfulConfig}
 use Rattle.rate_types.specs.Reading.{first_or}

@@ -8,6 +8,10 @@ ghost use Rattle.std.specs.List.{All};
 ghost use Rattle.config_json.specs.Bounds.{IsShort, IsSmall, IsBounded};
 ghost use Rattle.config_json.specs.Put.{put_there};
 
+use crate::field_names::{
+    DESCRIPTORS, DOMAIN, KEY, NAME, RATE_LIMIT, REPLACES, REQUESTS_PER_UNIT, SHADOW_MODE, UNIT,
+    UNLIMITED, VALUE,
+};
 use descriptor_tree::{Forest, Node, Policy, Texts, Tree};
 use rate_types::{OutOfMemory, Text, Unit};
 use serde_json::{Map, Number, Value};
@@ -111,7 +115,7 @@ fn named(alloc: Global, name: &str) -> Result<Value, OutOfMemory>
 {
     let mut members = Map::new(alloc);
     let name = text(alloc, name)?;
-    put(alloc, &mut members, "name", Some(name))?;
+    put(alloc, &mut members, NAME.0, Some(name))?;
     Ok(Value::Object(members))
 }
 
@@ -147,10 +151,15 @@ fn limited(
         ∷ []))) }
 {
     let mut members = Map::new(alloc);
-    put(alloc, &mut members, "unit", Some(unit))?;
-    put(alloc, &mut members, "requestsPerUnit", number_there(limit))?;
-    put(alloc, &mut members, "replaces", replaces)?;
-    put(alloc, &mut members, "name", name)?;
+    put(alloc, &mut members, UNIT.0, Some(unit))?;
+    put(
+        alloc,
+        &mut members,
+        REQUESTS_PER_UNIT.0,
+        number_there(limit),
+    )?;
+    put(alloc, &mut members, REPLACES.0, replaces)?;
+    put(alloc, &mut members, NAME.0, name)?;
     Ok(Value::Object(members))
 }
 
@@ -168,9 +177,9 @@ fn unlimited(
         ∷ []))) }
 {
     let mut members = Map::new(alloc);
-    put(alloc, &mut members, "unlimited", Some(Value::Bool(true)))?;
-    put(alloc, &mut members, "replaces", replaces)?;
-    put(alloc, &mut members, "name", name)?;
+    put(alloc, &mut members, UNLIMITED.0, Some(Value::Bool(true)))?;
+    put(alloc, &mut members, REPLACES.0, replaces)?;
+    put(alloc, &mut members, NAME.0, name)?;
     Ok(Value::Object(members))
 }
 
@@ -209,11 +218,11 @@ pub fn node_value(alloc: Global, node: &Node, below: Option<Value>) -> Result<Va
     let rule = rule_there(alloc, node)?;
     let value = text_of(alloc, &node.value)?;
     let mut members = Map::new(alloc);
-    put(alloc, &mut members, "value", value)?;
-    put(alloc, &mut members, "shadowMode", true_there(node.shadow))?;
-    put(alloc, &mut members, "rateLimit", rule)?;
-    put(alloc, &mut members, "key", key)?;
-    put(alloc, &mut members, "descriptors", below)?;
+    put(alloc, &mut members, VALUE.0, value)?;
+    put(alloc, &mut members, SHADOW_MODE.0, true_there(node.shadow))?;
+    put(alloc, &mut members, RATE_LIMIT.0, rule)?;
+    put(alloc, &mut members, KEY.0, key)?;
+    put(alloc, &mut members, DESCRIPTORS.0, below)?;
     Ok(Value::Object(members))
 }
 
@@ -227,7 +236,7 @@ pub fn tree_value(alloc: Global, below: Option<Value>, domain: &str) -> Result<V
 {
     let domain = text_there(alloc, domain)?;
     let mut members = Map::new(alloc);
-    put(alloc, &mut members, "domain", domain)?;
-    put(alloc, &mut members, "descriptors", below)?;
+    put(alloc, &mut members, DOMAIN.0, domain)?;
+    put(alloc, &mut members, DESCRIPTORS.0, below)?;
     Ok(Value::Object(members))
 }
