@@ -10,12 +10,10 @@ ghost use Rattle.proto_json.specs.Held.{object_of, list_of, placed_of, name_of, 
 ghost use Rattle.proto_json.specs.Fields as fields;
 ghost use Rattle.proto_json.specs.Kinds as kinds;
 
-use crate::kinds::{into_items, into_object, into_text, unit_named, whole_of};
+use crate::kinds::{duration_refusal, into_items, into_object, into_text, unit_named, whole_of};
 use crate::{FieldName, FormFault, List, Placed};
-use rate_types::refusals::{
-    BAD_DURATION, DURATION_TOO_LONG, NOT_OBJECT, TOO_FINE, TWO_NAMES, UNKNOWN_FIELD, WRONG_KIND,
-};
-use rate_types::{DurationFault, Fault, Millis, Place, Refused, Text, Unit, read_duration};
+use rate_types::refusals::{NOT_OBJECT, TWO_NAMES, UNKNOWN_FIELD, WRONG_KIND};
+use rate_types::{Fault, Millis, Place, Refused, Text, Unit, read_duration};
 use serde_json::{Map, Value};
 
 /// What stands in an object for a field, with the spelling that stands there.
@@ -247,9 +245,7 @@ impl Fields {
         };
         match read_duration(&text) {
             Ok(millis) => Ok(Some(millis)),
-            Err(DurationFault::Bad) => Err(self.refused(spelling, BAD_DURATION)),
-            Err(DurationFault::TooFine) => Err(self.refused(spelling, TOO_FINE)),
-            Err(DurationFault::TooLong) => Err(self.refused(spelling, DURATION_TOO_LONG)),
+            Err(fault) => Err(self.refused(spelling, duration_refusal(fault))),
         }
     }
 

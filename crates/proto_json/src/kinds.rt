@@ -4,8 +4,10 @@ ghost use Rattle.serde_json.specs.Find.{as_str, as_array, as_object};
 ghost use Rattle.serde_json.specs.View.{view, items_view, members_view, number_view};
 ghost use Rattle.proto_json.specs.Kinds as kinds;
 
-use rate_types::refusals::{NUMBER_FORM, NUMBER_RANGE, UNKNOWN_NAME, WRONG_KIND};
-use rate_types::{Unit, is_numeral};
+use rate_types::refusals::{
+    BAD_DURATION, DURATION_TOO_LONG, NUMBER_FORM, NUMBER_RANGE, TOO_FINE, UNKNOWN_NAME, WRONG_KIND,
+};
+use rate_types::{DurationFault, Unit, is_numeral};
 use serde_json::{Map, Number, Value};
 
 /// The most digits of a whole number that is a text.
@@ -109,5 +111,16 @@ pub fn unit_named(name: &str) -> Result<Option<Unit>, u32>
         Ok(None)
     } else {
         Err(UNKNOWN_NAME)
+    }
+}
+
+/// The refusal of a text that is no duration.
+pub fn duration_refusal(fault: DurationFault) -> u32
+    ensures { result ≡ kinds.refusal_of fault }
+{
+    match fault {
+        DurationFault::Bad => BAD_DURATION,
+        DurationFault::TooFine => TOO_FINE,
+        DurationFault::TooLong => DURATION_TOO_LONG,
     }
 }

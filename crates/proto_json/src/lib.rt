@@ -20,6 +20,7 @@
 #![tactic(auto)]
 
 mod bytes;
+mod durations;
 mod fault;
 mod field_name;
 mod fields;
@@ -30,6 +31,7 @@ mod placed;
 mod texts;
 
 pub use bytes::parse;
+pub use durations::read_duration;
 pub use fault::FormFault;
 pub use field_name::FieldName;
 pub use fields::Fields;
