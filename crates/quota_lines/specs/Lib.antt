@@ -1,0 +1,5 @@
+pub mod FieldNames
+pub mod Actions
+pub mod ReadAction
+pub mod ReadEvent
+pub mod Line
