@@ -1,6 +1,6 @@
 -- The fields of a stream line, each by its two spellings.
 use Rattle.proto_json.specs.Fields.{Name, spelled}
-use Rattle.quota_stream.specs.declared.field_names.TheConstants as spellings
+use Rattle.quota_lines.specs.declared.field_names.TheConstants as spellings
 
 abbrev pub at : Name
 at = spelled spellings.AT

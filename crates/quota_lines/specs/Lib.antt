@@ -2,4 +2,5 @@ pub mod FieldNames
 pub mod Actions
 pub mod ReadAction
 pub mod ReadEvent
+pub mod EventFields
 pub mod Line

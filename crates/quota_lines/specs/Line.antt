@@ -6,34 +6,42 @@ use Rattle.proto_json.specs.Said.{Said, says, refuses, ◌>>=◌}
 use Rattle.proto_json.specs.Fields.{Object, Placed, take, ends}
 use Rattle.proto_json.specs.Kinds as kinds
 use Rattle.proto_json.specs.Document.{document}
-use Rattle.quota_stream.specs.FieldNames as names
-use Rattle.quota_stream.specs.ReadEvent as events
-use Rattle.quota_stream.specs.declared.stream_line.StreamEvent.{StreamEvent}
-use Rattle.quota_stream.specs.declared.stream_line.StreamEvent.TheVariants.{Passes}
-use Rattle.quota_stream.specs.declared.stream_line.StreamLine.{StreamLine}
+use Rattle.quota_lines.specs.FieldNames as names
+use Rattle.quota_lines.specs.EventFields.{EventFields}
+use Rattle.quota_lines.specs.ReadEvent as events
+use Rattle.quota_lines.specs.declared.stream_line.StreamEvent.{StreamEvent}
+use Rattle.quota_lines.specs.declared.stream_line.StreamEvent.TheVariants.{Passes}
+use Rattle.quota_lines.specs.declared.stream_line.StreamLine.{StreamLine}
+
+-- whether more than one of three is there
+abbrev are_two : Option Placed → Option Placed → Option Placed → Bool
+are_two None None connection = false
+are_two (Some request) None None = false
+are_two None (Some response) None = false
+are_two request response connection = true
 
 -- whether more than one of the three events is there
-unfoldable pub has_two_events : Option Placed → Option Placed → Option Placed → Bool
-has_two_events None None connection = false
-has_two_events (Some request) None None = false
-has_two_events None (Some response) None = false
-has_two_events request response connection = true
+unfoldable pub has_two_events : EventFields → Bool
+has_two_events e = are_two e.request e.response e.connection
 
 -- at most one of the three events is there, else 28 TwoEvents
-unfoldable pub one_event : List ℕ → Option Placed → Option Placed → Option Placed → Said (Option (List ℕ))
-one_event place request response connection =
-    if has_two_events request response connection then refuses TWO_EVENTS place else says (Some place)
+unfoldable pub one_event : List ℕ → EventFields → Said (Option (List ℕ))
+one_event place e = if has_two_events e then refuses TWO_EVENTS place else says (Some place)
 
 -- the moment that a value of a line says
 abbrev pub moment_in : Placed → Said (Option ℕ)
 moment_in v = kinds.duration v.place v.value
 
--- the event that is there, of the values of the three; where none is there, time passes
-unfoldable pub event_in : Option Placed → Option Placed → Option Placed → Said (Option StreamEvent)
-event_in (Some v) response connection = events.request v.place v.value
-event_in None (Some v) connection = events.response v.place v.value
-event_in None None (Some v) = events.connection v.place v.value
-event_in None None None = says (Some Passes)
+-- what the one of three that is there says; where none is there, time passes
+abbrev one_of : Option Placed → Option Placed → Option Placed → Said (Option StreamEvent)
+one_of (Some v) response connection = events.request v.place v.value
+one_of None (Some v) connection = events.response v.place v.value
+one_of None None (Some v) = events.connection v.place v.value
+one_of None None None = says (Some Passes)
+
+-- the event that is there
+unfoldable pub event_in : EventFields → Said (Option StreamEvent)
+event_in e = one_of e.request e.response e.connection
 
 -- the line of a moment and an event, where both are there
 abbrev pub line_at : Option ℕ → Option StreamEvent → Option StreamLine
@@ -41,32 +49,33 @@ line_at (Some at) (Some event) = Some (record { at = at; event = event })
 line_at at event = None
 
 -- the values of a line's fields in order
-unfoldable pub line_of : Option Placed → Option Placed → Option Placed → Option Placed → Said (Option StreamLine)
-line_of at request response connection = do
+unfoldable pub line_of : Option Placed → EventFields → Said (Option StreamLine)
+line_of at e = do
   moment ← kinds.read_some moment_in at
-  event ← event_in request response connection
+  event ← event_in e
   says (line_at moment event)
 
 -- a line's own rules, 28 TwoEvents and 36 NoTime, and then the values of its fields
-unfoldable pub line_rules : List ℕ → Option Placed → Option Placed → Option Placed → Option Placed → Said (Option StreamLine)
-line_rules place at request response connection = do
-  one ← one_event place request response connection
+unfoldable pub line_rules : List ℕ → Option Placed → EventFields → Said (Option StreamLine)
+line_rules place at e = do
+  one ← one_event place e
   moment ← kinds.wanted NO_TIME place at
-  line_of moment request response connection
+  line_of moment e
 
--- the last of the three events, taken unread, and no other field; then the own rules, and then what the fields say
-unfoldable pub after_response : Option Placed → Option Placed → Option Placed → Object → Said (Option StreamLine)
-after_response at request response o = do
-  connection ← take kinds.any names.connection o
-  place ← ends connection.1
-  line_rules place at request response connection.0
-
--- the first two of the three events, taken unread, and what comes after them
-unfoldable pub after_moment : Option Placed → Object → Said (Option StreamLine)
-after_moment at o = do
+-- the three events, taken unread, and the other fields
+unfoldable pub take_events : Object → Said (EventFields × Object)
+take_events o = do
   request ← take kinds.any names.request o
   response ← take kinds.any names.response request.1
-  after_response at request.0 response.0 response.1
+  connection ← take kinds.any names.connection response.1
+  says (record { request = request.0; response = response.0; connection = connection.0 }, connection.1)
+
+-- the three events and no other field; then the own rules, and then what the fields say
+unfoldable pub after_moment : Option Placed → Object → Said (Option StreamLine)
+after_moment at o = do
+  e ← take_events o
+  place ← ends e.1
+  line_rules place at e.0
 
 -- A line: its moment, taken unread, and what comes after it.
 unfoldable pub line_in : Object → Said (Option StreamLine)

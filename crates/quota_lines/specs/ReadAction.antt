@@ -11,10 +11,10 @@ use Rattle.quota_settings.specs.declared.pair.Pair.{Pair}
 use Rattle.quota_settings_json.specs.ReadAttributes.{attributes}
 use Rattle.quota_settings_json.specs.ReadBehaviors.{empty}
 use Rattle.quota_settings_json.specs.ReadStrategy.{strategy, unless_zero}
-use Rattle.quota_stream.specs.FieldNames as names
-use Rattle.quota_stream.specs.Actions.{OneAction}
-use Rattle.quota_stream.specs.declared.quota_action.QuotaAction.{QuotaAction}
-use Rattle.quota_stream.specs.declared.quota_action.QuotaAction.TheVariants.{Assign, Abandon}
+use Rattle.quota_lines.specs.FieldNames as names
+use Rattle.quota_lines.specs.Actions.{OneAction}
+use Rattle.quota_lines.specs.declared.quota_action.QuotaAction.{QuotaAction}
+use Rattle.quota_lines.specs.declared.quota_action.QuotaAction.TheVariants.{Assign, Abandon}
 
 -- ---- the id of a bucket
 

@@ -9,12 +9,12 @@ use Rattle.proto_json.specs.Fields.{Object, take, ends}
 use Rattle.proto_json.specs.Kinds as kinds
 use Rattle.proto_json.specs.Lists.{each_item}
 use Rattle.quota_settings_json.specs.ReadAttributes.{attributes}
-use Rattle.quota_stream.specs.FieldNames as names
-use Rattle.quota_stream.specs.Actions.{OneAction}
-use Rattle.quota_stream.specs.ReadAction.{action}
-use Rattle.quota_stream.specs.declared.stream_line.Connection.TheVariants.{Lost, Up}
-use Rattle.quota_stream.specs.declared.stream_line.StreamEvent.{StreamEvent}
-use Rattle.quota_stream.specs.declared.stream_line.StreamEvent.TheVariants.{Request, Response, Connection}
+use Rattle.quota_lines.specs.FieldNames as names
+use Rattle.quota_lines.specs.Actions.{OneAction}
+use Rattle.quota_lines.specs.ReadAction.{action}
+use Rattle.quota_lines.specs.declared.stream_line.Connection.TheVariants.{Lost, Up}
+use Rattle.quota_lines.specs.declared.stream_line.StreamEvent.{StreamEvent}
+use Rattle.quota_lines.specs.declared.stream_line.StreamEvent.TheVariants.{Request, Response, Connection}
 
 -- a request's one field; where its attributes are absent it has none
 unfoldable pub request_in : Object → Said (Option StreamEvent)

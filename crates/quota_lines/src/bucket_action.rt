@@ -16,7 +16,7 @@ pub struct BucketAction {
 pub type BucketActions = Items<BucketAction>;
 
 impl Model for BucketAction {
-    ghost use Rattle.quota_stream.specs.Actions.{OneAction};
+    ghost use Rattle.quota_lines.specs.Actions.{OneAction};
 
     ghost Value = { OneAction };
 

@@ -10,6 +10,7 @@
 #![tactic(auto)]
 
 mod bucket_action;
+mod event_fields;
 mod field_names;
 mod quota_action;
 mod read_action;

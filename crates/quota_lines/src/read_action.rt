@@ -3,8 +3,8 @@ ghost use Rattle.serde_json.specs.View.{view};
 ghost use Rattle.proto_json.specs.Held.{object_of, Takes};
 ghost use Rattle.rate_types.specs.Reading.{AnswersReading};
 ghost use Rattle.proto_json.specs.Said.{reading_of};
-ghost use Rattle.quota_stream.specs.FieldNames as names;
-ghost use Rattle.quota_stream.specs.ReadAction as reading;
+ghost use Rattle.quota_lines.specs.FieldNames as names;
+ghost use Rattle.quota_lines.specs.ReadAction as reading;
 
 use crate::bucket_action::BucketAction;
 use crate::field_names::{
@@ -154,7 +154,7 @@ fn read_action(alloc: Global, value: Value, at: Place) -> Result<BucketAction, F
 pub struct ActionKind;
 
 impl Kind for ActionKind {
-    ghost use Rattle.quota_stream.specs.ReadAction.{action};
+    ghost use Rattle.quota_lines.specs.ReadAction.{action};
 
     type Read = BucketAction;
 

@@ -3,8 +3,8 @@ ghost use Rattle.serde_json.specs.View.{view};
 ghost use Rattle.proto_json.specs.Held.{object_of, Takes};
 ghost use Rattle.rate_types.specs.Reading.{AnswersReading};
 ghost use Rattle.proto_json.specs.Said.{reading_of};
-ghost use Rattle.quota_stream.specs.FieldNames as names;
-ghost use Rattle.quota_stream.specs.ReadEvent as reading;
+ghost use Rattle.quota_lines.specs.FieldNames as names;
+ghost use Rattle.quota_lines.specs.ReadEvent as reading;
 
 use crate::bucket_action::{BucketAction, BucketActions};
 use crate::field_names::{ATTRIBUTES, BUCKET_ACTION};

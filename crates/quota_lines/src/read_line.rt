@@ -4,8 +4,10 @@ ghost use Rattle.proto_json.specs.Held.{object_of, placed_of};
 ghost use Rattle.rate_types.specs.Reading.{AnswersReading};
 ghost use Rattle.proto_json.specs.Said.{reading_of};
 ghost use Rattle.proto_json.specs.Kinds as kinds;
-ghost use Rattle.quota_stream.specs.Line as reading;
+ghost use Rattle.quota_lines.specs.Line as reading;
+ghost use Rattle.quota_lines.specs.EventFields.{fields_of};
 
+use crate::event_fields::EventFields;
 use crate::field_names::{AT, CONNECTION, REQUEST, RESPONSE};
 use crate::read_event::{read_connection, read_request, read_response};
 use crate::stream_line::{StreamEvent, StreamLine};
@@ -17,16 +19,11 @@ use std::alloc::Global;
 
 // Whether more than one of the three events is there.
 #[tactic(auto, unfolding(crate::specs::Line::has_two_events))]
-fn has_two_events(
-    request: &Option<Placed>,
-    response: &Option<Placed>,
-    connection: &Option<Placed>,
-) -> bool
-    ensures { result ≡ reading.has_two_events (option_map placed_of request.now)
-        (option_map placed_of response.now) (option_map placed_of connection.now) }
+fn has_two_events(events: &EventFields) -> bool
+    ensures { result ≡ reading.has_two_events (fields_of events.now) }
 {
     !matches!(
-        (request, response, connection),
+        (&events.request, &events.response, &events.connection),
         (None, None, _) | (Some(_), None, None) | (None, Some(_), None)
     )
 }
@@ -47,16 +44,10 @@ fn moment_of(place: Place, at: Option<Placed>) -> Result<Placed, FormFault>
 
 // The event that is there, of the values of the three.
 #[tactic(auto, unfolding(crate::specs::Line::event_in))]
-fn event_of(
-    alloc: Global,
-    request: Option<Placed>,
-    response: Option<Placed>,
-    connection: Option<Placed>,
-) -> Result<StreamEvent, FormFault>
-    ensures { AnswersReading (λ e. Some e) result (reading_of (reading.event_in
-        (option_map placed_of request) (option_map placed_of response) (option_map placed_of connection))) }
+fn event_of(alloc: Global, events: EventFields) -> Result<StreamEvent, FormFault>
+    ensures { AnswersReading (λ e. Some e) result (reading_of (reading.event_in (fields_of events))) }
 {
-    match (request, response, connection) {
+    match (events.request, events.response, events.connection) {
         (Some(request), _, _) => read_request(alloc, request),
         (None, Some(response), _) => read_response(alloc, response),
         (None, None, Some(connection)) => read_connection(connection),
@@ -66,18 +57,11 @@ fn event_of(
 
 // The line of its fields' values.
 #[tactic(auto, using(proto_json::specs::Laws::reading_then), unfolding(crate::specs::Line::line_of))]
-fn line_of(
-    alloc: Global,
-    at: Placed,
-    request: Option<Placed>,
-    response: Option<Placed>,
-    connection: Option<Placed>,
-) -> Result<StreamLine, FormFault>
-    ensures { AnswersReading (λ l. Some l) result (reading_of (reading.line_of (Some (placed_of at))
-        (option_map placed_of request) (option_map placed_of response) (option_map placed_of connection))) }
+fn line_of(alloc: Global, at: Placed, events: EventFields) -> Result<StreamLine, FormFault>
+    ensures { AnswersReading (λ l. Some l) result (reading_of (reading.line_of (Some (placed_of at)) (fields_of events))) }
 {
     let at = read_duration(at.value, at.place)?;
-    let event = event_of(alloc, request, response, connection)?;
+    let event = event_of(alloc, events)?;
     Ok(StreamLine { at, event })
 }
 
@@ -87,41 +71,36 @@ fn lawful_line(
     alloc: Global,
     place: Place,
     at: Option<Placed>,
-    request: Option<Placed>,
-    response: Option<Placed>,
-    connection: Option<Placed>,
+    events: EventFields,
 ) -> Result<StreamLine, FormFault>
-    ensures { AnswersReading (λ l. Some l) result (reading_of (reading.line_rules place
-        (option_map placed_of at) (option_map placed_of request)
-        (option_map placed_of response) (option_map placed_of connection))) }
+    ensures { AnswersReading (λ l. Some l) result
+        (reading_of (reading.line_rules place (option_map placed_of at) (fields_of events))) }
 {
-    if has_two_events(&request, &response, &connection) {
+    if has_two_events(&events) {
         return Err(FormFault::Refused(Refused {
             at: place,
             number: TWO_EVENTS,
         }));
     }
     let at = moment_of(place, at)?;
-    let line = line_of(alloc, at, request, response, connection)?;
+    let line = line_of(alloc, at, events)?;
     Ok(line)
 }
 
-// The line of this moment, these events and the other fields.
-#[tactic(auto, using(proto_json::specs::Laws::reading_then), unfolding(crate::specs::Line::after_response))]
-fn after_response(
-    alloc: Global,
-    at: Option<Placed>,
-    request: Option<Placed>,
-    response: Option<Placed>,
-    mut fields: Fields,
-) -> Result<StreamLine, FormFault>
-    ensures { AnswersReading (λ l. Some l) result (reading_of (reading.after_response
-        (option_map placed_of at) (option_map placed_of request) (option_map placed_of response) (object_of fields))) }
+// Takes the three events, unread.
+#[tactic(auto, using(proto_json::specs::Laws::reading_then), unfolding(crate::specs::Line::take_events))]
+fn take_events(fields: &mut Fields) -> Result<EventFields, FormFault>
+    ensures { AnswersReading (λ e. (fields_of e, object_of fields.new)) result
+        (reading_of (reading.take_events (object_of fields.old))) }
 {
+    let request = fields.take_value(REQUEST)?;
+    let response = fields.take_value(RESPONSE)?;
     let connection = fields.take_value(CONNECTION)?;
-    let place = fields.end()?;
-    let line = lawful_line(alloc, place, at, request, response, connection)?;
-    Ok(line)
+    Ok(EventFields {
+        request,
+        response,
+        connection,
+    })
 }
 
 // The line of this moment and of the other fields.
@@ -134,9 +113,9 @@ fn after_moment(
     ensures { AnswersReading (λ l. Some l) result
         (reading_of (reading.after_moment (option_map placed_of at) (object_of fields))) }
 {
-    let request = fields.take_value(REQUEST)?;
-    let response = fields.take_value(RESPONSE)?;
-    let line = after_response(alloc, at, request, response, fields)?;
+    let events = take_events(&mut fields)?;
+    let place = fields.end()?;
+    let line = lawful_line(alloc, place, at, events)?;
     Ok(line)
 }
 
