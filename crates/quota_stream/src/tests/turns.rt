@@ -20,11 +20,11 @@ fn a_turn_is_64_lines(rt: HostRuntime) -> Result<(), Fail> {
         let text = passing(alloc, count)?;
         let settings = settings_with(alloc, r#","reportingInterval":"5s""#)?;
         let mut task = StreamTask::new(alloc, settings, 0, text.as_bytes());
-        let mut found = 0;
+        let mut found: u32 = 0;
         for _ in 0..4 {
             if !task.is_ended() {
                 task.turn();
-                found += 1;
+                found = found.saturating_add(1);
             }
         }
         assert_eq!(rt; found, turns, "{count} lines");
