@@ -12,7 +12,7 @@ use crate::table::Table;
 use http_server::Log;
 use quota_bucket::{BucketRules, BucketState, Strategy, Usage};
 use quota_settings::{Attributes, BucketId, Settings};
-use rate_types::{Millis, OutOfMemory};
+use rate_types::{Millis, OutOfMemory, Text};
 use std::alloc::Global;
 use std::marker::Model;
 
@@ -59,6 +59,13 @@ impl Buckets {
         }
     }
 
+    /// The domain that each report carries.
+    pub fn domain(&self) -> &Text
+        ensures { result.now ≡ self.now.settings.domain }
+    {
+        self.settings.domain()
+    }
+
     /// Brings the stream to a moment, and gives the reports that it sends on the way, in their order. A moment before the
     /// present time is refused with TimeBack.
     pub fn advance(&mut self, at: Millis) -> Result<Reports, AdvanceFault>
@@ -100,11 +107,13 @@ impl Buckets {
     }
 
     /// Decides and counts a request, whose bucket is made where it isn't there. A request that no settings fit is allowed
-    /// and has no bucket. A bucket that is made sends its first report at once, while the stream is up.
+    /// and has no bucket. A bucket that is made sends its first report at once, while the stream is up. No effect of a bucket
+    /// has then allowed more than its strategy's number.
     pub fn request(&mut self, attributes: &Attributes) -> Result<Decided, OutOfMemory>
         ensures err { OnErr result (self.new ≡ self.old) }
         ensures counted { OnOk result (self.new ≡ requested attributes.now self.old) }
         ensures decision { IfOk result (λ decided. decided ≡ decision attributes.now self.old) }
+        ensures allowance { OnOk result (KeepAllowance self.new) }
     {
         let Some(settings) = self.settings.covering(attributes) else {
             return Ok(Decided {

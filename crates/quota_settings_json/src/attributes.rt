@@ -1,13 +1,11 @@
 ghost use Rattle.std.specs.Prelude.{Some};
 ghost use Rattle.serde_json.specs.View.{view};
-ghost use Rattle.proto_json.specs.Held.{object_of, Takes};
+ghost use Rattle.proto_json.specs.Held.{name_of, object_of, Takes};
 ghost use Rattle.rate_types.specs.Reading.{AnswersReading};
 ghost use Rattle.proto_json.specs.Said.{reading_of};
-ghost use Rattle.quota_settings_json.specs.FieldNames as names;
 ghost use Rattle.quota_settings_json.specs.ReadAttributes as reading;
 
-use crate::field_names::MATCHES;
-use proto_json::{Fields, FormFault, NamedMember, ShortText, read_members};
+use proto_json::{FieldName, Fields, FormFault, NamedMember, ShortText, read_members};
 use quota_settings::{Attributes, Pair};
 use rate_types::{Place, Text};
 use serde_json::Value;
@@ -45,13 +43,17 @@ fn attributes_in(alloc: Global, object: Fields) -> Result<Attributes, FormFault>
     Ok(Attributes::sorted(pairs))
 }
 
-/// Takes the attributes that a bucket's settings match.
+/// Takes a field that is an object of texts: its attributes, refused as `read_attributes` says.
 #[tactic(auto, using(proto_json::specs::Laws::take_and_read))]
-pub fn take_match(alloc: Global, fields: &mut Fields) -> Result<Option<Attributes>, FormFault>
-    ensures { Takes (λ o. o) reading.attributes names.matches
+pub fn take_attributes(
+    alloc: Global,
+    fields: &mut Fields,
+    field: FieldName,
+) -> Result<Option<Attributes>, FormFault>
+    ensures { Takes (λ o. o) reading.attributes (name_of field.entry.0.now field.entry.1.now)
         (object_of fields.old) result (object_of fields.new) }
 {
-    match fields.take_fields(MATCHES)? {
+    match fields.take_fields(field)? {
         Some(object) => {
             let attributes = attributes_in(alloc, object)?;
             Ok(Some(attributes))

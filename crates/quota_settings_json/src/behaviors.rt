@@ -1,5 +1,5 @@
 ghost use Rattle.std.specs.Prelude.{◌≡◌, Some};
-ghost use Rattle.proto_json.specs.Held.{object_of, Takes};
+ghost use Rattle.proto_json.specs.Held.{name_of, object_of, Takes};
 ghost use Rattle.rate_types.specs.Reading.{AnswersReading};
 ghost use Rattle.proto_json.specs.Said.{reading_of};
 ghost use Rattle.quota_settings_json.specs.FieldNames as names;
@@ -7,10 +7,11 @@ ghost use Rattle.quota_settings_json.specs.ReadBehaviors as reading;
 
 use crate::expiry::Expiry;
 use crate::field_names::{
-    EXPIRED_ASSIGNMENT_BEHAVIOR, EXPIRED_TIMEOUT, NO_ASSIGNMENT_BEHAVIOR, REUSE_LAST_ASSIGNMENT,
+    EXPIRED_ASSIGNMENT_BEHAVIOR, EXPIRED_TIMEOUT, FALLBACK_RATE_LIMIT, NO_ASSIGNMENT_BEHAVIOR,
+    REUSE_LAST_ASSIGNMENT,
 };
-use crate::strategies::take_fallback;
-use proto_json::{Fields, FormFault};
+use crate::strategies::take_strategy;
+use proto_json::{FieldName, Fields, FormFault};
 use quota_bucket::{AtExpiry, Strategy};
 use rate_types::refusals::{TIMEOUT_ZERO, TWO_OF_ONE};
 use rate_types::{Millis, Place, Refused};
@@ -20,7 +21,7 @@ use rate_types::{Millis, Place, Refused};
 fn unassigned_in(mut fields: Fields) -> Result<Strategy, FormFault>
     ensures { AnswersReading (λ s. Some s) result (reading_of (reading.unassigned_in (object_of fields))) }
 {
-    let fallback = take_fallback(&mut fields)?;
+    let fallback = take_strategy(&mut fields, FALLBACK_RATE_LIMIT)?;
     let _ = fields.end()?;
     Ok(fallback.unwrap_or(Strategy::AllowAll))
 }
@@ -49,15 +50,16 @@ fn read_empty(fields: Fields) -> Result<Place, FormFault>
     Ok(place)
 }
 
-// Takes the object that asks for reuse of the last assignment.
+/// Takes a field that is an object without fields: its place. Another value than an object is refused with 2 NotObject,
+/// a field in it with 3 UnknownField.
 #[tactic(auto, using(proto_json::specs::Laws::take_and_read))]
-fn take_reuse(fields: &mut Fields) -> Result<Option<Place>, FormFault>
-    ensures { Takes (λ o. o) reading.empty names.reuse_last_assignment
+pub fn take_empty(fields: &mut Fields, field: FieldName) -> Result<Option<Place>, FormFault>
+    ensures { Takes (λ o. o) reading.empty (name_of field.entry.0.now field.entry.1.now)
         (object_of fields.old) result (object_of fields.new) }
 {
-    match fields.take_fields(REUSE_LAST_ASSIGNMENT)? {
-        Some(reuse) => {
-            let place = read_empty(reuse)?;
+    match fields.take_fields(field)? {
+        Some(object) => {
+            let place = read_empty(object)?;
             Ok(Some(place))
         }
         None => Ok(None),
@@ -117,8 +119,8 @@ fn expiry_in(mut fields: Fields) -> Result<Expiry, FormFault>
     ensures { AnswersReading (λ e. Some e) result (reading_of (reading.expiry_in (object_of fields))) }
 {
     let timeout = fields.take_duration(EXPIRED_TIMEOUT)?;
-    let fallback = take_fallback(&mut fields)?;
-    let reuse = take_reuse(&mut fields)?;
+    let fallback = take_strategy(&mut fields, FALLBACK_RATE_LIMIT)?;
+    let reuse = take_empty(&mut fields, REUSE_LAST_ASSIGNMENT)?;
     let at = fields.end()?;
     let expiry = expiry_of(at, timeout, fallback, reuse)?;
     Ok(expiry)

@@ -2,6 +2,7 @@
 //!
 //! `read_settings`, `read_attributes` and `read_strategy` answer what the JSON spells, or the first of all its faults
 //! with its place and its number. `specs/Read*.antt` say what each object says, field by field, both spellings of each.
+//! `take_attributes`, `take_strategy` and `take_empty` take a field of this kind of another message.
 //!
 //! Limits: those of `proto_json`; a name has at most 32 parts.
 #![tactic(auto)]
@@ -16,9 +17,10 @@ mod read_parts;
 mod settings_file;
 mod strategies;
 
-pub use attributes::read_attributes;
+pub use attributes::{read_attributes, take_attributes};
+pub use behaviors::take_empty;
 pub use settings_file::read_settings;
-pub use strategies::read_strategy;
+pub use strategies::{read_strategy, take_strategy};
 
 #[cfg(test)]
 mod tests;

@@ -5,10 +5,10 @@ ghost use Rattle.rate_types.specs.Reading.{AnswersReading};
 ghost use Rattle.proto_json.specs.Said.{reading_of};
 ghost use Rattle.quota_settings_json.specs.ReadSettings as reading;
 
-use crate::attributes::take_match;
+use crate::attributes::take_attributes;
 use crate::behaviors::{take_expiry, take_unassigned};
 use crate::expiry::Expiry;
-use crate::field_names::REPORTING_INTERVAL;
+use crate::field_names::{MATCHES, REPORTING_INTERVAL};
 use crate::part_list::PartList;
 use crate::read_parts::take_builder;
 use proto_json::{Fields, FormFault, Kind};
@@ -76,7 +76,7 @@ fn bucket_of(
 fn bucket_in(alloc: Global, mut fields: Fields) -> Result<BucketSettings, FormFault>
     ensures { AnswersReading (λ s. Some s) result (reading_of (reading.bucket_in (object_of fields))) }
 {
-    let matches = take_match(alloc, &mut fields)?;
+    let matches = take_attributes(alloc, &mut fields, MATCHES)?;
     let parts = take_builder(alloc, &mut fields)?;
     let interval = fields.take_duration(REPORTING_INTERVAL)?;
     let unassigned = take_unassigned(&mut fields)?;

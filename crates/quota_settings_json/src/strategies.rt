@@ -1,16 +1,16 @@
 ghost use Rattle.std.specs.Prelude.{◌≡◌, Some, option_map, unwrap_or};
 ghost use Rattle.serde_json.specs.View.{view};
-ghost use Rattle.proto_json.specs.Held.{object_of, placed_of, Takes};
+ghost use Rattle.proto_json.specs.Held.{name_of, object_of, placed_of, Takes};
 ghost use Rattle.rate_types.specs.Reading.{AnswersReading};
 ghost use Rattle.proto_json.specs.Said.{reading_of};
 ghost use Rattle.quota_settings_json.specs.FieldNames as names;
 ghost use Rattle.quota_settings_json.specs.ReadStrategy as reading;
 
 use crate::field_names::{
-    BLANKET_RULE, FALLBACK_RATE_LIMIT, FILL_INTERVAL, MAX_TOKENS, REQUESTS_PER_TIME_UNIT,
-    TIME_UNIT, TOKEN_BUCKET, TOKENS_PER_FILL,
+    BLANKET_RULE, FILL_INTERVAL, MAX_TOKENS, REQUESTS_PER_TIME_UNIT, TIME_UNIT, TOKEN_BUCKET,
+    TOKENS_PER_FILL,
 };
-use proto_json::{Fields, FormFault, Placed};
+use proto_json::{FieldName, Fields, FormFault, Placed};
 use quota_bucket::Strategy;
 use rate_types::refusals::{
     FILL_ZERO, NO_FILL, NO_TOKENS, TWO_OF_ONE, UNIT_MISSING, UNKNOWN_NAME, WRONG_KIND,
@@ -210,15 +210,15 @@ pub fn read_strategy(value: Value, place: Place) -> Result<Strategy, FormFault>
     Ok(strategy)
 }
 
-/// Takes the strategy of a behaviour.
+/// Takes a field that is a strategy, refused as `read_strategy` says.
 #[tactic(auto, using(proto_json::specs::Laws::take_and_read))]
-pub fn take_fallback(fields: &mut Fields) -> Result<Option<Strategy>, FormFault>
-    ensures { Takes (λ o. o) reading.strategy names.fallback_rate_limit
+pub fn take_strategy(fields: &mut Fields, field: FieldName) -> Result<Option<Strategy>, FormFault>
+    ensures { Takes (λ o. o) reading.strategy (name_of field.entry.0.now field.entry.1.now)
         (object_of fields.old) result (object_of fields.new) }
 {
-    match fields.take_fields(FALLBACK_RATE_LIMIT)? {
-        Some(fallback) => {
-            let strategy = strategy_of(fallback)?;
+    match fields.take_fields(field)? {
+        Some(object) => {
+            let strategy = strategy_of(object)?;
             Ok(Some(strategy))
         }
         None => Ok(None),

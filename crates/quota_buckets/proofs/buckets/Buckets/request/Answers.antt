@@ -5,7 +5,7 @@ use Rattle.quota_buckets.specs.Streams.{new_stream, answer, asked_again, made_no
 use Rattle.quota_buckets.specs.Calls.{stream_of}
 use Rattle.quota_buckets.specs.Tables.{Stored, Table, stored_asked, stored_answer}
 use Rattle.quota_buckets.specs.declared.call.Call.TheVariants.{Request}
-use Rattle.quota_buckets.proofs.Holding.{call_more, ask_held, ask_told, absent, made_held, made_told, asked_again_is, made_is}
+use Rattle.quota_buckets.proofs.Holding.{call_more, ask_held, ask_told, absent, made_held, made_told, asked_again_is, made_is, allowance_held}
 use Rattle.quota_buckets.proofs.buckets.Buckets.request.Goals as goal
 
 pub invariant_of-self : goal.invariant_of-self
@@ -100,3 +100,18 @@ returns-clause-decision c =
     c.in_ok-id.ensures c.rules-rules.ensures told in
     rw (← c.self.view_is) (made_told settings c.self.inside.up table s id c.rules-rules.result c.in_ok-first.first.allowed c.in_ok-first.first.report
     c.self.invariant (rw same at c.in_ok-first.ensures.allowed) (rw same at c.in_ok-first.ensures.report) ∙ sym made.decision)
+
+pub returns-in-Some-ask-clause-allowance : goal.returns-in-Some-ask-clause-allowance
+returns-in-Some-ask-clause-allowance c =
+    allowance_held c.self.inside.settings c.self.inside.up c.ask.new.self (stream_of c.self.inside.settings c.and-self-inside.result.items)
+    (invariant_of-self c)
+
+pub returns-clause-allowance : goal.returns-clause-allowance
+returns-clause-allowance c =
+    allowance_held c.self.inside.settings c.self.inside.up c.ask_first.new.table (stream_of c.self.inside.settings c.and-self-inside-2.result.items)
+    (invariant_of-self-2 c)
+
+pub returns-in_default-clause-allowance : goal.returns-in_default-clause-allowance
+returns-in_default-clause-allowance c =
+    rw (← c.self.view_is) (allowance_held c.self.inside.settings c.self.inside.up c.self.inside.table
+    (stream_of c.self.inside.settings c.self.inside.calls.items) c.self.invariant)

@@ -1,0 +1,4 @@
+pub mod Cutting
+pub mod Steps
+pub mod Tasking
+pub mod Working

@@ -1,0 +1,5 @@
+pub mod Texts
+pub mod Outcomes
+pub mod Output
+pub mod Tasks
+pub mod Runs
