@@ -100,7 +100,8 @@ module _ (a : Setup) (id : ℕ) (v : CellView) where
       rule = rule_as a hold.0 (gate_of s.words) (count_of s.words) s.views (set s.views id (without_newest v) ++ held_note v ∷ []) hold.3 (λ j. sum (pins_on j) (omega arith))
           (λ j. let x = sum (small_on j) (omega arith) in omega arith) (λ f. sum (λ (x : CellView). total f x.charges) (omega arith))
           (λ f. sum (λ (x : CellView). total f x.looks) (omega arith)) (λ f. sum (λ (x : CellView). total f x.pairs) (omega arith))
-          (each_snoc (λ x. ViewFits hold.0 (count_of s.words) x × ViewLawful (set s.views id (without_newest v) ++ held_note v ∷ []) x) (set s.views id (without_newest v)) (held_note v)
+          (each_snoc (λ x. ViewFits hold.0 (count_of s.words) x × ViewLawful (set s.views id (without_newest v) ++ held_note v ∷ []) x) (set s.views id (without_newest v))
+          (held_note v)
           (each_set (λ x. ViewFits hold.0 (count_of s.words) x × ViewLawful (set s.views id (without_newest v) ++ held_note v ∷ []) x) s.views id (without_newest v)
           (λ j x _ e. (hold.3.each j x e, law x (hold.3.lawful j x e)))
           (mine, (let l = law v (hold.3.lawful id v at) in record { charges = l.charges; looks = l.looks })))
@@ -117,7 +118,8 @@ module _ (a : Setup) (id : ℕ) (v : CellView) where
             top = ⊎_elim inl (λ o. inr (let x = sum (offers (slice_index s.words 0)) (omega arith) in omega arith)) c.top;
             each = each_snoc (TicksFit a.start (slice_index s.words 0) (λ i m. total (other_offers i m) (set s.views id (without_newest v) ++ held_note v ∷ [])))
                 (set s.views id (without_newest v)) (held_note v)
-                (each_set (TicksFit a.start (slice_index s.words 0) (λ i m. total (other_offers i m) (set s.views id (without_newest v) ++ held_note v ∷ []))) s.views id (without_newest v)
+                (each_set (TicksFit a.start (slice_index s.words 0) (λ i m. total (other_offers i m) (set s.views id (without_newest v) ++ held_note v ∷ []))) s.views id
+                (without_newest v)
                 (λ j x _ e. old j x e)
                 (let f = old id v at in record { moment = f.moment; last = f.last; offers = f.offers; numbers = f.numbers; sourced = f.sourced }))
                 (record { moment = omega arith; last = λ z. absurd (omega arith); offers = tt; numbers = tt; sourced = tt });
@@ -125,7 +127,8 @@ module _ (a : Setup) (id : ℕ) (v : CellView) where
                 let x = sum (λ (x : CellView). times i x.numbers + one_if (ltb i x.unmade)) (omega arith) in omega arith;
           }
         where
-          old : (j : ℕ) (u : CellView) → get_elem? s.views j ≡ some u → TicksFit a.start (slice_index s.words 0) (λ i m. total (other_offers i m) (set s.views id (without_newest v) ++ held_note v ∷ [])) u
+          old : (j : ℕ) (u : CellView) → get_elem? s.views j ≡ some u → TicksFit a.start (slice_index s.words 0) (λ i m. total (other_offers i m) (set s.views id
+              (without_newest v) ++ held_note v ∷ [])) u
           old j u e =
               let f = hold.4.each j u e in
               record {
@@ -133,7 +136,8 @@ module _ (a : Setup) (id : ℕ) (v : CellView) where
                 last = f.last;
                 offers = f.offers;
                 numbers = f.numbers;
-                sourced = sourced_more a.start (λ i m. total (other_offers i m) s.views) (λ i m. total (other_offers i m) (set s.views id (without_newest v) ++ held_note v ∷ [])) [] u.ticks
+                sourced = sourced_more a.start (λ i m. total (other_offers i m) s.views) (λ i m. total (other_offers i m) (set s.views id
+                    (without_newest v) ++ held_note v ∷ [])) [] u.ticks
                     (λ i m. let x = sum (other_offers i m) (omega arith) in omega arith) f.sourced;
               }
 
@@ -150,13 +154,15 @@ module _ (a : Setup) (id : ℕ) (v : CellView) where
                 (λ k o. absurd (omega arith));
             held = each_snoc (λ x. (k : ℕ) → 1 ≤ held_on k x → (k < a.cells) × (1 ≤ total (noted_on k) (set s.views id (without_newest v) ++ held_note v ∷ [])))
                 (set s.views id (without_newest v)) (held_note v)
-                (each_set (λ x. (k : ℕ) → 1 ≤ held_on k x → (k < a.cells) × (1 ≤ total (noted_on k) (set s.views id (without_newest v) ++ held_note v ∷ []))) s.views id (without_newest v)
+                (each_set (λ x. (k : ℕ) → 1 ≤ held_on k x → (k < a.cells) × (1 ≤ total (noted_on k) (set s.views id (without_newest v) ++ held_note v ∷ []))) s.views id
+                (without_newest v)
                 (λ j x _ e k o. more k (f.held j x e k o)) (λ k o. more k (f.held id v at k (let q = p k in omega arith))))
                 (λ k o. more k (f.held id v at k (let q = p k in omega arith)));
             heard = each_snoc (λ x. x.heard ≤ slice_index s.words 0) (set s.views id (without_newest v)) (held_note v)
                 (each_set (λ x. x.heard ≤ slice_index s.words 0) s.views id (without_newest v) (λ j x _ e. f.heard j x e) (f.heard id v at)) (omega arith);
             idle = each_snoc (λ x. x.claimer ≡ false → length x.numbers ≡ 0 → (x.pairs ≡ []) × (x.others ≡ [])) (set s.views id (without_newest v)) (held_note v)
-                (each_set (λ x. x.claimer ≡ false → length x.numbers ≡ 0 → (x.pairs ≡ []) × (x.others ≡ [])) s.views id (without_newest v) (λ j x _ e. f.idle j x e) (f.idle id v at))
+                (each_set (λ x. x.claimer ≡ false → length x.numbers ≡ 0 → (x.pairs ≡ []) × (x.others ≡ [])) s.views id (without_newest v) (λ j x _ e. f.idle j x e)
+                (f.idle id v at))
                 (λ _ z. (refl, refl));
           }
 
@@ -212,7 +218,8 @@ module _ (a : Setup) (id other : ℕ) (v : CellView) (h : List (ℕ × ℕ)) whe
       rule = rule_as a hold.0 (gate_of s.words) (count_of s.words) s.views (set (set s.views id (told_held v w)) other empty_view) hold.3 (λ j. sum (pins_on j) (omega arith) refl)
           (λ j. let x = sum (small_on j) (omega arith) refl in omega arith) (λ f. sum (λ (x : CellView). total f x.charges) (omega arith) refl)
           (λ f. sum (λ (x : CellView). total f x.looks) (omega arith) refl) (λ f. sum (λ (x : CellView). total f x.pairs) (omega arith) refl)
-          (each_set (λ x. ViewFits hold.0 (count_of s.words) x × ViewLawful (set (set s.views id (told_held v w)) other empty_view) x) (set s.views id (told_held v w)) other empty_view
+          (each_set (λ x. ViewFits hold.0 (count_of s.words) x × ViewLawful (set (set s.views id (told_held v w)) other empty_view) x) (set s.views id
+          (told_held v w)) other empty_view
           (λ j x _ e. each_set (λ x'. ViewFits hold.0 (count_of s.words) x' × ViewLawful (set (set s.views id (told_held v w)) other empty_view) x') s.views id (told_held v w)
           (λ j' x' _ e'. (hold.3.each j' x' e', law x' (hold.3.lawful j' x' e')))
           (fits_mine, (let l = law v (hold.3.lawful id v at) in record { charges = l.charges; looks = l.looks })) j x e)
@@ -220,7 +227,8 @@ module _ (a : Setup) (id other : ℕ) (v : CellView) (h : List (ℕ × ℕ)) whe
           (sum (λ x. one_if x.claimer) (omega arith) refl)
           (sum (λ x. length x.numbers + x.unmade) (omega arith) refl)
 
-      old : (j : ℕ) (u : CellView) → get_elem? s.views j ≡ some u → TicksFit a.start (slice_index s.words 0) (λ i m. total (other_offers i m) (set (set s.views id (told_held v w)) other empty_view)) u
+      old : (j : ℕ) (u : CellView) → get_elem? s.views j ≡ some u → TicksFit a.start (slice_index s.words 0) (λ i m. total (other_offers i m) (set (set s.views id
+          (told_held v w)) other empty_view)) u
       old j u e =
           let f = hold.4.each j u e in
           record {
@@ -228,7 +236,8 @@ module _ (a : Setup) (id other : ℕ) (v : CellView) (h : List (ℕ × ℕ)) whe
             last = f.last;
             offers = f.offers;
             numbers = f.numbers;
-            sourced = sourced_more a.start (λ i m. total (other_offers i m) s.views) (λ i m. total (other_offers i m) (set (set s.views id (told_held v w)) other empty_view)) [] u.ticks
+            sourced = sourced_more a.start (λ i m. total (other_offers i m) s.views) (λ i m. total (other_offers i m) (set (set s.views id
+                (told_held v w)) other empty_view)) [] u.ticks
                 (λ i m. let x = sum (other_offers i m) (omega arith) refl in omega arith) f.sourced;
           }
 
@@ -239,8 +248,10 @@ module _ (a : Setup) (id other : ℕ) (v : CellView) (h : List (ℕ × ℕ)) whe
             least = c.least;
             most = c.most;
             top = ⊎_elim inl (λ o. inr (let x = sum (offers (slice_index s.words 0)) (omega arith) refl in omega arith)) c.top;
-            each = each_set (TicksFit a.start (slice_index s.words 0) (λ i m. total (other_offers i m) (set (set s.views id (told_held v w)) other empty_view))) (set s.views id (told_held v w)) other empty_view
-                (λ j x _ e. each_set (TicksFit a.start (slice_index s.words 0) (λ i m. total (other_offers i m) (set (set s.views id (told_held v w)) other empty_view))) s.views id (told_held v w) (λ j' x' _ e'. old j' x' e')
+            each = each_set (TicksFit a.start (slice_index s.words 0) (λ i m. total (other_offers i m) (set (set s.views id (told_held v w)) other empty_view)))
+                (set s.views id (told_held v w)) other empty_view
+                (λ j x _ e. each_set (TicksFit a.start (slice_index s.words 0) (λ i m. total (other_offers i m) (set (set s.views id
+                (told_held v w)) other empty_view))) s.views id (told_held v w) (λ j' x' _ e'. old j' x' e')
                 (let f = old id v at in record { moment = f.moment; last = f.last; offers = f.offers; numbers = f.numbers; sourced = f.sourced }) j x e)
                 (record { moment = omega arith; last = λ z. absurd (omega arith); offers = tt; numbers = tt; sourced = tt });
             numbers = λ i. let o = c.numbers i in let q = below_no i 0 1 0 (omega arith) in
@@ -264,8 +275,10 @@ module _ (a : Setup) (id other : ℕ) (v : CellView) (h : List (ℕ × ℕ)) whe
             noted = each_set (λ x. (k : ℕ) → 1 ≤ pins_on k x → 1 ≤ noted_on k x) (set s.views id (told_held v w)) other empty_view
                 (λ j x _ e. each_set (λ x'. (k : ℕ) → 1 ≤ pins_on k x' → 1 ≤ noted_on k x') s.views id (told_held v w) (λ j' x' _ e'. f.noted j' x' e') (f.noted id v at) j x e)
                 (λ k o. absurd (omega arith));
-            held = each_set (λ x. (k : ℕ) → 1 ≤ held_on k x → (k < a.cells) × (1 ≤ total (noted_on k) (set (set s.views id (told_held v w)) other empty_view))) (set s.views id (told_held v w)) other empty_view
-                (λ j x _ e. each_set (λ x'. (k : ℕ) → 1 ≤ held_on k x' → (k < a.cells) × (1 ≤ total (noted_on k) (set (set s.views id (told_held v w)) other empty_view))) s.views id (told_held v w)
+            held = each_set (λ x. (k : ℕ) → 1 ≤ held_on k x → (k < a.cells) × (1 ≤ total (noted_on k) (set (set s.views id (told_held v w)) other empty_view)))
+                (set s.views id (told_held v w)) other empty_view
+                (λ j x _ e. each_set (λ x'. (k : ℕ) → 1 ≤ held_on k x' → (k < a.cells) × (1 ≤ total (noted_on k) (set (set s.views id
+                (told_held v w)) other empty_view))) s.views id (told_held v w)
                 (λ j' x' _ e' k o. more k (f.held j' x' e' k o))
                 (λ k o. more k (⊎_elim (f.held id v at k) (f.held other w was k) (either_one (held_on k v) (held_on k w)
                 (let q = total_append (λ (y : ℕ × ℕ). one_if (y.0 == k)) v.held h in omega arith)))) j x e)

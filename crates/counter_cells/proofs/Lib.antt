@@ -22,4 +22,5 @@ pub mod Joining
 pub mod Handing
 pub mod Passes
 pub mod Making
+pub mod Shams
 pub mod Closing

@@ -85,7 +85,8 @@ begins a ws is few low = lawful a (opening ws [] (first_claimer a))
         used_claims = λ k s e es. absurd (off k s e es);
         small = λ k s e. let z = ap (λ (c : Cell). c.claim) (rep_at a.cells no_cell k s e) in omega arith;
       };
-      cells = λ k st e. subst (λ (c : Cell). CellFits a.passes c (gate_of (a.start ∷ replicate (8 * a.cells + 7) 0) k) (count_of (a.start ∷ replicate (8 * a.cells + 7) 0) k) 0 0 0 0 0 0)
+      cells = λ k st e. subst (λ (c : Cell). CellFits a.passes c (gate_of (a.start ∷ replicate (8 * a.cells + 7) 0) k) (count_of (a.start ∷ replicate
+          (8 * a.cells + 7) 0) k) 0 0 0 0 0 0)
           (rep_at a.cells no_cell k st e) (cell k);
       each = λ j v e. subst (ViewFits (record { cells = replicate a.cells no_cell; used_claims = [] }) (count_of (a.start ∷ replicate (8 * a.cells + 7) 0)))
           (one_view (first_claimer a) j v e) fits;

@@ -85,7 +85,8 @@ module _ (a : Setup) (t : Register) (ws : List ℕ) (k x : ℕ) (views : List Ce
   )
 
   pub on_gate : (homes : List ℕ) → Rule a t (gate_of (set ws (gate_at k) x)) (count_of ws) views → ClockIsGreatestOffer a (slice_index ws 0) views
-      → FindingsHaveCauses a (slice_index ws 0) views → (length (set ws (gate_at k) x) ≡ 8 * length t.cells + 8) × (length t.cells ≡ a.cells) × Rule a t (gate_of (set ws (gate_at k) x)) (count_of (set ws (gate_at k) x)) views
+      → FindingsHaveCauses a (slice_index ws 0) views → (length (set ws (gate_at k) x) ≡ 8 * length t.cells + 8) × (length t.cells ≡ a.cells) × Rule a t (gate_of (set ws
+      (gate_at k) x)) (count_of (set ws (gate_at k) x)) views
       × ClockIsGreatestOffer a (slice_index (set ws (gate_at k) x) 0) views × FindingsHaveCauses a (slice_index (set ws (gate_at k) x) 0) views
   on_gate homes r c f = (
     length-set ws (gate_at k) x ∙ long,
@@ -125,7 +126,8 @@ module _ (a : Setup) (slots id k : ℕ) (me : Me ℕ CellView) (within : k < a.c
       (count_here ws k new (omega (arith, hold.1, hold.2)) ∙ sum) (λ j ne. count_else ws k new j ne) in
       let clock = clock_same a (slice_index ws 0) s.views hold.4 id me.0 (charged k n h me.0) at (refl, refl, refl, refl, refl) in
       let after = on_count a t ws k new (set s.views id (charged k n h me.0)) hold.1 hold.2 [] rule clock
-      (findings_same a (slice_index ws 0) (slice_index ws 0) s.views hold.5 (omega arith) id me.0 (charged k n h me.0) at (refl, refl, refl, refl, refl, refl) (λ j. omega arith)) in (
+      (findings_same a (slice_index ws 0) (slice_index ws 0) s.views hold.5 (omega arith) id me.0 (charged k n h me.0) at (refl, refl, refl, refl, refl, refl)
+      (λ j. omega arith)) in (
         charged k n h me.0,
         keeps,
         tt,
@@ -200,8 +202,18 @@ module _ (a : Setup) (slots id k : ℕ) (me : Me ℕ CellView) (within : k < a.c
       (gate_here ws k new (omega (arith, hold.1, hold.2)) ∙ sum) (λ j ne. gate_else ws k new j ne) able c in
       let clock = clock_same a (slice_index ws 0) s.views hold.4 id me.0 (pinned c k n me.0) at (quiet (shows c n)) in
       let after = on_gate a t ws k new (set s.views id (pinned c k n me.0)) hold.1 hold.2 [] rule clock
-      (pin_noted a (slice_index ws 0) s.views hold.5 id me.0 at able.1 c k n) in
-      (pinned c k n me.0, keeps, tt, (t, after.0, after.1, after.2, after.3, after.4), (ap (λ (i : ℕ). pinned c i n me.0) gate_cell_is, refl, subst (λ i. OwnShown i me.0 n) gate_cell_is (own_shown s hold at)))
+      (pin_noted a (slice_index ws 0) s.views hold.5 id me.0 at able.1 c k n) in (
+        pinned c k n me.0,
+        keeps,
+        tt,
+        (t, after.0, after.1, after.2, after.3, after.4),
+        (
+          ap (λ (i : ℕ). pinned c i n me.0) gate_cell_is,
+          refl,
+          subst
+              (λ i. OwnShown i me.0 n) gate_cell_is (own_shown s hold at),
+        ),
+      )
     where
       quiet : (b : Bool) → let w = cond b (good_pin k c me.0) (stray_pin k (gate_of s.words k) me.0) in
           (w.ticks ≡ me.0.ticks) × (w.numbers ≡ me.0.numbers) × (w.moment ≡ me.0.moment) × (w.unmade ≡ me.0.unmade) × (w.claimer ≡ me.0.claimer)
@@ -223,7 +235,8 @@ module _ (a : Setup) (slots id k : ℕ) (me : Me ℕ CellView) (within : k < a.c
       (ap (λ i. i + 2) (gate_here ws k new (omega (arith, hold.1, hold.2))) ∙ sum) (λ j ne. gate_else ws k new j ne) pin in
       let clock = clock_same a (slice_index ws 0) s.views hold.4 id me.0 (unpinned k me.0) at (refl, refl, refl, refl, refl) in
       let after = on_gate a t ws k new (set s.views id (unpinned k me.0)) hold.1 hold.2 [] rule clock
-      (findings_same a (slice_index ws 0) (slice_index ws 0) s.views hold.5 (omega arith) id me.0 (unpinned k me.0) at (refl, refl, refl, refl, refl, refl) (λ j. let d = dropped_le j k me.0.good in omega arith)) in
+      (findings_same a (slice_index ws 0) (slice_index ws 0) s.views hold.5 (omega arith) id me.0 (unpinned k me.0) at (refl, refl, refl, refl, refl, refl)
+      (λ j. let d = dropped_le j k me.0.good in omega arith)) in
       (unpinned k me.0, keeps, tt, (t, after.0, after.1, after.2, after.3, after.4), (ap (λ (i : ℕ). unpinned i me.0) gate_cell_is, refl))
 
   pub unpins_stray : 1 ≤ total (λ j. one_if (j == k)) me.0.stray
@@ -241,7 +254,8 @@ module _ (a : Setup) (slots id k : ℕ) (me : Me ℕ CellView) (within : k < a.c
       (ap (λ i. i + 2) (gate_here ws k new (omega (arith, hold.1, hold.2))) ∙ sum) (λ j ne. gate_else ws k new j ne) pin in
       let clock = clock_same a (slice_index ws 0) s.views hold.4 id me.0 (stray_unpinned k me.0) at (refl, refl, refl, refl, refl) in
       let after = on_gate a t ws k new (set s.views id (stray_unpinned k me.0)) hold.1 hold.2 [] rule clock
-      (findings_same a (slice_index ws 0) (slice_index ws 0) s.views hold.5 (omega arith) id me.0 (stray_unpinned k me.0) at (refl, refl, refl, refl, refl, refl) (λ j. let d = dropped_stray_le j k me.0.stray in omega arith)) in
+      (findings_same a (slice_index ws 0) (slice_index ws 0) s.views hold.5 (omega arith) id me.0 (stray_unpinned k me.0) at (refl, refl, refl, refl, refl, refl)
+      (λ j. let d = dropped_stray_le j k me.0.stray in omega arith)) in
       (stray_unpinned k me.0, keeps, tt, (t, after.0, after.1, after.2, after.3, after.4), (ap (λ (i : ℕ). stray_unpinned i me.0) gate_cell_is, refl))
 
 -- the claimer's steps
@@ -349,7 +363,8 @@ module _ (a : Setup) (slots id k : ℕ) (me : Me ℕ CellView) (within : k < a.c
                 (refl, refl, refl, refl, refl)
                 (subst (λ (y : CellView). Rule a (record { cells = set t.cells k (taken_cell c); used_claims = c ∷ t.used_claims })
                 (gate_of (set ws (gate_at k) (gate_word c 0 0))) (count_of ws) (set s.views id y)) (sym is) rule)
-                (findings_same a (slice_index s.words 0) (slice_index s.words 0) s.views hold.5 (omega arith) id me.0 w at (refl, refl, refl, refl, refl, refl) (λ j. omega arith))),
+                (findings_same a (slice_index s.words 0) (slice_index s.words 0) s.views hold.5 (omega arith) id me.0 w at (refl, refl, refl, refl, refl, refl)
+                (λ j. omega arith))),
             (subst (λ i. Reclaimed i old c me.0 (gate_of s.words k) w) e ((λ _. refl), (λ no. absurd (no d))), refl),
           )
       pick (no n) =

@@ -25,7 +25,8 @@ CountsAreTotals counts claimer passes =
 
 -- each cell that was found pinned, by the claimer alone or for a pass, is one of the cells, and one of the passes has noted a pin there
 abbrev pub AreHeldByPasses : ℕ → CellView → List CellView → Type 0
-AreHeldByPasses cells claimer passes = (k : ℕ) → 1 ≤ held_on k claimer + total (held_on k) passes → (k < cells) × (1 ≤ total (noted_on k) passes)
+AreHeldByPasses cells claimer passes =
+    (k : ℕ) → 1 ≤ held_on k claimer + total (held_on k) passes → (k < cells) × (1 ≤ total (noted_on k) passes)
 
 -- The closing moment is the greatest of the start and of all offers, and the moment of each tick is the start,
 -- an offer of its pass at this tick or an earlier one, or an offer of another pass

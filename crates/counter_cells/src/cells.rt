@@ -4,7 +4,8 @@ ghost use Rattle.rate_types.specs.Sums.{times};
 ghost use Rattle.counter_cells.specs.WordIndex.{words_of};
 ghost use Rattle.counter_cells.specs.Views.{most_hits, good_on, good_under, ever_under, small_on, claim_on, cell_or, Capped};
 ghost use Rattle.counter_cells.specs.Counting.{OwnShown};
-ghost use Rattle.counter_cells.specs.Steps.{ticked, glanced, has_heard, good_pin, missed, unpinned, looked, charged, taken_cell, claimed_by, held_by};
+ghost use Rattle.counter_cells.specs.Steps.{ticked, glanced, has_heard, good_pin, missed, unpinned, looked, charged};
+ghost use Rattle.counter_cells.specs.Steps.{taken_cell, claimed_by, held_by};
 ghost use Rattle.counter_cells.specs.InnerSteps.{pinned, without_newest, newest};
 ghost use Rattle.counter_cells.specs.Steps.{reset_by, opened_by};
 ghost use Rattle.counter_cells.specs.declared.answers.Pin.TheVariants.{Pinned};
@@ -165,7 +166,8 @@ impl<N: CellNaming> Cells<N> {
         requires pin { 1 ≤ good_on cell pass.old }
         ensures unpinned { pass.new ≡ unpinned cell pass.old }
         ensures less { good_on cell pass.old ≡ good_on cell pass.new + 1 }
-        ensures others { (j : ℕ) → j ≢ cell → (good_on j pass.new ≡ good_on j pass.old) × (claim_on j pass.new.good ≡ claim_on j pass.old.good) }
+        ensures others { (j : ℕ) → j ≢ cell
+            → (good_on j pass.new ≡ good_on j pass.old) × (claim_on j pass.new.good ≡ claim_on j pass.old.good) }
     {
         let words = &self.table.shared;
         words.fetch_sub::<Unpins>(&mut pass.seat, word_index::gate(cell), gate::PIN);

@@ -9,8 +9,8 @@
 //! `specs/Lawful.antt`, in eight parts). So whatever the interleaving, the charges under each claim form a lawful
 //! ledger: each charge found exactly the sum of the charges before it, and no addition is lost. What the claimer and the
 //! passes found has its cause in the rule: a cell that was found pinned is one that some pass has noted a pin on, and a
-//! pass that pinned a cell isn't told of another gate there while it holds the pin. `Cells::close` states this. Each step's contract says what the pass or the claimer knows after it, as an equation with a
-//! function of `specs/Steps.antt`.
+//! pass that pinned a cell isn't told of another gate there while it holds the pin. `Cells::close` states this. Each
+//! step's contract says what the pass or the claimer knows after it, as an equation with a function of `specs/Steps.antt`.
 //!
 //! **Trusted.** That `tick` and `hear` answer by the clock as it stood at their step, and not by an earlier one, is no
 //! clause: a load that goes unused looks like one that was done before. A test has two passes tick in turn.
