@@ -52,7 +52,8 @@ abbrev pub HasBeenTold : CellView → CellView → Type 0
 HasBeenTold v w = (told : List (ℕ × ℕ)) × (w ≡ record v { held = v.held ++ told })
 
 -- the counters were bound at the moment, or why not; meanwhile the cell pass was told which cells were found pinned for it
-abbrev pub Binds : Bounds → ℕ → List CounterKey → ClaimTableView → Result (Unit {0}) AcquireFault → ClaimTableView → CellView → CellView → Type 0
+abbrev pub Binds : Bounds → ℕ → List CounterKey → ClaimTableView → Result (Unit {0}) AcquireFault → ClaimTableView → CellView → CellView
+    → Type 0
 Binds b m keys found (Ok _) left v w = HasBound b m keys found left
 Binds b m keys found (Err OutOfMemory) left v w = left ≡ found
 Binds b m keys found (Err (ClaimsSpent claims wanted)) left v w = AreSpent b keys found left claims wanted

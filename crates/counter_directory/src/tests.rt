@@ -350,16 +350,31 @@ fn take_around<N: CellNaming, R: Abort + RandomSource + Wait>(
 {
     let (cells, directory, mut workers) = open::<N, _>(rt, alloc, opened, 100, 1).ok_or("memory")?;
     let mut worker = workers.pop().ok_or("one worker")?;
+    take_thrice(rt, alloc, &directory, &cells, &mut worker, unit, end)
+}
+
+fn take_thrice<N: CellNaming, R: Abort + Wait>(
+    rt: &R,
+    alloc: Global,
+    directory: &Directory<N>,
+    cells: &Cells<N>,
+    worker: &mut Worker<N>,
+    unit: Unit,
+    end: u64,
+) -> Result<(), Fail>
+    requires pass { list_of worker.old.pass ≡ directory.now.list_id }
+    requires cell_pass { worker.old.cell_pass.good ≡ [] }
+{
     let one = [name_for(alloc, "a", unit).ok_or("memory")?];
     let other = [name_for(alloc, "b", unit).ok_or("memory")?];
-    let first = take(rt, &directory, &cells, &mut worker, one.as_slice()).is_ok();
+    let first = take(rt, directory, cells, worker, one.as_slice()).is_ok();
     cells.tick(
         &mut worker.cell_pass,
         Seconds::capped(end.saturating_sub(1)),
     );
-    let early = take(rt, &directory, &cells, &mut worker, other.as_slice()).is_ok();
+    let early = take(rt, directory, cells, worker, other.as_slice()).is_ok();
     cells.tick(&mut worker.cell_pass, Seconds::capped(end));
-    let late = take(rt, &directory, &cells, &mut worker, other.as_slice()).is_ok();
+    let late = take(rt, directory, cells, worker, other.as_slice()).is_ok();
     assert_eq!(rt; (first, early, late), (true, false, true));
     Ok(())
 }
