@@ -1,8 +1,9 @@
 #!/usr/bin/env bash
 # Nanoseconds a name that counter_directory takes to bind new names, one a call, to 1,024 up to 1,048,576 cells: at first
-# to cells that were never taken, and, when their windows have ended, to the same cells again, each the least of three
-# tries. The third column is of 1,048,576 names in as many windows as that takes, so that as many claims are made whatever
-# the number of cells. The last line has the ratio of the largest to the smallest of each column.
+# to cells that were never taken, then to find them again while their windows are open, and, when these have ended, to bind
+# them to the same cells again, each the least of three tries. The last column is of 1,048,576 names in as many windows as
+# that takes, so that as many claims are made whatever the number of cells. The last line has the ratio of the largest to
+# the smallest of each column.
 # Run it at the top of the repository: bench/directory.sh
 set -e
 . "$(dirname "$0")/lib.sh"
@@ -21,7 +22,9 @@ use counter_cells::{CellNaming, CellPass, Cells, OpenedCells};
 use counter_directory::{Directory, DirectoryPass, give_back};
 use rate_types::{CounterName, Entries, Entry, Seconds, Text, Unit};
 use std::alloc::Global;
+use std::hash::RandomState;
 use std::marker::Brand;
+use std::random::RandomSource;
 use std::sync::Wait;
 use std::time::{Clock, Instant};
 
@@ -147,48 +150,54 @@ fn last_pass<N: CellNaming>(
     passes.pop()
 }
 
-fn open<N: CellNaming>(
+fn open<N: CellNaming, R: RandomSource>(
+    rt: &R,
     alloc: Global,
     opened: OpenedCells,
 ) -> Option<(Cells<N>, Directory<N>, Worker<N>)>
     requires name { (table_of opened ≡ N.table) × (setup_of opened ≡ N.setup) }
+    requires passes { N.setup.passes ≡ 1 }
     ensures pass { IfSome result (λ r. list_of r.2.pass ≡ r.1.list_id) }
     ensures cell_pass { IfSome result (λ r. r.2.cell_pass.good ≡ []) }
 {
     let (cells, cell_passes, claimer) = opened.with_name::<N>(alloc).ok()?;
     let cell_pass = last_cell_pass(cell_passes)?;
-    let (directory, passes) = Directory::make(alloc, claimer, 4_194_304, 1).ok()?;
+    let seed = RandomState::new(rt).ok()?;
+    let (directory, passes) = Directory::make(alloc, claimer, 4_194_304, 1, seed).ok()?;
     let pass = last_pass(passes, &directory)?;
     Some((cells, directory, Worker { pass, cell_pass }))
 }
 
-// The nanoseconds of both fills.
-fn both<N: CellNaming, R: Wait + Clock>(
+// The nanoseconds of a fill, of finding its names again, and of a fill in the next window.
+fn both<N: CellNaming, R: Wait + Clock + RandomSource>(
     rt: &R,
     alloc: Global,
     opened: OpenedCells,
     batches: u32,
-) -> Option<(u64, u64)>
+) -> Option<(u64, u64, u64)>
     requires name { (table_of opened ≡ N.table) × (setup_of opened ≡ N.setup) }
+    requires passes { N.setup.passes ≡ 1 }
 {
-    let (cells, directory, mut worker) = open::<N>(alloc, opened)?;
+    let (cells, directory, mut worker) = open::<N, R>(rt, alloc, opened)?;
     let first = fill(rt, alloc, &cells, &directory, &mut worker, batches)?;
+    let known = fill(rt, alloc, &cells, &directory, &mut worker, batches)?;
     cells.tick(&mut worker.cell_pass, Seconds::capped(60));
     let second = fill(rt, alloc, &cells, &directory, &mut worker, batches)?;
-    Some((first, second))
+    Some((first, known, second))
 }
 
 // The nanoseconds of binding 1,048,576 names, in one window after the other.
-fn in_turns<N: CellNaming, R: Wait + Clock>(
+fn in_turns<N: CellNaming, R: Wait + Clock + RandomSource>(
     rt: &R,
     alloc: Global,
     opened: OpenedCells,
     batches: u32,
 ) -> Option<u64>
     requires name { (table_of opened ≡ N.table) × (setup_of opened ≡ N.setup) }
+    requires passes { N.setup.passes ≡ 1 }
     requires batches { 1 ≤ batches }
 {
-    let (cells, directory, mut worker) = open::<N>(alloc, opened)?;
+    let (cells, directory, mut worker) = open::<N, R>(rt, alloc, opened)?;
     fill_often(rt, alloc, &cells, &directory, &mut worker, batches, 1_024 / batches)
 }
 
@@ -214,34 +223,42 @@ fn fill_often<N: CellNaming, R: Wait + Clock>(
     Some(spent)
 }
 
-fn turns_of<R: Wait + Clock>(rt: &R, alloc: Global, batches: u32) -> Option<u64>
+fn turns_of<R: Wait + Clock + RandomSource>(rt: &R, alloc: Global, batches: u32) -> Option<u64>
     requires { (1 ≤ batches) × (batches ≤ 1024) }
 {
     let opened = OpenedCells::make(alloc, batches * 1_024, 1, Seconds::capped(0)).ok()?;
     in_turns::<Brand, R>(rt, alloc, opened, batches)
 }
 
-fn one_try<R: Wait + Clock>(rt: &R, alloc: Global, batches: u32) -> Option<(u64, u64)>
+fn one_try<R: Wait + Clock + RandomSource>(
+    rt: &R,
+    alloc: Global,
+    batches: u32,
+) -> Option<(u64, u64, u64)>
     requires { (1 ≤ batches) × (batches ≤ 1024) }
 {
     let opened = OpenedCells::make(alloc, batches * 1_024, 1, Seconds::capped(0)).ok()?;
     both::<Brand, R>(rt, alloc, opened, batches)
 }
 
-fn least<R: Wait + Clock>(rt: &R, alloc: Global, batches: u32) -> Option<(u64, u64)>
+fn least<R: Wait + Clock + RandomSource>(
+    rt: &R,
+    alloc: Global,
+    batches: u32,
+) -> Option<(u64, u64, u64)>
     requires { (1 ≤ batches) × (batches ≤ 1024) }
 {
-    let (a, b) = one_try(rt, alloc, batches)?;
-    let (c, d) = one_try(rt, alloc, batches)?;
-    let (e, f) = one_try(rt, alloc, batches)?;
-    Some((a.min(c).min(e), b.min(d).min(f)))
+    let (a, b, c) = one_try(rt, alloc, batches)?;
+    let (d, e, f) = one_try(rt, alloc, batches)?;
+    let (g, h, i) = one_try(rt, alloc, batches)?;
+    Some((a.min(d).min(g), b.min(e).min(h), c.min(f).min(i)))
 }
 
 fn main(rt: HostRuntime) -> std::io::Result<()> {
     for batches in [1u32, 16, 256, 1_024] {
-        let (first, second) = least(&rt, rt.alloc(), batches).unwrap_or((0, 0));
-        let third = turns_of(&rt, rt.alloc(), batches).unwrap_or(0);
-        println!(rt; "{batches} {first} {second} {third}")?;
+        let (first, known, second) = least(&rt, rt.alloc(), batches).unwrap_or((0, 0, 0));
+        let last = turns_of(&rt, rt.alloc(), batches).unwrap_or(0);
+        println!(rt; "{batches} {first} {known} {second} {last}")?;
     }
     Ok(())
 }
@@ -268,15 +285,15 @@ ghosts-both g a = record { table = table_of a.opened; setup = setup_of a.opened 
 PF
 sed 's/one_try/turns_of/; s/ghosts-both/ghosts-in_turns/g' "$bench/proofs/one_try/Invariants.antt" > "$bench/proofs/turns_of/Invariants.antt"
 run_program directory_bench > "$work/run.txt"
-grep -E '^[0-9]+ [0-9]+ [0-9]+ [0-9]+$' "$work/run.txt" | awk '
-BEGIN { print "    cells  new ns/name  again ns/name  in turns ns/name" }
+grep -E '^[0-9]+ [0-9]+ [0-9]+ [0-9]+ [0-9]+$' "$work/run.txt" | awk '
+BEGIN { print "    cells  new ns/name  known ns/name  again ns/name  in turns ns/name" }
 {
     cells = $1 * 1024
-    each[1] = $2 / cells; each[2] = $3 / cells; each[3] = $4 / 1048576
-    printf "%9d %12.1f %14.1f %17.1f\n", cells, each[1], each[2], each[3]
-    for (i = 1; i <= 3; i++) {
+    each[1] = $2 / cells; each[2] = $3 / cells; each[3] = $4 / cells; each[4] = $5 / 1048576
+    printf "%9d %12.1f %14.1f %14.1f %17.1f\n", cells, each[1], each[2], each[3], each[4]
+    for (i = 1; i <= 4; i++) {
         if (NR == 1 || each[i] < least[i]) least[i] = each[i]
         if (NR == 1 || each[i] > most[i]) most[i] = each[i]
     }
 }
-END { printf "    ratio %12.2f %14.2f %17.2f\n", most[1] / least[1], most[2] / least[2], most[3] / least[3] }'
+END { printf "    ratio %12.2f %14.2f %14.2f %17.2f\n", most[1] / least[1], most[2] / least[2], most[3] / least[3], most[4] / least[4] }'

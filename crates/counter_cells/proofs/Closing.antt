@@ -11,18 +11,19 @@ use Rattle.rate_types.specs.Ledger.{IsLawfulLedger, IsLawfulSight, charged_total
 use Rattle.counter_cells.specs.declared.view.Tick.{Tick}
 use Rattle.counter_cells.specs.declared.view.Charge.{Charge}
 use Rattle.counter_cells.specs.declared.view.Cell.{Cell}
+use Rattle.counter_cells.specs.declared.view.OtherGate.{OtherGate}
 use Rattle.counter_cells.specs.declared.view.CellView.{CellView}
 use Rattle.counter_cells.specs.declared.setup.Setup.{Setup}
 use Rattle.rate_types.specs.Sums.{total, one_if, times}
 use Rattle.counter_cells.specs.WordIndex.{count_of, clock_of}
-use Rattle.counter_cells.specs.Views.{offered}
+use Rattle.counter_cells.specs.Views.{offered, noted_on, held_on}
 use Rattle.counter_cells.specs.Counting.{pins_of}
 use Rattle.counter_cells.specs.InnerSteps.{joined}
 use Rattle.counter_cells.specs.Ledgers.{ledger_of, sights_of}
 use Rattle.counter_cells.specs.Lawful.{AreLawful, other_offers}
 use Rattle.counter_cells.specs.Ticks.{Sourced}
 use Rattle.counter_cells.specs.Seats.{IsClaimer}
-use Rattle.counter_cells.specs.Closing.{ticks_of, TicksAreLawful}
+use Rattle.counter_cells.specs.Closing.{ticks_of, TicksAreLawful, AreHeldByPasses}
 use Rattle.counter_cells.specs.InnerSteps.{all_joined}
 use Rattle.counter_cells.proofs.Kept.{hits_below, ViewLawful, Holds}
 use Rattle.rate_types.proofs.Sums.{total_append, total_two, total_none}
@@ -37,12 +38,25 @@ joined_snoc v [] w = refl
 joined_snoc v (x ∷ xs) w = joined_snoc (joined v x) xs w
 
 pub joined_keeps : (v : CellView) (xs : List CellView) → ((all_joined v xs).claimer ≡ v.claimer) × (pins_of (all_joined v xs) ≡ pins_of v) × ((all_joined v xs).cells ≡ v.cells)
-joined_keeps v [] = (refl, refl, refl)
+    × ((all_joined v xs).heard ≡ v.heard)
+joined_keeps v [] = (refl, refl, refl, refl)
 joined_keeps v (x ∷ xs) = joined_keeps (joined v x) xs
 
 joined_charges : (f : Charge → ℕ) (v : CellView) (ws : List CellView) → total f (all_joined v ws).charges ≡ total f v.charges + total (λ (w : CellView). total f w.charges) ws
 joined_charges f v [] = omega arith
 joined_charges f v (w ∷ ws) = let r = joined_charges f (joined v w) ws in let a = total_append f v.charges w.charges in omega arith
+
+joined_notes : (k : ℕ) (v : CellView) (ws : List CellView) → noted_on k (all_joined v ws) ≡ noted_on k v + total (noted_on k) ws
+joined_notes k v [] = omega arith
+joined_notes k v (w ∷ ws) =
+    let r = joined_notes k (joined v w) ws in
+    let p = total_append (λ (y : ℕ × ℕ). one_if (y.0 == k)) v.pairs w.pairs in
+    let o = total_append (λ (y : OtherGate). one_if (y.cell == k)) v.others w.others in
+    omega arith
+
+joined_held : (k : ℕ) (v : CellView) (ws : List CellView) → held_on k (all_joined v ws) ≡ held_on k v + total (held_on k) ws
+joined_held k v [] = omega arith
+joined_held k v (w ∷ ws) = let r = joined_held k (joined v w) ws in let p = total_append (λ (y : ℕ × ℕ). one_if (y.0 == k)) v.held w.held in omega arith
 
 joined_ticks : (v : CellView) (ws : List CellView) → (all_joined v ws).ticks ≡ v.ticks ++ ticks_of ws
 joined_ticks v [] = sym (append-nil v.ticks)
@@ -96,6 +110,18 @@ module _ (a : Setup) (s : State ℕ CellView) (hold : Holds a s) (id : ℕ) (v :
       let none : length u.numbers ≡ 0 = omega (arith, hold.3.parts) in
       let i = (hold.3.each j u e).idle (is_false u.claimer (omega (arith, hold.3.claimer))) none in
       (i.0, i.1, no_ticks u.numbers u.ticks none (hold.4.each j u e).numbers)
+
+  -- nor has it noted a pin
+  pub alone_notes : (k : ℕ) → total (noted_on k) s.views ≡ noted_on k v
+  alone_notes k = total_only (noted_on k) s.views id v at (λ j u n e.
+      let two = total_two (λ (x : CellView). length x.numbers + x.unmade) s.views id j v u n at e in
+      let one = total_two (λ (x : CellView). one_if x.claimer) s.views id j v u n at e in
+      let r : one_if v.claimer ≡ 1 = ap one_if role in
+      let none : length u.numbers ≡ 0 = omega (arith, hold.3.parts) in
+      let i = hold.5.idle j u e (is_false u.claimer (omega (arith, hold.3.claimer))) none in
+      let p : total (λ (y : ℕ × ℕ). one_if (y.0 == k)) u.pairs ≡ 0 = ap (total (λ (y : ℕ × ℕ). one_if (y.0 == k))) i.0 in
+      let o : total (λ (y : OtherGate). one_if (y.cell == k)) u.others ≡ 0 = ap (total (λ (y : OtherGate). one_if (y.cell == k))) i.1 in
+      omega arith)
 
   pub alone : (f : Charge → ℕ) → total (λ (x : CellView). total f x.charges) s.views ≡ total f v.charges
   alone f = total_only (λ (x : CellView). total f x.charges) s.views id v at (λ j u n e. ap (total f) (idle j u n e).0)
@@ -158,6 +184,18 @@ module _ (a : Setup) (s : State ℕ CellView) (hold : Holds a s) (id : ℕ) (c :
             (λ i m. let x = tick_sums (λ (y : Tick). cond (y.number == i) 0 (offered m y)) in omega arith) t.sourced);
       }
 
+  pub held_are : AreHeldByPasses a.cells c passes
+  held_are k o =
+      let h = hold.5.held id (all_joined c passes) at k (let e = joined_held k c passes in omega arith) in
+      let l = alone_notes a s hold id (all_joined c passes) at role all k in
+      let j = joined_notes k c passes in
+      let p : total (λ (y : ℕ × ℕ). one_if (y.0 == k)) c.pairs ≡ 0 = ap (total (λ (y : ℕ × ℕ). one_if (y.0 == k))) claimer.noted.0 in
+      let q : total (λ (y : OtherGate). one_if (y.cell == k)) c.others ≡ 0 = ap (total (λ (y : OtherGate). one_if (y.cell == k))) claimer.noted.1 in
+      (h.0, (let m = h.1 in omega arith))
+
+  pub heard_is : c.heard ≤ clock_of s.words
+  heard_is = let h = hold.5.heard id (all_joined c passes) at in let e = (joined_keeps c passes).3 in omega arith
+
 -- what the closing state tells
 pub record Ends (a : Setup) (c : CellView) (passes : List CellView) (ws : List ℕ) : Type 0 where
   pub ledger : IsLawfulLedger ◌==◌ (ledger_of passes)
@@ -165,6 +203,8 @@ pub record Ends (a : Setup) (c : CellView) (passes : List CellView) (ws : List �
   pub counts : (k : ℕ) (st : Cell) → get_elem? c.cells k ≡ some st → st.is_open ≡ true → count_of ws k ≡ charged_total ◌==◌ st.claim (ledger_of passes)
   pub ticks : TicksAreLawful a.start (clock_of ws) (ticks_of passes)
   pub low : clock_of ws ≤ 1000000000000
+  pub held : AreHeldByPasses a.cells c passes
+  pub heard : c.heard ≤ clock_of ws
 
 ends : (a : Setup) (id : ℕ) (c : CellView) (passes : List CellView) (ws xs : List ℕ) → IsClaimer a c → length (all_joined c passes).numbers ≡ a.passes
     → Final (Seen (AreLawful a) id (all_joined c passes)) ws xs → Ends a c passes ws
@@ -179,6 +219,8 @@ ends a id c passes ws xs cl all last =
       counts = counts_are a s hold id c passes cl at all;
       ticks = ticks_are a s hold id c passes cl at all;
       low = hold.4.most;
+      held = held_are a s hold id c passes cl at all;
+      heard = heard_is a s hold id c passes cl at all;
     })
 
 -- the same, of the claimer as it was given

@@ -10,15 +10,16 @@ use Rattle.atomic_table.specs.Table.{Joins}
 use Rattle.atomic_table.proofs.Lists.{set_else}
 use Rattle.counter_cells.specs.declared.view.Tick.{Tick}
 use Rattle.counter_cells.specs.declared.view.Charge.{Charge}
+use Rattle.counter_cells.specs.declared.view.OtherGate.{OtherGate}
 use Rattle.counter_cells.specs.declared.view.CellView.{CellView}
 use Rattle.counter_cells.specs.declared.setup.Setup.{Setup}
 use Rattle.rate_types.specs.Sums.{total, one_if, times}
 use Rattle.counter_cells.specs.WordIndex.{gate_of, count_of}
-use Rattle.counter_cells.specs.Views.{offered, good_on, small_on}
+use Rattle.counter_cells.specs.Views.{offered, good_on, small_on, noted_on, held_on}
 use Rattle.counter_cells.specs.Counting.{pins_on, pins_of, pair_at, charges_of, looks_of}
 use Rattle.counter_cells.specs.Steps.{last_moment, empty_view}
 use Rattle.counter_cells.specs.InnerSteps.{joined}
-use Rattle.counter_cells.specs.Lawful.{offers, other_offers, TicksFit, ClockIsGreatestOffer}
+use Rattle.counter_cells.specs.Lawful.{offers, other_offers, TicksFit, ClockIsGreatestOffer, FindingsHaveCauses}
 use Rattle.counter_cells.specs.Ticks.{own_offers, Sourced}
 use Rattle.counter_cells.proofs.Kept.{hits_below, ViewFits, ViewLawful, Rule, Holds}
 use Rattle.rate_types.proofs.Sums.{total_set, total_append, each_set, below_no}
@@ -56,7 +57,7 @@ last_low m k (x ∷ xs) c a b = b
 module _ (a : Setup) (id other : ℕ) (v w : CellView) where
   pub joins : (pins_of v ≡ 0) × (pins_of w ≡ 0) → w.claimer ≡ false → w.unmade ≡ 0 → (1 ≤ length v.numbers + one_if v.claimer) × (1 ≤ length w.numbers)
       → Joins (Holds a) id v other w (joined v w) empty_view
-  joins bare role none live s hold at apart there = (hold.0, hold.1, hold.2, rule, clock)
+  joins bare role none live s hold at apart there = (hold.0, hold.1, hold.2, rule, clock, found)
     where
       both : CellView
       both = joined v w
@@ -225,4 +226,38 @@ module _ (a : Setup) (id other : ℕ) (v w : CellView) where
                 let x = sum (λ (x : CellView). times i x.numbers + one_if (ltb i x.unmade)) (let y = total_append (λ (n : ℕ). one_if (n == i)) v.numbers w.numbers in omega arith)
                 (omega arith) in
                 omega arith;
+          }
+
+      notes : (k : ℕ) → noted_on k (joined v w) ≡ noted_on k v + noted_on k w
+      notes k =
+          let p = total_append (λ (y : ℕ × ℕ). one_if (y.0 == k)) v.pairs w.pairs in
+          let o = total_append (λ (y : OtherGate). one_if (y.cell == k)) v.others w.others in
+          omega arith
+
+      more : (k : ℕ) → (k < a.cells) × (1 ≤ total (noted_on k) s.views)
+          → (k < a.cells) × (1 ≤ total (noted_on k) (set (set s.views id (joined v w)) other empty_view))
+      more k h = (h.0, (let m = h.1 in let x = sum (noted_on k) (notes k) refl in omega arith))
+
+      found : FindingsHaveCauses a (slice_index s.words 0) (set (set s.views id (joined v w)) other empty_view)
+      found =
+          let f = hold.5 in
+          record {
+            noted = each_set (λ x. (k : ℕ) → 1 ≤ pins_on k x → 1 ≤ noted_on k x) (set s.views id (joined v w)) other empty_view
+                (λ j x _ e. each_set (λ x'. (k : ℕ) → 1 ≤ pins_on k x' → 1 ≤ noted_on k x') s.views id (joined v w) (λ j' x' _ e'. f.noted j' x' e')
+                (λ k o. let n = notes k in let m = f.noted id v at k o in omega arith) j x e)
+                (λ k o. absurd (omega arith));
+            held = each_set (λ x. (k : ℕ) → 1 ≤ held_on k x → (k < a.cells) × (1 ≤ total (noted_on k) (set (set s.views id (joined v w)) other empty_view)))
+                (set s.views id (joined v w)) other empty_view
+                (λ j x _ e. each_set (λ x'. (k : ℕ) → 1 ≤ held_on k x' → (k < a.cells) × (1 ≤ total (noted_on k) (set (set s.views id (joined v w)) other empty_view))) s.views id
+                (joined v w) (λ j' x' _ e' k o. more k (f.held j' x' e' k o))
+                (λ k o. more k (⊎_elim (f.held id v at k) (f.held other w was k) (either_one (held_on k v) (held_on k w)
+                (let q = total_append (λ (y : ℕ × ℕ). one_if (y.0 == k)) v.held w.held in omega arith)))) j x e)
+                (λ k o. absurd (omega arith));
+            heard = each_set (λ x. x.heard ≤ slice_index s.words 0) (set s.views id (joined v w)) other empty_view
+                (λ j x _ e. each_set (λ x'. x'.heard ≤ slice_index s.words 0) s.views id (joined v w) (λ j' x' _ e'. f.heard j' x' e') (f.heard id v at) j x e)
+                (omega arith);
+            idle = each_set (λ x. x.claimer ≡ false → length x.numbers ≡ 0 → (x.pairs ≡ []) × (x.others ≡ [])) (set s.views id (joined v w)) other empty_view
+                (λ j x _ e. each_set (λ x'. x'.claimer ≡ false → length x'.numbers ≡ 0 → (x'.pairs ≡ []) × (x'.others ≡ [])) s.views id (joined v w) (λ j' x' _ e'. f.idle j' x' e')
+                (λ _ z. absurd (let l = live.1 in let n = length-append v.numbers w.numbers in omega arith)) j x e)
+                (λ _ z. (refl, refl));
           }

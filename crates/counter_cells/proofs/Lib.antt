@@ -13,11 +13,14 @@ pub mod Reclaiming
 pub mod Resetting
 pub mod Opening
 pub mod Ticking
+pub mod Findings
 pub mod Steps
 pub mod Tables
 pub mod SameSums
 pub mod Splitting
 pub mod Joining
+pub mod Handing
 pub mod Passes
 pub mod Making
+pub mod Shams
 pub mod Closing

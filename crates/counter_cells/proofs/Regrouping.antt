@@ -13,7 +13,7 @@ pub kept : (a : Setup) (s : State ℕ CellView) → AreLawful a s → Holds a s
 kept a s hold =
     let r = hold.0 in
     let l = hold.1 in
-    (r, (let w = l.long in omega arith), l.long.1, rule, l.clock)
+    (r, (let w = l.long in omega arith), l.long.1, rule, l.clock, l.findings)
   where
     rule : Rule a hold.0 (gate_of s.words) (count_of s.words) s.views
     rule =
@@ -85,6 +85,7 @@ lawful a s hold = (hold.0, cells)
             capped = λ k c e o j v d. (r.each j v d).caps k c e o;
           };
           room = λ k c e. (r.cells k c e).room;
+          findings = hold.5;
         }
 
 -- what a table asks for, of the one rule and of the other

@@ -1,5 +1,5 @@
 -- A pass split off keeps the rule.
-use Rattle.std.proofs.Common.{◌≡◌, ℕ, ◌+◌, ◌-◌, ◌≤◌, ◌<◌, ◌==◌, List, [], ◌∷◌, ◌++◌, length, set, true, true≢false, sym, subst, arith, ⊎_elim, inl, inr}
+use Rattle.std.proofs.Common.{◌≡◌, ℕ, ◌+◌, ◌-◌, ◌≤◌, ◌<◌, ◌==◌, List, [], ◌∷◌, ◌++◌, length, set, true, false, true≢false, sym, subst, arith, ⊎_elim, inl, inr}
 use Rattle.std.specs.Prelude.{ltb, slice_index}
 use native.Mathlib.Decide.{ℕ_discrete, dec_lt}
 use mathlib.Core.Option.{some}
@@ -10,23 +10,23 @@ use Rattle.counter_cells.specs.declared.view.CellView.{CellView}
 use Rattle.counter_cells.specs.declared.setup.Setup.{Setup}
 use Rattle.rate_types.specs.Sums.{total, one_if, times}
 use Rattle.counter_cells.specs.WordIndex.{gate_of, count_of}
-use Rattle.counter_cells.specs.Views.{small_on}
+use Rattle.counter_cells.specs.Views.{small_on, noted_on, held_on}
 use Rattle.counter_cells.specs.Counting.{pins_on}
 use Rattle.counter_cells.specs.InnerSteps.{one_less, new_pass}
-use Rattle.counter_cells.specs.Lawful.{offers, other_offers, TicksFit, ClockIsGreatestOffer}
+use Rattle.counter_cells.specs.Lawful.{offers, other_offers, TicksFit, ClockIsGreatestOffer, FindingsHaveCauses}
 use Rattle.counter_cells.proofs.Kept.{ViewFits, ViewLawful, Rule, Holds}
 use Rattle.rate_types.proofs.Sums.{total_set, total_push, each_set, cond_yes, cond_no, below_yes, below_no}
 use Rattle.counter_cells.proofs.Ticking.{sourced_more}
 use Rattle.counter_cells.proofs.SameSums.{lawful_as, rule_as}
 
-each_snoc : {A : Type 0} (P : A → Type 0) (views : List A) (w : A) → ((j : ℕ) (u : A) → get_elem? views j ≡ some u → P u) → P w → (j : ℕ) (u : A)
+pub each_snoc : {A : Type 0} (P : A → Type 0) (views : List A) (w : A) → ((j : ℕ) (u : A) → get_elem? views j ≡ some u → P u) → P w → (j : ℕ) (u : A)
     → get_elem? (views ++ w ∷ []) j ≡ some u → P u
 each_snoc P views w others mine j u e = ⊎_elim (λ x. others j u x) (λ (x : w ≡ u). subst P x mine) (at_snoc views w u j e)
 
 module _ (a : Setup) (id : ℕ) (v : CellView) where
   pub splits : 1 ≤ v.unmade → v.claimer ≡ true → v.moment ≡ a.start → Splits (Holds a) id v (one_less v) (new_pass v)
   splits some_left role moment s hold at =
-      (hold.0, hold.1, hold.2, rule, clock)
+      (hold.0, hold.1, hold.2, rule, clock, found)
     where
       sum : (f : CellView → ℕ) → f (one_less v) + f (new_pass v) ≡ f v → total f (set s.views id (one_less v) ++ new_pass v ∷ []) ≡ total f s.views
       sum f same = omega (arith, total_push f (set s.views id (one_less v)) (new_pass v), total_set f s.views id v (one_less v) at)
@@ -117,3 +117,25 @@ module _ (a : Setup) (id : ℕ) (v : CellView) where
                     (λ i m. total (other_offers i m) (set s.views id (one_less v) ++ new_pass v ∷ [])) [] u.ticks
                     (λ i m. let x = sum (other_offers i m) (omega arith) in omega arith) f.sourced;
               }
+
+      found : FindingsHaveCauses a (slice_index s.words 0) (set s.views id (one_less v) ++ new_pass v ∷ [])
+      found =
+          let f = hold.5 in
+          record {
+            noted = each_snoc (λ x. (k : ℕ) → 1 ≤ pins_on k x → 1 ≤ noted_on k x) (set s.views id (one_less v)) (new_pass v)
+                (each_set (λ x. (k : ℕ) → 1 ≤ pins_on k x → 1 ≤ noted_on k x) s.views id (one_less v) (λ j x _ e. f.noted j x e) (f.noted id v at))
+                (λ k o. absurd (omega arith));
+            held = each_snoc (λ x. (k : ℕ) → 1 ≤ held_on k x → (k < a.cells) × (1 ≤ total (noted_on k) (set s.views id (one_less v) ++ new_pass v ∷ [])))
+                (set s.views id (one_less v)) (new_pass v)
+                (each_set (λ x. (k : ℕ) → 1 ≤ held_on k x → (k < a.cells) × (1 ≤ total (noted_on k) (set s.views id (one_less v) ++ new_pass v ∷ []))) s.views id (one_less v)
+                (λ j x _ e k o. more k (f.held j x e k o)) (λ k o. more k (f.held id v at k o)))
+                (λ k o. absurd (omega arith));
+            heard = each_snoc (λ x. x.heard ≤ slice_index s.words 0) (set s.views id (one_less v)) (new_pass v)
+                (each_set (λ x. x.heard ≤ slice_index s.words 0) s.views id (one_less v) (λ j x _ e. f.heard j x e) (f.heard id v at)) (omega arith);
+            idle = each_snoc (λ x. x.claimer ≡ false → length x.numbers ≡ 0 → (x.pairs ≡ []) × (x.others ≡ [])) (set s.views id (one_less v)) (new_pass v)
+                (each_set (λ x. x.claimer ≡ false → length x.numbers ≡ 0 → (x.pairs ≡ []) × (x.others ≡ [])) s.views id (one_less v) (λ j x _ e. f.idle j x e) (f.idle id v at))
+                (λ _ z. absurd (omega arith));
+          }
+        where
+          more : (k : ℕ) → (k < a.cells) × (1 ≤ total (noted_on k) s.views) → (k < a.cells) × (1 ≤ total (noted_on k) (set s.views id (one_less v) ++ new_pass v ∷ []))
+          more k h = (h.0, (let m = h.1 in let x = sum (noted_on k) (omega arith) in omega arith))

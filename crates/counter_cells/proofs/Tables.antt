@@ -9,8 +9,8 @@ use Rattle.rate_types.specs.Sums.{one_if, times}
 use Rattle.counter_cells.specs.Gates.{gate_word, claim_shown}
 use Rattle.counter_cells.specs.WordIndex.{gate_at, count_at, gate_cell, count_cell}
 use Rattle.counter_cells.specs.Views.{most_hits, good_on, small_on, claim_on, cell_or, Capped}
-use Rattle.counter_cells.specs.Counting.{stray_on, pins_of}
-use Rattle.counter_cells.specs.Steps.{ticked, unpinned, looked, charged, reset_by, opened_by}
+use Rattle.counter_cells.specs.Counting.{stray_on, pins_of, OwnShown}
+use Rattle.counter_cells.specs.Steps.{ticked, glanced, has_heard, unpinned, looked, charged, reset_by, opened_by}
 use Rattle.counter_cells.specs.InnerSteps.{pinned, stray_unpinned}
 use Rattle.counter_cells.specs.Claiming.{Peeked, Reclaimed}
 use Rattle.counter_cells.specs.Lawful.{AreLawful}
@@ -30,14 +30,24 @@ module _ (key : Setup) (slots id : ℕ) (me : Me ℕ CellView) where
   tick_asks now live low = allows_as key slots id me 0 (λ n. max n now) (λ n w. (w.0 ≡ ticked (max n now) now me.0) × (w.1 ≡ me.1) × (me.0.moment ≤ n) × (n ≤ 1000000000000))
       (steps.ticks key slots id now me live low)
 
+  pub glance_asks : (now : ℕ) → 1 ≤ length me.0.numbers → now ≤ 1000000000000
+      → Allows (AreLawful key) slots id me 0 (λ n. n) (λ n w. (w.0 ≡ glanced n now me.0) × (w.1 ≡ me.1) × (me.0.moment ≤ n) × (n ≤ 1000000000000))
+  glance_asks now live low = allows_as key slots id me 0 (λ n. n) (λ n w. (w.0 ≡ glanced n now me.0) × (w.1 ≡ me.1) × (me.0.moment ≤ n) × (n ≤ 1000000000000))
+      (steps.glances key slots id now me live low)
+
+  pub hear_asks : Allows (AreLawful key) slots id me 0 (λ n. n) (λ n w. (w.0 ≡ has_heard n me.0) × (w.1 ≡ me.1) × (me.0.heard ≤ n) × (n ≤ 1000000000000))
+  hear_asks = allows_as key slots id me 0 (λ n. n) (λ n w. (w.0 ≡ has_heard n me.0) × (w.1 ≡ me.1) × (me.0.heard ≤ n) × (n ≤ 1000000000000)) (steps.hears key slots id me)
+
 -- a cell's gate stands at `index`
 module _ (key setup : Setup) (same : key ≡ setup) (slots id k index : ℕ) (me : Me ℕ CellView) (within : k < setup.cells) (is : index ≡ gate_at k) where
   gate_within : k < key.cells
   gate_within = subst (λ (a : Setup). k < a.cells) (sym same) within
 
   pub pin_asks : (claim : ℕ) → (pins_of me.0 < 32) × (1 ≤ length me.0.numbers)
-      → Allows (AreLawful key) slots id me index (λ n. (n + 2) % 2 ^ 64) (λ n w. (w.0 ≡ pinned claim (gate_cell index) n me.0) × (w.1 ≡ me.1))
-  pin_asks claim able = indexed key slots id me (λ n. (n + 2) % 2 ^ 64) (λ x n w. (w.0 ≡ pinned claim (gate_cell x) n me.0) × (w.1 ≡ me.1)) (gate_at k) index is
+      → Allows (AreLawful key) slots id me index (λ n. (n + 2) % 2 ^ 64)
+      (λ n w. (w.0 ≡ pinned claim (gate_cell index) n me.0) × (w.1 ≡ me.1) × OwnShown (gate_cell index) me.0 n)
+  pin_asks claim able = indexed key slots id me (λ n. (n + 2) % 2 ^ 64)
+      (λ x n w. (w.0 ≡ pinned claim (gate_cell x) n me.0) × (w.1 ≡ me.1) × OwnShown (gate_cell x) me.0 n) (gate_at k) index is
       (steps.pins key slots id k me gate_within claim able)
 
   pub unpin_asks : 1 ≤ good_on k me.0 → Allows (AreLawful key) slots id me index (λ n. (n + (2 ^ 64 - 2)) % 2 ^ 64)

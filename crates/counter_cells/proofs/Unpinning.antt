@@ -10,7 +10,7 @@ use Rattle.counter_cells.specs.declared.view.CellView.{CellView}
 use Rattle.counter_cells.specs.declared.setup.Setup.{Setup}
 use Rattle.rate_types.specs.Sums.{total, one_if}
 use Rattle.counter_cells.specs.Gates.{gate_word}
-use Rattle.counter_cells.specs.Views.{good_on}
+use Rattle.counter_cells.specs.Views.{good_on, claim_on}
 use Rattle.counter_cells.specs.Counting.{is_pair, pins_on, unused_on}
 use Rattle.counter_cells.specs.Steps.{without, any_on, drop_pin, unpinned}
 use Rattle.counter_cells.specs.InnerSteps.{drop_stray, stray_unpinned}
@@ -36,7 +36,7 @@ drop_length k (p ∷ ps) = keep (p.0 == k) (drop_length k ps)
     keep true r = omega arith
     keep false r = omega arith
 
-drop_on : (k j : ℕ) (ps : List (ℕ × ℕ)) → 1 ≤ total (λ p. one_if (p.0 == k)) ps
+pub drop_on : (k j : ℕ) (ps : List (ℕ × ℕ)) → 1 ≤ total (λ p. one_if (p.0 == k)) ps
     → total (λ p. one_if (p.0 == j)) (drop_pin k ps) + one_if (k == j) ≡ total (λ p. one_if (p.0 == j)) ps
 drop_on k j [] h = absurd (omega arith)
 drop_on k j (p ∷ ps) h = keep (p.0 == k) refl h (drop_on k j ps)
@@ -46,6 +46,14 @@ drop_on k j (p ∷ ps) h = keep (p.0 == k) refl h (drop_on k j ps)
         → total (λ q. one_if (q.0 == j)) (cond b ps (p ∷ drop_pin k ps)) + one_if (k == j) ≡ one_if (p.0 == j) + total (λ q. one_if (q.0 == j)) ps
     keep true is h' r = let e : p.0 ≡ k = grind (arith, nat_tests) in let y : one_if (k == j) ≡ one_if (p.0 == j) = ap (λ i. one_if (i == j)) (sym e) in omega arith
     keep false is h' r = let y = ap one_if is in let s = r (omega arith) in omega arith
+
+pub drop_claim : (k j : ℕ) (ps : List (ℕ × ℕ)) → (j ≡ k → ⊥) → claim_on j (drop_pin k ps) ≡ claim_on j ps
+drop_claim k j [] ne = refl
+drop_claim k j (p ∷ ps) ne = keep (p.0 == k) refl (drop_claim k j ps ne)
+  where
+    keep : (b : Bool) → (p.0 == k) ≡ b → claim_on j (drop_pin k ps) ≡ claim_on j ps → claim_on j (cond b ps (p ∷ drop_pin k ps)) ≡ cond (p.0 == j) p.1 (claim_on j ps)
+    keep true is r = let e : p.0 ≡ k = grind (arith, nat_tests) in sym (cond_no p.0 j p.1 (claim_on j ps) (λ s. ne (sym s ∙ e)))
+    keep false is r = ap (λ n. cond (p.0 == j) p.1 n) r
 
 drop_stray_on : (k j : ℕ) (ps : List ℕ) → 1 ≤ total (λ p. one_if (p == k)) ps
     → (total (λ p. one_if (p == j)) (drop_stray k ps) + one_if (k == j) ≡ total (λ p. one_if (p == j)) ps)

@@ -1,5 +1,5 @@
 -- What closing tells.
-use Rattle.std.specs.Prelude.{◌≡◌, ℕ, ◌≤◌, ◌⊎◌, ◌==◌, true, IfSome, List, [], ◌∷◌, ◌++◌, slice_index, if◌then◌else◌}
+use Rattle.std.specs.Prelude.{◌≡◌, ℕ, ◌+◌, ◌≤◌, ◌<◌, ◌⊎◌, ◌==◌, true, IfSome, List, [], ◌∷◌, ◌++◌, slice_index, if◌then◌else◌}
 use Rattle.std.specs.List.{AllByRecursion}
 use mathlib.Core.Option.{some}
 use lib.ListN.{get_elem?}
@@ -8,7 +8,7 @@ use Rattle.counter_cells.specs.declared.view.Tick.{Tick}
 use Rattle.counter_cells.specs.declared.view.Cell.{Cell}
 use Rattle.counter_cells.specs.declared.view.CellView.{CellView}
 use Rattle.rate_types.specs.Sums.{total}
-use Rattle.counter_cells.specs.Views.{offered}
+use Rattle.counter_cells.specs.Views.{offered, held_on, noted_on}
 use Rattle.counter_cells.specs.Ledgers.{ledger_of}
 use Rattle.counter_cells.specs.Ticks.{Sourced}
 
@@ -22,6 +22,11 @@ abbrev pub CountsAreTotals : List ℕ → CellView → List CellView → Type 0
 CountsAreTotals counts claimer passes =
     (k : ℕ) (c : Cell) → get_elem? claimer.cells k ≡ some c → c.is_open ≡ true
     → slice_index counts k ≡ charged_total ◌==◌ c.claim (ledger_of passes)
+
+-- each cell that was found pinned, by the claimer alone or for a pass, is one of the cells, and one of the passes has noted a pin there
+abbrev pub AreHeldByPasses : ℕ → CellView → List CellView → Type 0
+AreHeldByPasses cells claimer passes =
+    (k : ℕ) → 1 ≤ held_on k claimer + total (held_on k) passes → (k < cells) × (1 ≤ total (noted_on k) passes)
 
 -- The closing moment is the greatest of the start and of all offers, and the moment of each tick is the start,
 -- an offer of its pass at this tick or an earlier one, or an offer of another pass

@@ -46,9 +46,42 @@ joined v w = record v {
   charges = v.charges ++ w.charges;
   looks = v.looks ++ w.looks;
   pairs = v.pairs ++ w.pairs;
+  held = v.held ++ w.held;
 }
 
 -- the claimer after these passes were joined
 abbrev pub all_joined : CellView → List CellView → CellView
 all_joined v [] = v
 all_joined v (w ∷ ws) = all_joined (joined v w) ws
+
+-- the items but the last one, where x stands before them
+abbrev pub but_last : ℕ × ℕ → List (ℕ × ℕ) → List (ℕ × ℕ)
+but_last x [] = []
+but_last x (y ∷ ys) = x ∷ but_last y ys
+
+-- the last one of these items, or x where there is none
+abbrev pub last_alone : ℕ × ℕ → List (ℕ × ℕ) → List (ℕ × ℕ)
+last_alone x [] = x ∷ []
+last_alone x (y ∷ ys) = last_alone y ys
+
+-- the Held answers but the newest
+abbrev pub older : List (ℕ × ℕ) → List (ℕ × ℕ)
+older [] = []
+older (x ∷ xs) = but_last x xs
+
+-- the newest Held answer alone
+abbrev pub newest : List (ℕ × ℕ) → List (ℕ × ℕ)
+newest [] = []
+newest (x ∷ xs) = last_alone x xs
+
+-- the claimer without its newest Held answer
+abbrev pub without_newest : CellView → CellView
+without_newest v = record v { held = older v.held }
+
+-- a note of that answer
+abbrev pub held_note : CellView → CellView
+held_note v = record empty_view { held = newest v.held }
+
+-- a pass that was told by a note
+abbrev pub told_held : CellView → CellView → CellView
+told_held v w = record v { held = v.held ++ w.held }

@@ -1,4 +1,4 @@
--- Lawful cells: what holds of the words and of all views between any two steps, in seven parts.
+-- Lawful cells: what holds of the words and of all views between any two steps, in eight parts.
 use Rattle.std.specs.Prelude.{◌≡◌, ℕ, ◌+◌, ◌*◌, ◌≤◌, ◌<◌, ◌⊎◌, ◌==◌, nat_lt, true, false, IfSome, List, [], length}
 use Rattle.std.specs.Prelude.{if◌then◌else◌}
 use Rattle.std.specs.List.{AllByRecursion}
@@ -16,7 +16,7 @@ use Rattle.counter_cells.specs.Gates.{gate_word}
 use Rattle.counter_cells.specs.WordIndex.{words_of, clock_of, gate_of, count_of}
 use Rattle.counter_cells.specs.Views.{most_hits, good_on, small_on}
 use Rattle.counter_cells.specs.Counting.{good_at, pins_on, pins_of, unused_on, pair_at, pair_of, charges_of}
-use Rattle.counter_cells.specs.Views.{Capped, offered}
+use Rattle.counter_cells.specs.Views.{Capped, offered, held_on, noted_on}
 use Rattle.counter_cells.specs.Counting.{looks_of}
 use Rattle.counter_cells.specs.Steps.{last_moment}
 use Rattle.counter_cells.specs.Ledgers.{ledger_of, sights_of}
@@ -111,6 +111,14 @@ pub record ChargesAreInOrder (r : Register) (count : ℕ → ℕ) (views : List 
 abbrev pub HasHeadroom : Setup → Register → (ℕ → ℕ) → List CellView → Type 0
 HasHeadroom a r count views = EachCell r (λ k c. count k + most_hits * total (small_on k) views ≤ most_hits * (1 + a.passes))
 
+-- 8. What was found has a cause. A view has noted its pins. A cell that the claimer found pinned is one of the cells, and some
+-- view has noted a pin there. What the claimer heard of the clock is at most the clock. Only passes note pins
+pub record FindingsHaveCauses (a : Setup) (clock : ℕ) (views : List CellView) : Type 0 where
+  pub noted : EachView views (λ v. (k : ℕ) → 1 ≤ pins_on k v → 1 ≤ noted_on k v)
+  pub held : EachView views (λ v. (k : ℕ) → 1 ≤ held_on k v → (k < a.cells) × (1 ≤ total (noted_on k) views))
+  pub heard : EachView views (λ v. v.heard ≤ clock)
+  pub idle : EachView views (λ v. v.claimer ≡ false → length v.numbers ≡ 0 → (v.pairs ≡ []) × (v.others ≡ []))
+
 -- There is one claimer. Each number of a pass stands in one view, or its pass is not made yet; only these have charges
 pub record SeatsAreCounted (a : Setup) (views : List CellView) : Type 0 where
   pub claimer : total (λ v. one_if v.claimer) views ≡ 1
@@ -118,7 +126,7 @@ pub record SeatsAreCounted (a : Setup) (views : List CellView) : Type 0 where
   pub few : a.passes ≤ MOST_PASSES
   pub idle : EachView views (λ v. v.claimer ≡ false → length v.numbers ≡ 0 → (v.charges ≡ []) × (v.looks ≡ []))
 
--- the seven parts together
+-- the eight parts together
 pub record CellsLawful (a : Setup) (r : Register) (words : List ℕ) (views : List CellView) : Type 0 where
   pub long : (length words ≡ words_of a.cells) × (length r.cells ≡ a.cells)
   pub seats : SeatsAreCounted a views
@@ -129,6 +137,7 @@ pub record CellsLawful (a : Setup) (r : Register) (words : List ℕ) (views : Li
   pub counts : CountsAreSums r (count_of words) views
   pub order : ChargesAreInOrder r (count_of words) views
   pub room : HasHeadroom a r (count_of words) views
+  pub findings : FindingsHaveCauses a (clock_of words) views
 
 -- the rule of the table
 abbrev pub AreLawful : Setup → State ℕ CellView → Type 0

@@ -19,6 +19,7 @@ pub record IsClaimer (a : Setup) (v : CellView) : Type 0 where
   pub made : v.unmade ≡ 0
   pub number : v.numbers ≡ []
   pub pins : (v.good ≡ []) × (v.stray ≡ [])
+  pub noted : (v.pairs ≡ []) × (v.others ≡ [])
   pub ticks : (v.ticks ≡ []) × (v.moment ≡ a.start)
   pub charges : (v.charges ≡ []) × (v.looks ≡ [])
   pub long : length v.cells ≡ a.cells

@@ -25,6 +25,7 @@ empty_view = record {
   cells = [];
   used_claims = [];
   held = [];
+  heard = 0;
 }
 
 -- a pass with the number, before its first step
@@ -51,6 +52,14 @@ tick_of moment now v = record { number = number_of v; moment = moment; offer = i
 -- the pass after a tick that asked for `now` and answered the moment
 abbrev pub ticked : ℕ → ℕ → CellView → CellView
 ticked moment now v = record v { moment = moment; ticks = v.ticks ++ tick_of moment now v ∷ [] }
+
+-- a load of the clock, which is a tick where the clock isn't earlier than `now`
+abbrev pub glanced : ℕ → ℕ → CellView → CellView
+glanced moment now v = if nat_lt moment now then v else ticked moment now v
+
+-- the claimer after it has heard the clock
+abbrev pub has_heard : ℕ → CellView → CellView
+has_heard moment v = record v { heard = moment }
 
 -- a good pin, whose cell and claim also come to the pairs
 abbrev pub good_pin : ℕ → ℕ → CellView → CellView

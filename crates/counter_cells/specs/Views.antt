@@ -1,11 +1,12 @@
 -- What is counted in a view.
-use Rattle.std.specs.Prelude.{◌≡◌, ℕ, ◌+◌, ◌≤◌, ◌==◌, nat_lt, Option, Some, None, List, [], ◌∷◌, if◌then◌else◌}
+use Rattle.std.specs.Prelude.{◌≡◌, ℕ, ◌+◌, ◌≤◌, ◌==◌, ◌&&◌, nat_lt, Option, Some, None, List, [], ◌∷◌, if◌then◌else◌}
 use Rattle.std.specs.Prelude.{slice_index_or, false}
 use Rattle.std.specs.List.{AllByRecursion}
 use Rattle.rate_types.specs.declared.limits.TheConstants.{MOST_HITS}
 use Rattle.counter_cells.specs.declared.view.Tick.{Tick}
 use Rattle.counter_cells.specs.declared.view.Charge.{Charge}
 use Rattle.counter_cells.specs.declared.view.Cell.{Cell}
+use Rattle.counter_cells.specs.declared.view.OtherGate.{OtherGate}
 use Rattle.counter_cells.specs.declared.view.CellView.{CellView}
 use Rattle.rate_types.specs.Sums.{total, one_if}
 
@@ -16,6 +17,22 @@ most_hits = MOST_HITS
 -- the good pins on a cell, and those of them under a claim
 abbrev pub good_on : ℕ → CellView → ℕ
 good_on cell v = total (λ p. one_if (p.0 == cell)) v.good
+
+-- how often the claimer found a cell pinned
+abbrev pub held_on : ℕ → CellView → ℕ
+held_on cell v = total (λ (p : ℕ × ℕ). one_if (p.0 == cell)) v.held
+
+-- the good pins on a cell under a claim
+abbrev pub good_under : ℕ → ℕ → CellView → ℕ
+good_under cell claim v = total (λ p. one_if ((p.0 == cell) && (p.1 == claim))) v.good
+
+-- the good pins on a cell under a claim, present or past
+abbrev pub ever_under : ℕ → ℕ → CellView → ℕ
+ever_under cell claim v = total (λ p. one_if ((p.0 == cell) && (p.1 == claim))) v.pairs
+
+-- the pins on a cell that the view has noted: the good ones, present or past, and those that missed
+abbrev pub noted_on : ℕ → CellView → ℕ
+noted_on cell v = total (λ p. one_if (p.0 == cell)) v.pairs + total (λ (x : OtherGate). one_if (x.cell == cell)) v.others
 
 -- the unused looks on a cell that were at most the most hits
 abbrev pub small_on : ℕ → CellView → ℕ

@@ -1,10 +1,12 @@
-ghost use Rattle.std.specs.Prelude.{◌≡◌, ℕ, ◌*◌, ◌≤◌, ◌<◌, ◌^◌, length, true, false, []};
-ghost use Rattle.rate_types.specs.declared.limits.TheConstants.{MOST_CELLS, MOST_CLAIM_NUMBERS, MOST_PINS};
+ghost use Rattle.std.specs.Prelude.{◌≡◌, ◌≢◌, ℕ, ◌+◌, ◌*◌, ◌≤◌, ◌<◌, ◌^◌, ◌++◌, length, true, false, []};
+ghost use Rattle.rate_types.specs.declared.limits.TheConstants.{LATEST_MOMENT, MOST_CELLS, MOST_CLAIM_NUMBERS, MOST_PINS};
 ghost use Rattle.rate_types.specs.Sums.{times};
 ghost use Rattle.counter_cells.specs.WordIndex.{words_of};
-ghost use Rattle.counter_cells.specs.Views.{most_hits, good_on, small_on, claim_on, cell_or, Capped};
-ghost use Rattle.counter_cells.specs.Steps.{ticked, good_pin, missed, unpinned, looked, charged, taken_cell, claimed_by, held_by};
-ghost use Rattle.counter_cells.specs.InnerSteps.{pinned};
+ghost use Rattle.counter_cells.specs.Views.{most_hits, good_on, good_under, ever_under, small_on, claim_on, cell_or, Capped};
+ghost use Rattle.counter_cells.specs.Counting.{OwnShown};
+ghost use Rattle.counter_cells.specs.Steps.{ticked, glanced, has_heard, good_pin, missed, unpinned, looked, charged};
+ghost use Rattle.counter_cells.specs.Steps.{taken_cell, claimed_by, held_by};
+ghost use Rattle.counter_cells.specs.InnerSteps.{pinned, without_newest, newest};
 ghost use Rattle.counter_cells.specs.Steps.{reset_by, opened_by};
 ghost use Rattle.counter_cells.specs.declared.answers.Pin.TheVariants.{Pinned};
 ghost use Rattle.counter_cells.specs.declared.answers.Reclaim.TheVariants.{Claimed};
@@ -16,9 +18,10 @@ use crate::claimer::CellClaimer;
 use crate::naming::CellNaming;
 use crate::pass::CellPass;
 use crate::plays::{
-    Asked, Charges, Looks, Opens, Peeks, Pins, Reclaims, Resets, Ticks, Unpins, UnpinsStray,
+    Asked, Charges, Glances, Hears, Looks, Opens, Peeks, Pins, Reclaims, Resets, Ticks, Unpins,
+    UnpinsStray,
 };
-use crate::rule::{CellSeat, CellTable};
+use crate::rule::{CellSeat, CellTable, HeldNotes};
 use crate::{gate, word_index};
 use rate_types::Seconds;
 use std::marker::{Brand, PhantomData};
@@ -55,6 +58,12 @@ impl<N: CellNaming> Cells<N> {
         ensures greatest { (now ≤ result) × (pass.old.moment ≤ result) }
     {
         let now = now.get();
+        let found = self.glance::<Brand>(&mut pass.seat, now);
+        if found >= now {
+            let moment = Seconds::capped(found);
+            pass.moment = moment;
+            return moment;
+        }
         let words = &self.table.shared;
         let clock = words.fetch_max::<Ticks>(&mut pass.seat, word_index::CLOCK, now);
         let moment = Seconds::capped(clock.max(now));
@@ -62,14 +71,36 @@ impl<N: CellNaming> Cells<N> {
         moment
     }
 
+    // One load of the clock. It is the tick where the clock isn't earlier than `now`.
+    fn glance<A: Asked>(&self, seat: &mut CellSeat, now: u64) -> u64
+        requires seat { IsBareSeatOf N.table seat.old × (length seat.old.me.0.numbers ≡ 1) }
+        requires now { (now ≤ LATEST_MOMENT) × (A.asked ≡ now) }
+        ensures seat { IsBareSeatOf N.table seat.new }
+        ensures glanced { seat.new.me.0 ≡ glanced result now seat.old.me.0 }
+        ensures moment { (seat.old.me.0.moment ≤ result) × (result ≤ LATEST_MOMENT) }
+    {
+        let words = &self.table.shared;
+        words.load::<Glances<A>>(seat, word_index::CLOCK)
+    }
+
+    /// The claimer reads the clock. What it heard before is no later.
+    pub fn hear(&self, claimer: &mut CellClaimer<N>) -> Seconds
+        ensures heard { claimer.new ≡ has_heard result claimer.old }
+        ensures later { claimer.old.heard ≤ result }
+    {
+        let words = &self.table.shared;
+        Seconds::capped(words.load::<Hears>(&mut claimer.seat, word_index::CLOCK))
+    }
+
     // The addition of a pin, and the gate's word before it.
     fn take_pin<A: Asked>(&self, seat: &mut CellSeat, spot: Spot) -> u64
         requires seat { IsBareSeatOf N.table seat.old × (length seat.old.me.0.numbers ≡ 1) × (seat.old.me.0.stray ≡ []) }
         requires cell { spot.cell < N.setup.cells }
         requires room { length seat.old.me.0.good < MOST_PINS }
-        requires asked { A.claim ≡ spot.claim }
+        requires asked { A.asked ≡ spot.claim }
         ensures seat { IsBareSeatOf N.table seat.new }
         ensures pinned { seat.new.me.0 ≡ pinned spot.claim spot.cell result seat.old.me.0 }
+        ensures own { OwnShown spot.cell seat.old.me.0 result }
     {
         let words = &self.table.shared;
         words.fetch_add::<Pins<A>>(seat, word_index::gate(spot.cell), gate::PIN)
@@ -77,13 +108,17 @@ impl<N: CellNaming> Cells<N> {
 
     /// Pins the cell, where its gate is open under the claim: then it stays so until the pin is given back.
     /// `Other` comes exactly where the addition found the gate closed or with another claim, and shows the gate found.
-    /// No pin is held then.
+    /// No pin is held then. All pins of a pass on one cell are under one claim: where it has one, the answer is by
+    /// that claim. A closed gate shows no claim under which the pass ever had a pin there.
     pub fn pin(&self, pass: &mut CellPass<N>, spot: Spot) -> Pin
         requires cell { spot.cell < N.setup.cells }
         requires room { length pass.old.good < MOST_PINS }
         ensures pin { MatchPin result (pass.new ≡ good_pin spot.cell spot.claim pass.old)
             (λ claim is_open. (pass.new ≡ missed spot.cell claim is_open pass.old) × IsOther spot.claim claim is_open) }
         ensures held { result ≡ Pinned → 1 ≤ good_on spot.cell pass.new }
+        ensures own { (c : ℕ) → 1 ≤ good_under spot.cell c pass.old
+            → MatchPin result (c ≡ spot.claim) (λ claim is_open. (claim ≡ c) × (is_open ≡ true)) }
+        ensures known { 1 ≤ ever_under spot.cell spot.claim pass.old → MatchPin result (Unit {0}) (λ claim is_open. claim ≢ spot.claim) }
     {
         let word = self.take_pin::<Brand>(&mut pass.seat, spot);
         if gate::shows(word, spot.claim) {
@@ -130,6 +165,9 @@ impl<N: CellNaming> Cells<N> {
         requires cell { cell < N.setup.cells }
         requires pin { 1 ≤ good_on cell pass.old }
         ensures unpinned { pass.new ≡ unpinned cell pass.old }
+        ensures less { good_on cell pass.old ≡ good_on cell pass.new + 1 }
+        ensures others { (j : ℕ) → j ≢ cell
+            → (good_on j pass.new ≡ good_on j pass.old) × (claim_on j pass.new.good ≡ claim_on j pass.old.good) }
     {
         let words = &self.table.shared;
         words.fetch_sub::<Unpins>(&mut pass.seat, word_index::gate(cell), gate::PIN);
@@ -160,6 +198,39 @@ impl<N: CellNaming> Cells<N> {
                 pins: gate::pins_of(found),
             }
         }
+    }
+
+    /// A reclaim for a pass: where the cell was found pinned, the pass is told of it in place of the claimer.
+    pub fn reclaim_for(
+        &self,
+        claimer: &mut CellClaimer<N>,
+        pass: &mut CellPass<N>,
+        cell: u32,
+        next: u64,
+    ) -> Reclaim
+        requires cell { cell < N.setup.cells }
+        requires next { (next < MOST_CLAIM_NUMBERS) × (times next claimer.old.used_claims ≡ 0) }
+        ensures taken { result ≡ Claimed → cell_or claimer.new.cells cell ≡ taken_cell next }
+        ensures reclaim { MatchReclaim result ((claimer.new ≡ claimed_by cell next claimer.old) × (pass.new ≡ pass.old))
+            (λ pins. (claimer.new ≡ claimer.old) × (pass.new ≡ held_by cell pins pass.old) × (1 ≤ pins)) }
+    {
+        match self.reclaim(claimer, cell, next) {
+            Reclaim::Claimed => Reclaim::Claimed,
+            Reclaim::Held { pins } => {
+                self.tell_held(claimer, pass);
+                Reclaim::Held { pins }
+            }
+        }
+    }
+
+    // The claimer's newest Held answer becomes the pass's.
+    fn tell_held(&self, claimer: &mut CellClaimer<N>, pass: &mut CellPass<N>)
+        ensures claimer { claimer.new ≡ without_newest claimer.old }
+        ensures pass { pass.new ≡ record pass.old { held = pass.old.held ++ newest claimer.old.held } }
+    {
+        let words = &self.table.shared;
+        let note = words.split_seat::<HeldNotes>(&mut claimer.seat);
+        words.join_seat::<HeldNotes>(&mut pass.seat, note);
     }
 
     /// Sets the count of a cell that is taken and not yet open to 0.

@@ -6,10 +6,16 @@
 //! the pin back. A pinned cell isn't taken for another claim. One more word is the clock, which ticks only raise.
 //!
 //! **The promise.** Between any two steps of any passes and the claimer the cells are lawful (`CellsLawful` of
-//! `specs/Lawful.antt`, in seven parts). So whatever the interleaving, the charges under each claim form a lawful
-//! ledger: each charge found exactly the sum of the charges before it, and no addition is lost. `Cells::close`
-//! states this. Each step's contract says what the pass or the claimer knows after it, as an equation with a
-//! function of `specs/Steps.antt`.
+//! `specs/Lawful.antt`, in eight parts). So whatever the interleaving, the charges under each claim form a lawful
+//! ledger: each charge found exactly the sum of the charges before it, and no addition is lost. What the claimer and the
+//! passes found has its cause in the rule: a cell that was found pinned is one that some pass has noted a pin on, and a
+//! pass that pinned a cell isn't told of another gate there while it holds the pin. `Cells::close` states this. Each
+//! step's contract says what the pass or the claimer knows after it, as an equation with a function of `specs/Steps.antt`.
+//!
+//! **Trusted.** That `tick` and `hear` answer by the clock as it stood at their step, and not by an earlier one, is no
+//! clause: a load that goes unused looks like one that was done before. A test has two passes tick in turn.
+//!
+//! **Memory.** Each cell has 64 bytes, and so has the clock, so that threads on different cells share no line of memory.
 //!
 //! **Limits.** 1,048,576 cells, 1,024 passes, 32 pins of a pass at a time, claims below 2 ^ 40, hits of one charge
 //! below 2 ^ 32. No step takes memory, waits or locks. Nothing is said of progress: a `reclaim` is one try.

@@ -14,15 +14,37 @@ impl Play<u8, CellView> for Ticks {
     ghost then = { λ s v n w. (w.0 ≡ ticked (max n s.first) s.first v.0) × (w.1 ≡ v.1) × (v.0.moment ≤ n) × (n ≤ LATEST_MOMENT) };
 }
 
-/// The claim that a pin asks for.
+/// Reads the clock, and ticks with the moment that was asked for where the clock isn't earlier.
+pub(crate) struct Glances<A>(PhantomData<A>);
+
+impl<A: Asked> Play<u8, CellView> for Glances<A> {
+    ghost use Rattle.rate_types.specs.declared.limits.TheConstants.{LATEST_MOMENT};
+    ghost use Rattle.std.specs.Prelude.{◌≡◌, ◌≤◌};
+    ghost use Rattle.counter_cells.specs.Steps.{glanced};
+
+    ghost then = { λ s v n w. (w.0 ≡ glanced n A.asked v.0) × (w.1 ≡ v.1) × (v.0.moment ≤ n) × (n ≤ LATEST_MOMENT) };
+}
+
+/// The claimer reads the clock.
+pub(crate) struct Hears;
+
+impl Play<u8, CellView> for Hears {
+    ghost use Rattle.rate_types.specs.declared.limits.TheConstants.{LATEST_MOMENT};
+    ghost use Rattle.std.specs.Prelude.{◌≡◌, ◌≤◌};
+    ghost use Rattle.counter_cells.specs.Steps.{has_heard};
+
+    ghost then = { λ s v n w. (w.0 ≡ has_heard n v.0) × (w.1 ≡ v.1) × (v.0.heard ≤ n) × (n ≤ LATEST_MOMENT) };
+}
+
+/// What a step asks for: a pin the claim, a tick the moment.
 pub(crate) trait Asked {
     ghost use Rattle.std.specs.Prelude.{ℕ};
 
-    ghost claim: { ℕ };
+    ghost asked: { ℕ };
 }
 
 impl Asked for Brand {
-    ghost claim = { 0 };
+    ghost asked = { 0 };
 }
 
 /// Takes a pin.
@@ -31,9 +53,10 @@ pub(crate) struct Pins<A>(PhantomData<A>);
 impl<A: Asked> Play<u8, CellView> for Pins<A> {
     ghost use Rattle.std.specs.Prelude.{◌≡◌};
     ghost use Rattle.counter_cells.specs.WordIndex.{gate_cell};
+    ghost use Rattle.counter_cells.specs.Counting.{OwnShown};
     ghost use Rattle.counter_cells.specs.InnerSteps.{pinned};
 
-    ghost then = { λ s v n w. (w.0 ≡ pinned A.claim (gate_cell s.word) n v.0) × (w.1 ≡ v.1) };
+    ghost then = { λ s v n w. (w.0 ≡ pinned A.asked (gate_cell s.word) n v.0) × (w.1 ≡ v.1) × OwnShown (gate_cell s.word) v.0 n };
 }
 
 /// Gives a good pin back.

@@ -41,3 +41,23 @@ impl Join<CellView> for Passes {
 
     ghost spent = { empty_view };
 }
+
+/// The claimer's newest Held answer is split off as a note, and a pass takes it in.
+pub(crate) struct HeldNotes;
+
+impl Split<CellView> for HeldNotes {
+    ghost use Rattle.counter_cells.specs.InnerSteps.{without_newest, held_note};
+
+    ghost left = { without_newest };
+
+    ghost right = { held_note };
+}
+
+impl Join<CellView> for HeldNotes {
+    ghost use Rattle.counter_cells.specs.Steps.{empty_view};
+    ghost use Rattle.counter_cells.specs.InnerSteps.{told_held};
+
+    ghost both = { told_held };
+
+    ghost spent = { empty_view };
+}

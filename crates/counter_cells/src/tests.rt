@@ -47,6 +47,10 @@ fn hold_and_take<N: CellNaming, R: Abort>(
         cells.reclaim(&mut claimer, 0, 1),
         Reclaim::Held { pins: 1 }
     );
+    assert_eq!(rt;
+        cells.reclaim_for(&mut claimer, &mut pass, 0, 1),
+        Reclaim::Held { pins: 1 }
+    );
     cells.unpin(&mut pass, 0);
     assert_eq!(rt; cells.reclaim(&mut claimer, 0, 1), Reclaim::Claimed);
     assert_eq!(rt;
@@ -162,6 +166,37 @@ fn reclaims_end_beside_pins(rt: HostRuntime) -> Result<(), Fail> {
     pin_beside_reclaims::<Brand, _>(&rt, rt.alloc(), opened)
 }
 
+#[test]
+fn a_tick_answers_the_clock_where_it_is_later(rt: HostRuntime) -> Result<(), Fail> {
+    let opened = OpenedCells::make(rt.alloc(), 1, 2, Seconds::capped(7))
+        .ok()
+        .ok_or("memory")?;
+    tick_in_turn::<Brand, _>(&rt, rt.alloc(), opened)
+}
+
+// Two passes tick in turn, and the claimer hears the clock between.
+fn tick_in_turn<N: CellNaming, R: Abort>(
+    rt: &R,
+    alloc: Global,
+    opened: OpenedCells,
+) -> Result<(), Fail>
+    requires name { (table_of opened ≡ N.table) × (setup_of opened ≡ N.setup) }
+{
+    let (cells, mut passes, mut claimer) = opened.with_name::<N>(alloc).ok().ok_or("memory")?;
+    let mut one = passes.pop().ok_or("two passes")?;
+    let mut other = passes.pop().ok_or("two passes")?;
+    let early = cells.tick(&mut one, Seconds::capped(3)).get();
+    let later = cells.tick(&mut one, Seconds::capped(100)).get();
+    let heard = cells.hear(&mut claimer).get();
+    let behind = cells.tick(&mut other, Seconds::capped(5)).get();
+    let ahead = cells.tick(&mut other, Seconds::capped(200)).get();
+    let last = cells.tick(&mut one, Seconds::capped(150)).get();
+    assert_eq!(rt; (early, later, heard), (7, 100, 100));
+    assert_eq!(rt; (behind, ahead, last), (100, 200, 200));
+    assert_eq!(rt; cells.hear(&mut claimer).get(), 200);
+    Ok(())
+}
+
 // Charges one hit where the cell is open under the claim, and answers the claim that the gate showed.
 fn charge_if_open<N: CellNaming>(
     cells: &Cells<N>,
@@ -221,11 +256,12 @@ fn take_once<N: CellNaming>(cells: &Cells<N>, claimer: &mut CellClaimer<N>, next
 fn take_in_turns<N: CellNaming>(
     cells: &Cells<N>,
     mut claimer: CellClaimer<N>,
+    first: u64,
 ) -> (CellClaimer<N>, u64)
     requires one { N.setup.cells ≡ 1 }
-    requires none { claimer.used_claims ≡ [] }
+    requires first { (first ≤ 1) × ((c : ℕ) → first ≤ c → times c claimer.used_claims ≡ 0) }
 {
-    let mut next = 0;
+    let mut next = first;
     for round in 0..5_000u32 {
         let _ = round;
         next = take_once(cells, &mut claimer, next);
@@ -268,10 +304,14 @@ fn pin_beside_reclaims<N: CellNaming + Send + Sync, R: Threads + Abort + Sync>(
     requires name { (table_of opened ≡ N.table) × (setup_of opened ≡ N.setup) }
     requires one { N.setup.cells ≡ 1 }
 {
-    let (cells, passes, claimer) = opened.with_name::<N>(alloc).ok().ok_or("memory")?;
+    let (cells, passes, mut claimer) = opened.with_name::<N>(alloc).ok().ok_or("memory")?;
+    let first = take_once(&cells, &mut claimer, 0);
+    assert_eq!(rt; first, 1);
     let ((claimer, next), done) = join(
         rt,
-        || -> (CellClaimer<N>, u64) { take_in_turns(&cells, claimer) },
+        || -> (CellClaimer<N>, u64)
+            requires { (first ≤ 1) × (N.setup.cells ≡ 1) × ((c : ℕ) → first ≤ c → times c claimer.used_claims ≡ 0) }
+        { take_in_turns(&cells, claimer, first) },
         || -> Option<Vec<CellPass<N>>>
             requires { (N.setup.cells ≡ 1) × All (λ p. p.good ≡ []) passes.items }
             ensures { IfSome result (λ v. All (λ p. p.good ≡ []) v.items) }

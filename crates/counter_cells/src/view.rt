@@ -73,6 +73,9 @@ pub struct CellView {
     pub cells: LinkedList<Cell>,
     /// Of the claimer: the claims under which it took cells, newest first.
     pub used_claims: LinkedList<u64>,
-    /// Of the claimer: the cells that it found pinned, each with the number of pins, in order.
+    /// The cells that the claimer found pinned, each with the number of pins, in order. A pass has those that were
+    /// tried for it.
     pub held: LinkedList<(u64, u64)>,
+    /// Of the claimer: the latest moment that it heard of the clock, or at first 0.
+    pub heard: u64,
 }

@@ -10,8 +10,8 @@ use mathlib.Core.Option.{some, some-ne-none}
 use lib.ListN.{get_elem?}
 use Rattle.counter_directory.proofs.Lists.{at_snoc, at_last, at_longer, at_read, last_expired}
 use Rattle.rate_types.specs.Sums.{total, one_if, times}
-use Rattle.counter_cells.specs.Views.{cell_or, no_cell}
-use Rattle.counter_cells.specs.Steps.{taken_cell, claimed_by, held_by, reset_by, opened_by}
+use Rattle.counter_cells.specs.Views.{cell_or, no_cell, held_on}
+use Rattle.counter_cells.specs.Steps.{taken_cell, claimed_by, held_by, has_heard, reset_by, opened_by}
 use Rattle.counter_cells.specs.declared.view.CellView.{CellView}
 use Rattle.counter_cells.specs.declared.view.Cell.{Cell}
 use Rattle.counter_directory.specs.declared.claim.Claim.{Claim}
@@ -19,7 +19,7 @@ use Rattle.counter_directory.specs.declared.ring.Ring.{Ring}
 use Rattle.counter_cells.specs.declared.answers.Spot.{Spot}
 use Rattle.counter_directory.specs.Claims.{Fits, IsLawfulClaims, last_end, end_of}
 use Rattle.counter_directory.specs.Pool.{IsLawfulPool, spot, reserved_on}
-use Rattle.counter_directory.specs.Gates.{IsOpenAs, HeldSince, held_on}
+use Rattle.counter_directory.specs.Gates.{IsOpenAs, HeldSince}
 use Rattle.counter_directory.specs.TableFits.{GatesFit}
 use Rattle.rate_types.proofs.Sums.{total_push, total_one}
 use Rattle.counter_directory.proofs.Sums.{last_end_push}
@@ -108,10 +108,14 @@ gates_claimed v v' cells most last next_claim k claims waiting lt none expired l
     shut i p (inr e) = subst (λ (q : Spot). (q.cell < cells) × (cell_or (set v.cells k (taken_cell next_claim)) q.cell ≡ taken_cell q.claim)) e
         (lt, same_cell v.cells k (taken_cell next_claim) (let q = g.long in omega arith))
 
-pub gates_held : (v v' : CellView) (cells last next_claim k pins : ℕ) (claims : List Claim) (waiting : List Spot) → v' ≡ held_by k pins v
+pub gates_heard : (v v' : CellView) (cells last next_claim : ℕ) (claims : List Claim) (waiting : List Spot) → v' ≡ has_heard v'.heard v
     → GatesFit v cells last next_claim claims waiting → GatesFit v' cells last next_claim claims waiting
-gates_held v v' cells last next_claim k pins claims waiting e g =
+gates_heard v v' cells last next_claim claims waiting e g =
     subst (λ (w : CellView). GatesFit w cells last next_claim claims waiting) (sym e) (record { long = g.long; count = g.count; new = g.new; shut = g.shut; opened = g.opened })
+
+pub gates_same : (v v' : CellView) (cells last next_claim : ℕ) (claims : List Claim) (waiting : List Spot) → v' ≡ v
+    → GatesFit v cells last next_claim claims waiting → GatesFit v' cells last next_claim claims waiting
+gates_same v v' cells last next_claim claims waiting e g = subst (λ (w : CellView). GatesFit w cells last next_claim claims waiting) (sym e) g
 
 pub gates_later : (v : CellView) (cells last m next_claim : ℕ) (claims : List Claim) (waiting : List Spot) → last ≤ m → GatesFit v cells last next_claim claims waiting
     → GatesFit v cells m next_claim claims waiting

@@ -1,9 +1,9 @@
--- What the claimer knows of the cells, and the index, beside the list of claims.
-use Rattle.std.specs.Prelude.{◌≡◌, ℕ, ◌+◌, ◌≤◌, ◌<◌, ◌==◌, List, true}
+-- What the claimer knows of the cells, and what a pass was told of them, beside the list of claims.
+use Rattle.std.specs.Prelude.{◌≡◌, ℕ, ◌+◌, ◌≤◌, ◌<◌, List, true}
 use mathlib.Core.Option.{some}
 use lib.ListN.{get_elem?}
-use Rattle.rate_types.specs.Sums.{total, one_if, times}
-use Rattle.counter_cells.specs.Views.{cell_or}
+use Rattle.rate_types.specs.Sums.{times}
+use Rattle.counter_cells.specs.Views.{cell_or, held_on}
 use Rattle.counter_cells.specs.declared.view.CellView.{CellView}
 use Rattle.counter_cells.specs.declared.view.Cell.{Cell}
 use Rattle.counter_directory.specs.declared.claim.Claim.{Claim}
@@ -17,10 +17,6 @@ IsOpenAs c number = (c.ever ≡ true) × (c.is_open ≡ true) × (c.claim ≡ nu
 abbrev pub AreOpen : CellView → ℕ → List Claim → Type 0
 AreOpen v last claims = (i : ℕ) (x : Claim) → get_elem? claims i ≡ some x → last < end_of x → IsOpenAs (cell_or v.cells x.cell) x.claim
 
--- how often the claimer found the cell pinned
-abbrev pub held_on : ℕ → CellView → ℕ
-held_on cell v = total (λ (p : ℕ × ℕ). one_if (p.0 == cell)) v.held
-
--- each cell that came to the held ones was found pinned between these views
+-- each cell that came to the held ones was found pinned for the pass between these views
 abbrev pub HeldSince : CellView → CellView → List ℕ → List ℕ → Type 0
 HeldSince v w held held' = (k : ℕ) → times k held' + held_on k v ≤ times k held + held_on k w

@@ -31,8 +31,9 @@ impl<'a, N: CellNaming, R: Wait> Act<ClaimTable<N>> for Acquire<'a, N, R> {
 
     ghost did = { λ p b r q c. (q.cell_pass.ghost_name ≡ p.cell_pass.ghost_name)
         × Acquires (record { cells = N.setup.cells; claims = b.pool.most; held = p.most_held }) p.names.now p.cell_pass.now
-        (record { claimer = b.claimer; claims = b.pool.claims.items }) r q.cell_pass.now
-        (record { claimer = c.claimer; claims = c.pool.claims.items }) × IsLawfulClaims N.setup.cells c.pool.most c.pool.claims.items
+        (record { used = length b.claimer.used_claims; claims = b.pool.claims.items }) r q.cell_pass.now
+        (record { used = length c.claimer.used_claims; claims = c.pool.claims.items })
+        × IsLawfulClaims N.setup.cells c.pool.most c.pool.claims.items
         × (last_of 0 b.pool.claims.items ≤ q.cell_pass.now.moment) };
 
     fn act(&mut self, kept: &mut ClaimTable<N>) -> Result<Acquired, AcquireFault> {

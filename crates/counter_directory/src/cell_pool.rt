@@ -26,7 +26,7 @@ pub(crate) struct CellPool {
     pub rings: Vec<Ring>,
     /// The cells whose windows have ended.
     pub expired: Vec<u32>,
-    /// The expired cells that were found pinned.
+    /// The expired cells that were found pinned, and are tried last.
     pub held: Vec<u32>,
     /// The cells that are taken and not yet bound to a counter, each with the number of its claim to be.
     pub reserved: Vec<Spot>,
@@ -58,7 +58,7 @@ impl CellPool {
     pub fn make(alloc: Global, cells: u32, most: u64) -> Result<CellPool, OutOfMemory>
         requires { (cells ≤ MOST_CELLS) × (most ≤ MOST_CLAIM_NUMBERS) }
         ensures { IfOk result (λ s. (s.cells ≡ cells) × (s.most ≡ most) × (s.next_claim ≡ 0) × (s.claims.items ≡ [])
-            × (s.reserved.items ≡ [])) }
+            × (s.reserved.items ≡ []) × (s.last ≡ 0)) }
     {
         let rings = rings(alloc, cells)?;
         let expired = Vec::with_capacity(alloc, cells as usize)?;
@@ -138,12 +138,12 @@ impl CellPool {
     pub fn expire(&mut self, moment: Seconds) -> Result<(), OutOfMemory>
         requires { self.old.last ≤ moment }
         ensures numbers { KeepsNumbers self.old self.new }
-        ensures same { (self.new.claims ≡ self.old.claims) × (self.new.reserved ≡ self.old.reserved) }
+        ensures same { (self.new.claims ≡ self.old.claims) × (self.new.reserved ≡ self.old.reserved)
+            × (self.new.held ≡ self.old.held) }
         ensures last { self.new.last ≡ moment }
-        ensures expired { OnOk result (ExpiredBelow 4 moment self.new.rings.items × (self.new.held.items ≡ [])) }
+        ensures expired { OnOk result (ExpiredBelow 4 moment self.new.rings.items) }
     {
         self.last = moment;
-        self.expired.append(&mut self.held)?;
         for unit in 0..4 {
             self.expire_ring(unit)?;
         }

@@ -1,5 +1,5 @@
 // What lies behind the lock: the claims, where they are found, and the claimer.
-ghost use Rattle.std.specs.Prelude.{◌≡◌, ℕ, ◌-◌, ◌<◌};
+ghost use Rattle.std.specs.Prelude.{◌≡◌, ℕ, ◌-◌, ◌≤◌, ◌<◌};
 ghost use Rattle.std.specs.HashMap.{get};
 ghost use Rattle.rate_types.specs.Counters.{same_counter};
 ghost use Rattle.counter_directory.specs.TableFits.{GatesFit, Indexed};
@@ -10,6 +10,7 @@ use crate::counter::SharedCounter;
 use counter_cells::{CellClaimer, CellNaming, Spot};
 use rate_types::limits::MOST_CLAIM_NUMBERS;
 use std::collections::HashMap;
+use std::hash::RandomState;
 use told_list::Kept;
 
 mod acquire;
@@ -23,9 +24,10 @@ mod reserve;
 #[derive(Drop)]
 pub struct ClaimTable<N: CellNaming> {
     pub(crate) pool: CellPool,
-    pub(crate) index: HashMap<SharedCounter, Spot>,
+    pub(crate) index: HashMap<SharedCounter, Spot, RandomState>,
     pub(crate) claimer: CellClaimer<N>,
     ghost size: { pool.cells ≡ N.setup.cells },
+    ghost heard: { pool.last ≤ claimer.heard },
     ghost gates: { GatesFit claimer pool.cells pool.last pool.next_claim pool.claims.items pool.reserved.items },
     ghost found: { Indexed (get same_counter index) pool.claims.items },
 }

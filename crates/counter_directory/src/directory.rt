@@ -10,6 +10,7 @@ use counter_cells::{CellClaimer, CellNaming, CellPass, Cells};
 use rate_types::limits::MOST_PINS;
 use rate_types::{CounterName, OutOfMemory, Seconds};
 use std::alloc::Global;
+use std::hash::RandomState;
 use std::marker::Model;
 use std::sync::Wait;
 use told_list::{Seen, Told};
@@ -44,7 +45,7 @@ impl<N: CellNaming> Model for Directory<N> {
 pub struct ClosedDirectory<N: CellNaming> {
     pub claims: Claims,
     pub claimer: CellClaimer<N>,
-    /// The moment of the last turn, or 0.
+    /// The moment of the last turn, or 0. The claimer has heard it of the clock.
     pub last: Seconds,
 }
 
@@ -67,22 +68,23 @@ impl<N: CellNaming> Directory<N> {
     ghost use Rattle.counter_directory.specs.Spots.{spots_on};
     ghost use Rattle.counter_directory.specs.Turns.{Turned};
 
-    /// No claims yet on the claimer's cells, at most `claims_max` of them, 1 to 2^40, and 1 to 1,024 passes. The claimer
-    /// has taken no cell yet.
+    /// No claims yet on the claimer's cells, at most `claims_max` of them, 1 to 2^40, and as many passes as the cells have.
+    /// The claimer has taken no cell yet. The hashes of the index go by `seed`, so that nobody can choose names that collide.
     pub fn make(
         alloc: Global,
         claimer: CellClaimer<N>,
         claims_max: u64,
         passes: u32,
+        seed: RandomState,
     ) -> Result<(Directory<N>, Vec<DirectoryPass<N>>), OutOfMemory>
         requires claimer { claimer.used_claims ≡ [] }
         requires claims_max { (1 ≤ claims_max) × (claims_max ≤ MOST_CLAIM_NUMBERS) }
-        requires passes { (1 ≤ passes) × (passes ≤ MOST_PASSES) }
+        requires passes { (1 ≤ passes) × (passes ≤ MOST_PASSES) × (passes ≡ N.setup.passes) }
         ensures directory { IfOk result (λ r. (r.0.passes ≡ passes) × (r.0.claims_max ≡ claims_max)) }
         ensures count { IfOk result (λ r. vec_len r.1 ≡ passes) }
         ensures passes { IfOk result (λ r. All (λ p. (list_of p ≡ r.0.list_id) × IsFresh [] (view p)) r.1.items) }
     {
-        let table = ClaimTable::make(alloc, claimer, claims_max)?;
+        let table = ClaimTable::make(alloc, claimer, claims_max, seed)?;
         let (told, seats) = Told::make(alloc, table, passes)?;
         Ok((Directory { told, passes }, seats))
     }
@@ -126,6 +128,7 @@ impl<N: CellNaming> Directory<N> {
         requires every { vec_len passes ≡ self.passes }
         ensures lawful { IsLawfulClaims N.setup.cells self.claims_max result.claims }
         ensures open { AreOpen result.claimer result.last result.claims }
+        ensures last { result.last ≤ result.claimer.heard }
         ensures prefixes { All (λ p. IsPrefix (known p) result.claims) passes.items }
         ensures owned { (n : ℕ) → IsOwnedOnce 0 (length result.claims) n (total (λ p. times n (view p).own) passes.items) }
     {

@@ -9,8 +9,10 @@ use super::*;
 use counter_cells::{CellNaming, CellPass, Cells, OpenedCells, Spot};
 use rate_types::{CounterName, Entries, Entry, Seconds, Text, Unit};
 use std::alloc::Global;
+use std::hash::RandomState;
 use std::marker::Brand;
 use std::process::Abort;
+use std::random::RandomSource;
 use std::sync::Wait;
 use std::test::*;
 
@@ -44,7 +46,8 @@ fn pair<N: CellNaming>(
 }
 
 // A directory on the cells for at most so many claims, and the workers at it.
-fn open<N: CellNaming>(
+fn open<N: CellNaming, R: RandomSource>(
+    rt: &R,
     alloc: Global,
     opened: OpenedCells,
     claims_max: u64,
@@ -52,18 +55,30 @@ fn open<N: CellNaming>(
 ) -> Option<(Cells<N>, Directory<N>, Vec<Worker<N>>)>
     requires name { (table_of opened ≡ N.table) × (setup_of opened ≡ N.setup) }
     requires claims_max { (1 ≤ claims_max) × (claims_max ≤ MOST_CLAIM_NUMBERS) }
-    requires workers { (1 ≤ workers) × (workers ≤ MOST_PASSES) }
+    requires workers { (1 ≤ workers) × (workers ≤ MOST_PASSES) × (workers ≡ N.setup.passes) }
     ensures passes { IfSome result (λ r. r.1.passes ≡ workers) }
     ensures workers { IfSome result (λ r. All (λ w. (w.cell_pass.good ≡ []) × (list_of w.pass ≡ r.1.list_id)) r.2.items) }
 {
     let (cells, cell_passes, claimer) = opened.with_name::<N>(alloc).ok()?;
-    let (directory, passes) = Directory::make(alloc, claimer, claims_max, workers).ok()?;
+    let (directory, passes) = Directory::make(
+        alloc,
+        claimer,
+        claims_max,
+        workers,
+        RandomState::new(rt).ok()?,
+    )
+    .ok()?;
     let workers = pair(alloc, cell_passes, passes, &directory)?;
     Some((cells, directory, workers))
 }
 
 // The name of the counters of k with this value, for each minute.
 fn name(alloc: Global, value: &str) -> Option<CounterName> {
+    name_for(alloc, value, Unit::Minute)
+}
+
+// The name of the counters of k with this value.
+fn name_for(alloc: Global, value: &str, unit: Unit) -> Option<CounterName> {
     let mut items = Vec::new(alloc);
     let entry = Entry {
         key: Text::new(alloc, "k").ok()?,
@@ -73,7 +88,7 @@ fn name(alloc: Global, value: &str) -> Option<CounterName> {
     Some(CounterName {
         domain: Text::new(alloc, "d").ok()?,
         entries: Entries::build(items).ok()?,
-        unit: Unit::Minute,
+        unit,
     })
 }
 
@@ -143,14 +158,15 @@ fn a_third_claim_of_two_is_refused(rt: HostRuntime) -> Result<(), Fail> {
     claim_three::<Brand, _>(&rt, rt.alloc(), opened)
 }
 
-fn claim_three<N: CellNaming, R: Abort + Wait>(
+fn claim_three<N: CellNaming, R: Abort + RandomSource + Wait>(
     rt: &R,
     alloc: Global,
     opened: OpenedCells,
 ) -> Result<(), Fail>
     requires name { (table_of opened ≡ N.table) × (setup_of opened ≡ N.setup) }
+    requires workers { N.setup.passes ≡ 1 }
 {
-    let (cells, directory, mut workers) = open::<N>(alloc, opened, 2, 1).ok_or("memory")?;
+    let (cells, directory, mut workers) = open::<N, _>(rt, alloc, opened, 2, 1).ok_or("memory")?;
     let mut worker = workers.pop().ok_or("one worker")?;
     let first = take_one(rt, alloc, &directory, &cells, &mut worker, "a");
     let second = take_one(rt, alloc, &directory, &cells, &mut worker, "b");
@@ -177,14 +193,15 @@ fn a_cell_of_a_later_window_is_full(rt: HostRuntime) -> Result<(), Fail> {
 }
 
 // One takes the cell in the first minute, the other in the second, and then the one asks again for its counter.
-fn take_the_expired_cell<N: CellNaming, R: Abort + Wait>(
+fn take_the_expired_cell<N: CellNaming, R: Abort + RandomSource + Wait>(
     rt: &R,
     alloc: Global,
     opened: OpenedCells,
 ) -> Result<(), Fail>
     requires name { (table_of opened ≡ N.table) × (setup_of opened ≡ N.setup) }
+    requires workers { N.setup.passes ≡ 2 }
 {
-    let (cells, directory, mut workers) = open::<N>(alloc, opened, 100, 2).ok_or("memory")?;
+    let (cells, directory, mut workers) = open::<N, _>(rt, alloc, opened, 100, 2).ok_or("memory")?;
     let mut one = workers.pop().ok_or("two workers")?;
     let mut other = workers.pop().ok_or("two workers")?;
     let first = take_one(rt, alloc, &directory, &cells, &mut one, "a");
@@ -217,21 +234,22 @@ fn an_ended_cell_is_held_while_it_is_pinned(rt: HostRuntime) -> Result<(), Fail>
     hold_an_ended_cell::<Brand, _>(&rt, rt.alloc(), opened)
 }
 
-fn hold_an_ended_cell<N: CellNaming, R: Abort + Wait>(
+fn hold_an_ended_cell<N: CellNaming, R: Abort + RandomSource + Wait>(
     rt: &R,
     alloc: Global,
     opened: OpenedCells,
 ) -> Result<(), Fail>
     requires name { (table_of opened ≡ N.table) × (setup_of opened ≡ N.setup) }
+    requires workers { N.setup.passes ≡ 2 }
 {
-    let (cells, directory, mut workers) = open::<N>(alloc, opened, 100, 2).ok_or("memory")?;
+    let (cells, directory, mut workers) = open::<N, _>(rt, alloc, opened, 100, 2).ok_or("memory")?;
     let mut one = workers.pop().ok_or("two workers")?;
     let mut other = workers.pop().ok_or("two workers")?;
     take_beside_a_pin(rt, alloc, &directory, &cells, &mut one, &mut other)
 }
 
 // One pins the cell in the first minute. The other asks for it in the second, before and after the pin is given back.
-fn take_beside_a_pin<N: CellNaming, R: Abort + Wait>(
+fn take_beside_a_pin<N: CellNaming, R: Abort + RandomSource + Wait>(
     rt: &R,
     alloc: Global,
     directory: &Directory<N>,
@@ -269,19 +287,20 @@ fn a_name_given_twice_is_pinned_twice(rt: HostRuntime) -> Result<(), Fail> {
     pin_twice::<Brand, _>(&rt, rt.alloc(), opened)
 }
 
-fn pin_twice<N: CellNaming, R: Abort + Wait>(
+fn pin_twice<N: CellNaming, R: Abort + RandomSource + Wait>(
     rt: &R,
     alloc: Global,
     opened: OpenedCells,
 ) -> Result<(), Fail>
     requires name { (table_of opened ≡ N.table) × (setup_of opened ≡ N.setup) }
+    requires workers { N.setup.passes ≡ 1 }
 {
-    let (cells, directory, mut workers) = open::<N>(alloc, opened, 100, 1).ok_or("memory")?;
+    let (cells, directory, mut workers) = open::<N, _>(rt, alloc, opened, 100, 1).ok_or("memory")?;
     let mut worker = workers.pop().ok_or("one worker")?;
     pin_one_name_twice(rt, alloc, &directory, &cells, &mut worker)
 }
 
-fn pin_one_name_twice<N: CellNaming, R: Abort + Wait>(
+fn pin_one_name_twice<N: CellNaming, R: Abort + RandomSource + Wait>(
     rt: &R,
     alloc: Global,
     directory: &Directory<N>,
@@ -300,5 +319,62 @@ fn pin_one_name_twice<N: CellNaming, R: Abort + Wait>(
     assert_eq!(rt; acquired.spots.as_slice(), [spot, spot].as_slice());
     assert_eq!(rt; worker.cell_pass.pins(), 2);
     assert_eq!(rt; claims(&worker.pass), 1);
+    Ok(())
+}
+
+#[test]
+fn a_cell_is_free_once_the_window_of_its_unit_ends(rt: HostRuntime) -> Result<(), Fail> {
+    let units = [
+        (Unit::Second, 1),
+        (Unit::Minute, 60),
+        (Unit::Hour, 3_600),
+        (Unit::Day, 86_400),
+    ];
+    for (unit, end) in units {
+        let opened = OpenedCells::make(rt.alloc(), 1, 1, Seconds::capped(0))?;
+        take_around::<Brand, _>(&rt, rt.alloc(), opened, unit, end)?;
+    }
+    Ok(())
+}
+
+// Takes the one cell at 0, and tries it for another name in the window's last second and at its end.
+fn take_around<N: CellNaming, R: Abort + RandomSource + Wait>(
+    rt: &R,
+    alloc: Global,
+    opened: OpenedCells,
+    unit: Unit,
+    end: u64,
+) -> Result<(), Fail>
+    requires name { (table_of opened ≡ N.table) × (setup_of opened ≡ N.setup) }
+    requires workers { N.setup.passes ≡ 1 }
+{
+    let (cells, directory, mut workers) = open::<N, _>(rt, alloc, opened, 100, 1).ok_or("memory")?;
+    let mut worker = workers.pop().ok_or("one worker")?;
+    take_thrice(rt, alloc, &directory, &cells, &mut worker, unit, end)
+}
+
+fn take_thrice<N: CellNaming, R: Abort + Wait>(
+    rt: &R,
+    alloc: Global,
+    directory: &Directory<N>,
+    cells: &Cells<N>,
+    worker: &mut Worker<N>,
+    unit: Unit,
+    end: u64,
+) -> Result<(), Fail>
+    requires pass { list_of worker.old.pass ≡ directory.now.list_id }
+    requires cell_pass { worker.old.cell_pass.good ≡ [] }
+{
+    let one = [name_for(alloc, "a", unit).ok_or("memory")?];
+    let other = [name_for(alloc, "b", unit).ok_or("memory")?];
+    let first = take(rt, directory, cells, worker, one.as_slice()).is_ok();
+    cells.tick(
+        &mut worker.cell_pass,
+        Seconds::capped(end.saturating_sub(1)),
+    );
+    let early = take(rt, directory, cells, worker, other.as_slice()).is_ok();
+    cells.tick(&mut worker.cell_pass, Seconds::capped(end));
+    let late = take(rt, directory, cells, worker, other.as_slice()).is_ok();
+    assert_eq!(rt; (first, early, late), (true, false, true));
     Ok(())
 }

@@ -4,7 +4,7 @@ ghost use Rattle.atomic_table.specs.Table.{Final, Seen};
 ghost use Rattle.rate_types.specs.Ledger.{IsLawfulLedger, IsLawfulSight};
 ghost use Rattle.counter_cells.specs.Seats.{IsClaimer, IsBareSeatOf};
 ghost use Rattle.counter_cells.specs.Ledgers.{ledger_of, sights_of};
-ghost use Rattle.counter_cells.specs.Closing.{ticks_of, CountsAreTotals, TicksAreLawful};
+ghost use Rattle.counter_cells.specs.Closing.{ticks_of, CountsAreTotals, TicksAreLawful, AreHeldByPasses};
 ghost use Rattle.counter_cells.specs.InnerSteps.{all_joined};
 
 use crate::cells::Cells;
@@ -34,7 +34,8 @@ fn join_passes<N: CellNaming>(table: &CellTable, claimer: &mut CellSeat, passes:
 impl<N: CellNaming> Cells<N> {
     /// The clock and the counts at the end, where no given pass holds a pin. Where all passes are given, their charges
     /// are a lawful ledger, in which a claim names a counter, their looks are lawful sights in it, and the count of each
-    /// open cell is the sum of the hits under its claim. With `OutOfMemory` the cells and the passes are given up.
+    /// open cell is the sum of the hits under its claim. Each cell that the claimer found pinned was pinned by one of
+    /// them, and what the claimer heard of the clock is at most its last moment. With `OutOfMemory` the cells and the passes are given up.
     pub fn close(
         self,
         alloc: Global,
@@ -49,6 +50,8 @@ impl<N: CellNaming> Cells<N> {
         ensures counts { length passes.items ≡ N.setup.passes → IfOk result (λ c. CountsAreTotals c.counts claimer passes.items) }
         ensures ticks { length passes.items ≡ N.setup.passes
             → IfOk result (λ c. TicksAreLawful N.setup.start c.moment (ticks_of passes.items)) }
+        ensures held { length passes.items ≡ N.setup.passes → IfOk result (λ _. AreHeldByPasses N.setup.cells claimer passes.items) }
+        ensures heard { length passes.items ≡ N.setup.passes → IfOk result (λ c. claimer.heard ≤ c.moment) }
     {
         let mut counts = Vec::with_capacity(alloc, self.count as usize)?;
         let Cells {

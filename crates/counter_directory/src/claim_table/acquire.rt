@@ -3,16 +3,28 @@ ghost use Rattle.std.specs.Prelude.{◌≡◌, ◌≤◌, [], length};
 ghost use Rattle.rate_types.specs.declared.limits.TheConstants.{MOST_PINS};
 ghost use Rattle.counter_directory.specs.Claims.{last_of};
 ghost use Rattle.counter_directory.specs.Acquired.{Acquires};
+ghost use Rattle.counter_directory.specs.Acquiring.{OnlyTicked};
 
 use crate::acquired::{AcquireFault, Acquired};
 use crate::claim_table::ClaimTable;
 use crate::keys::keys_at;
 use crate::ticks::tick_up;
 use counter_cells::{CellNaming, CellPass, Cells};
-use rate_types::CounterName;
+use rate_types::{CounterName, Seconds};
 use std::sync::Wait;
 
 impl<N: CellNaming> ClaimTable<N> {
+    // Ticks the cell pass until its moment is at least that of the last turn.
+    fn tick<R: Wait>(&mut self, rt: &R, cells: &Cells<N>, cell_pass: &mut CellPass<N>) -> Seconds
+        ensures same { (self.new.pool ≡ self.old.pool) × (self.new.index ≡ self.old.index)
+            × (self.new.claimer.used_claims ≡ self.old.claimer.used_claims) }
+        ensures ticked { OnlyTicked cell_pass.old cell_pass.new }
+        ensures moment { (result ≡ cell_pass.new.moment) × (self.old.pool.last ≤ result) }
+        ensures heard { result ≤ self.new.claimer.heard }
+    {
+        tick_up(rt, cells, cell_pass, &mut self.claimer, self.pool.last)
+    }
+
     // Ticks the cell pass, binds the counters of the names at its moment and pins their cells, or says why not.
     pub(crate) fn acquire<R: Wait>(
         &mut self,
@@ -27,11 +39,11 @@ impl<N: CellNaming> ClaimTable<N> {
         ensures most { self.new.pool.most ≡ self.old.pool.most }
         ensures later { last_of 0 self.old.pool.claims.items ≤ cell_pass.new.moment }
         ensures did { Acquires (record { cells = N.setup.cells; claims = self.old.pool.most; held = most_held }) names.now cell_pass.old
-            (record { claimer = self.old.claimer; claims = self.old.pool.claims.items }) result cell_pass.new
-            (record { claimer = self.new.claimer; claims = self.new.pool.claims.items }) }
+            (record { used = length self.old.claimer.used_claims; claims = self.old.pool.claims.items }) result cell_pass.new
+            (record { used = length self.new.claimer.used_claims; claims = self.new.pool.claims.items }) }
     {
         let alloc = *self.pool.claims.allocator();
-        let moment = tick_up(rt, cells, cell_pass, self.pool.last);
+        let moment = self.tick(rt, cells, cell_pass);
         let Ok(keys) = keys_at(alloc, names, moment) else {
             return Err(AcquireFault::OutOfMemory);
         };
@@ -39,6 +51,7 @@ impl<N: CellNaming> ClaimTable<N> {
             rt,
             alloc,
             cells,
+            cell_pass,
             moment,
             keys.as_slice(),
             most_held,

@@ -11,14 +11,14 @@ ghost use Rattle.counter_directory.specs.Windows.{ExpiredBelow, FitsRing, KeepsF
 ghost use Rattle.counter_directory.specs.Keys.{key_count, AddsEach};
 ghost use Rattle.counter_directory.specs.Acquiring.{AreOf};
 ghost use Rattle.counter_directory.specs.Acquired.{Grows};
-ghost use Rattle.counter_directory.specs.Acquiring.{Binds};
+ghost use Rattle.counter_directory.specs.Acquiring.{Binds, HasBeenTold};
 ghost use Rattle.rate_types.specs.declared.counter_key.CounterKey.{CounterKey};
 
 use crate::acquired::AcquireFault;
 use crate::claim_table::ClaimTable;
 use crate::counter::SharedCounter;
 use crate::new_counter::NewCounter;
-use counter_cells::{CellNaming, Cells};
+use counter_cells::{CellNaming, CellPass, Cells};
 use rate_types::{OutOfMemory, Seconds};
 use std::alloc::Global;
 use std::sync::Wait;
@@ -26,11 +26,11 @@ use std::sync::Wait;
 impl<N: CellNaming> ClaimTable<N> {
     /// Raises the moment.
     pub(crate) fn expire(&mut self, moment: Seconds) -> Result<(), OutOfMemory>
-        requires { self.old.pool.last ≤ moment }
+        requires { (self.old.pool.last ≤ moment) × (moment ≤ self.old.claimer.heard) }
         ensures same { (self.new.pool.claims ≡ self.old.pool.claims) × (self.new.pool.reserved ≡ self.old.pool.reserved)
             × (self.new.pool.most ≡ self.old.pool.most) × (self.new.index ≡ self.old.index) × (self.new.claimer ≡ self.old.claimer) }
         ensures last { self.new.pool.last ≡ moment }
-        ensures expired { OnOk result (ExpiredBelow 4 moment self.new.pool.rings.items × (self.new.pool.held.items ≡ [])) }
+        ensures expired { OnOk result (ExpiredBelow 4 moment self.new.pool.rings.items) }
     {
         self.pool.expire(moment)
     }
@@ -101,17 +101,19 @@ impl<N: CellNaming> ClaimTable<N> {
         rt: &R,
         alloc: Global,
         cells: &Cells<N>,
+        cell_pass: &mut CellPass<N>,
         moment: Seconds,
         keys: &[SharedCounter],
         most_held: usize,
     ) -> Result<(), AcquireFault>
         requires keys { AreOf moment keys.now × (length keys.now ≤ MOST_PINS) }
-        requires later { self.old.pool.last ≤ moment }
+        requires later { (self.old.pool.last ≤ moment) × (moment ≤ self.old.claimer.heard) }
         ensures last { OnOk result (self.new.pool.last ≡ moment) }
         ensures most { self.new.pool.most ≡ self.old.pool.most }
         ensures did { Binds (record { cells = N.setup.cells; claims = self.old.pool.most; held = most_held }) moment keys.now
-            (record { claimer = self.old.claimer; claims = self.old.pool.claims.items }) result
-            (record { claimer = self.new.claimer; claims = self.new.pool.claims.items }) }
+            (record { used = length self.old.claimer.used_claims; claims = self.old.pool.claims.items }) result
+            (record { used = length self.new.claimer.used_claims; claims = self.new.pool.claims.items }) cell_pass.old cell_pass.new }
+        ensures told { HasBeenTold cell_pass.old cell_pass.new }
     {
         if self.expire(moment).is_err() {
             return Err(AcquireFault::OutOfMemory);
@@ -127,7 +129,7 @@ impl<N: CellNaming> ClaimTable<N> {
         if self.make_room(missing.len()).is_err() {
             return Err(AcquireFault::OutOfMemory);
         }
-        if !self.reserve_cells(rt, cells, missing.len(), most_held) {
+        if !self.reserve_cells(rt, cells, cell_pass, missing.len(), most_held) {
             return Err(AcquireFault::CountersFull {
                 moment,
                 live: self.pool.live(),

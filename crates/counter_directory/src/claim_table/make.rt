@@ -7,13 +7,15 @@ use counter_cells::{CellClaimer, CellNaming};
 use rate_types::OutOfMemory;
 use std::alloc::Global;
 use std::collections::HashMap;
+use std::hash::RandomState;
 
 impl<N: CellNaming> ClaimTable<N> {
-    /// The table over a claimer that has used no claim.
+    /// The table over a claimer that has used no claim, with an index whose hashes go by the seed.
     pub(crate) fn make(
         alloc: Global,
         claimer: CellClaimer<N>,
         most: u64,
+        seed: RandomState,
     ) -> Result<ClaimTable<N>, OutOfMemory>
         requires most { most ≤ MOST_CLAIM_NUMBERS }
         requires claimer { claimer.used_claims ≡ [] }
@@ -22,7 +24,7 @@ impl<N: CellNaming> ClaimTable<N> {
         let pool = CellPool::make(alloc, claimer.cells(), most)?;
         Ok(ClaimTable {
             pool,
-            index: HashMap::new(alloc),
+            index: HashMap::with_hasher(alloc, seed),
             claimer,
         })
     }

@@ -11,6 +11,7 @@ use rate_types::{CounterName, Seconds};
 use std::alloc::Global;
 use std::marker::Brand;
 use std::process::Abort;
+use std::random::RandomSource;
 use std::sync::Wait;
 use std::test::*;
 use std::thread::{Threads, join};
@@ -153,14 +154,14 @@ fn four_threads_make_a_lawful_list(rt: HostRuntime) -> Result<(), Fail> {
     list_of_four_threads::<Brand, _>(&rt, rt.alloc(), opened)
 }
 
-fn list_of_four_threads<N: CellNaming + Send + Sync, R: Threads + Abort + Wait + Sync>(
-    rt: &R,
-    alloc: Global,
-    opened: OpenedCells,
-) -> Result<(), Fail>
+fn list_of_four_threads<
+    N: CellNaming + Send + Sync,
+    R: Threads + Abort + RandomSource + Wait + Sync,
+>(rt: &R, alloc: Global, opened: OpenedCells) -> Result<(), Fail>
     requires name { (table_of opened ≡ N.table) × (setup_of opened ≡ N.setup) }
+    requires workers { N.setup.passes ≡ 4 }
 {
-    let (cells, directory, workers) = open::<N>(alloc, opened, 100_000, 4).ok_or("memory")?;
+    let (cells, directory, workers) = open::<N, _>(rt, alloc, opened, 100_000, 4).ok_or("memory")?;
     let passes = take_in_four_threads(rt, alloc, &directory, &cells, workers).ok_or(
         "each thread ends",
     )?;

@@ -34,3 +34,19 @@ returns-clause-ticks g c all =
     c.join_passes.ensures.joined c.into_seat-seat.ensures.seat.1 c.into_seat-seat.ensures.claimer c.join_passes.ensures.numbers all c.close_with-closed.ensures.values.2 in
     let word = at_read (slots_items c.close_with-closed.result.words) 0 c.word-2.result c.word-2.ensures in
     subst (λ m. TicksAreLawful g.N.CellNaming.setup.start m (ticks_of c.args.passes.items)) (let low = e.low in omega (arith, word, c.capped-moment.ensures)) e.ticks
+
+pub returns-clause-held : goal.returns-clause-held
+returns-clause-held g c all =
+    let self = c.args.self in
+    (closes self.table.shared.key _ self.named.1 _ c.into_seat-seat.result.me.0 c.join_passes.new.claimer.me.0 c.args.claimer c.args.passes.items _ _ c.join_passes.ensures.joined
+    c.into_seat-seat.ensures.seat.1 c.into_seat-seat.ensures.claimer c.join_passes.ensures.numbers all c.close_with-closed.ensures.values.2).held
+
+pub returns-clause-heard : goal.returns-clause-heard
+returns-clause-heard g c all =
+    let self = c.args.self in
+    let e = closes self.table.shared.key _ self.named.1 _ c.into_seat-seat.result.me.0 c.join_passes.new.claimer.me.0 c.args.claimer c.args.passes.items _ _
+    c.join_passes.ensures.joined c.into_seat-seat.ensures.seat.1 c.into_seat-seat.ensures.claimer c.join_passes.ensures.numbers all c.close_with-closed.ensures.values.2 in
+    let word = at_read (slots_items c.close_with-closed.result.words) 0 c.word-2.result c.word-2.ensures in
+    let low = e.low in
+    let heard = e.heard in
+    omega (arith, word, c.capped-moment.ensures)

@@ -1,5 +1,5 @@
 use Rattle.std.proofs.Common.{arith, sym, ◌∙◌}
-use Rattle.counter_cells.proofs.Passes.{still_pass}
+use Rattle.counter_cells.proofs.Passes.{still_pass, unpin_less, unpin_else}
 use Rattle.counter_cells.proofs.Tables.{unpin_asks}
 use Rattle.counter_cells.proofs.cells.Cells.unpin.Goals as goal
 
@@ -17,3 +17,11 @@ invariant_of-pass g c =
     let p = still_pass c.args.cell c.gate.result c.pass.inside.seat.me.0 c.fetch_sub.new.seat.me.0 c.gate.ensures c.fetch_sub.ensures.2.0
     (rw c.pass.view_is c.requires.pin) i.1 in
     ((c.fetch_sub.ensures.0 ∙ i.0.0, c.fetch_sub.ensures.2.1 ∙ i.0.1), p.0, i.2 ∙ sym p.1, omega (arith, p.2, i.3))
+
+pub returns-clause-less : goal.returns-clause-less
+returns-clause-less g c =
+    unpin_less c.args.cell c.gate.result c.args.pass.now c.pass.inside.seat.me.0 c.fetch_sub.new.seat.me.0 c.pass.view_is c.gate.ensures c.fetch_sub.ensures.2.0 c.requires.pin
+
+pub returns-clause-others : goal.returns-clause-others
+returns-clause-others g c =
+    unpin_else c.args.cell c.gate.result c.args.pass.now c.pass.inside.seat.me.0 c.fetch_sub.new.seat.me.0 c.pass.view_is c.gate.ensures c.fetch_sub.ensures.2.0 c.requires.pin

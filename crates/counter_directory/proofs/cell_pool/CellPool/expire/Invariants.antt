@@ -1,4 +1,4 @@
-use Rattle.std.proofs.Common.{◌≡◌, []}
+use Rattle.std.proofs.Common.{◌≡◌}
 use Rattle.counter_directory.specs.Windows.{ExpiredBelow}
 use Rattle.counter_directory.proofs.cell_pool.CellPool.expire.Given as goal
 
@@ -11,6 +11,6 @@ invariant-loop-unit l = record {
   cells : l.self.cells ≡ l.initial.self.cells;
   most : l.self.most ≡ l.initial.self.most;
   last : l.self.last ≡ l.fn.moment;
-  held : l.self.held.items ≡ [];
+  held : l.self.held ≡ l.initial.self.held;
   expired : ExpiredBelow l.unit l.fn.moment l.self.rings.items;
 }

@@ -13,7 +13,7 @@ bind_all-requires-clause-keys g c =
     let last : s.last ≡ c.args.moment = p.last ∙ r.3 ∙ c.expire.ensures.last in
     let rings = ap (λ v. v.items) p.rings ∙ ap (λ v. v.items) r.1 in
     let expired : ExpiredBelow 4 s.last s.rings.items = subst (λ m. ExpiredBelow 4 m s.rings.items) (sym last)
-    (subst (λ l. ExpiredBelow 4 c.args.moment l) (sym rings) (ok_told c.expire.result c.if-is_err.ensures.negation c.expire.ensures.expired).0) in (
+    (subst (λ l. ExpiredBelow 4 c.args.moment l) (sym rings) (ok_told c.expire.result c.if-is_err.ensures.negation c.expire.ensures.expired)) in (
       subst (λ m. AreOf m c.in-Ok.missing.items) (sym last) (c.in-Ok.ensures.among c.args.moment c.requires.keys.0),
       rings_fit s.last s.rings.items s.windows expired,
     )

@@ -3,6 +3,7 @@ use Rattle.std.specs.Prelude.{Some}
 use Rattle.std.proofs.Common.{cond}
 use Rattle.std.specs.HashMap.{get}
 use Rattle.rate_types.specs.Counters.{same_counter}
+use Rattle.counter_cells.specs.declared.view.CellView.{CellView}
 use Rattle.counter_directory.specs.declared.claim.Claim.{Claim}
 use Rattle.counter_directory.proofs.Opening.{last_reserved, reset_reserved, opens, gates_to, ok_then}
 use Rattle.counter_directory.proofs.Indexing.{finds}
@@ -44,6 +45,7 @@ invariant_of-self g c =
     let x : Claim = record { key = c.args.listed; cell = e.claims.0; claim = e.claims.1; moment = b.pool.last } in
     record {
       size = e.numbers.cells ∙ b.size;
+      heard = omega (arith, e.same.2, b.heard, ap (λ (v : CellView). v.heard) c.open_cell.ensures.opened, ap (λ (v : CellView). v.heard) c.reset.ensures.reset);
       gates = gates_to _ _ _ _ _ _ _ _ _ _ _ e.numbers.cells e.same.2 e.numbers.next_claim refl refl
           (opens b.claimer _ _ b.pool.cells b.pool.most b.pool.last b.pool.fresh b.pool.next_claim c.len.result x c.index-spot.result.now c.index-spot.result.now
           b.pool.claims.items _ b.pool.rings.items b.pool.expired.items b.pool.held.items b.pool.reserved.items _
