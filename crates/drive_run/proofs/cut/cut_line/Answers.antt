@@ -1,8 +1,8 @@
 use Rattle.std.proofs.Common.{◌≡◌, ◌+◌, ◌-◌, ◌==◌, take, drop, length, Some, sym, ◌∙◌, arith, length-drop}
 use Rattle.std.specs.List.{position}
 use Rattle.std.proofs.lemmas.List.{take_all}
-use Rattle.drive_run.proofs.Cut.{cut_at, cut_rest}
-use Rattle.drive_run.proofs.script.cut_line.Goals as goal
+use Rattle.drive_run.proofs.Cutting.{cut_at, cut_rest}
+use Rattle.drive_run.proofs.cut.cut_line.Goals as goal
 
 pub returns-in-Some-clause-cut : goal.returns-in-Some-clause-cut
 returns-in-Some-clause-cut c =
