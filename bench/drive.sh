@@ -1,6 +1,7 @@
 #!/usr/bin/env bash
 # Measures `ratelimit drive`: lines per second and peak memory, with a configuration of 1,000 flat nodes and a script of
 # checks over 10 and over 1,000 distinct values, with a tick as every 500th line. Beside it, in the same run:
+#   lookup     `ratelimit lookup` of the same checks as requests
 #   yardstick  a plain python3 script that parses each line with json, counts the texts in a dict and prints a JSON line
 #   peer       the command in PEER, where it is set: it takes the configuration's name as its last word, and the script
 # Run it at the top of the repository: bench/drive.sh [LINES, 20000 unless given] [PROGRAM]
@@ -138,6 +139,10 @@ for values in 10 1000; do
     script=$work/script-$values.jsonl
     script_of "$values" >"$script"
     row "$values" ratelimit "$script" "$program" drive "$config"
+    # Each check as a request; a tick is a line that is refused.
+    requests=$work/requests-$values.jsonl
+    sed 's/^{"check":\(.*\)}$/\1/' "$script" >"$requests"
+    row "$values" lookup "$requests" "$program" lookup "$config"
     cp "$out" "$work/records"
     row "$values" yardstick "$script" python3 "$work/yardstick.py"
     if [ -n "${PEER:-}" ]; then

@@ -77,6 +77,40 @@ judge word-not-utf8 $? 1 "$none" 'ratelimit: usage'
 run drive -x <"$script" >"$out" 2>"$err"
 judge option-only $? 1 "$none"
 
+run drive --cells 0 "$config" <"$script" >"$out" 2>"$err"
+judge cells-out-of-range $? 1 "$none" 'ratelimit: usage'
+
+run drive --workers 2 "$config" <"$script" >"$out" 2>"$err"
+judge several-workers $? 1 "$none" 'ratelimit: usage'
+
+run drive "$config" --help <"$script" >"$out" 2>"$err"
+judge help-behind-a-command $? 1 "$none" 'ratelimit: usage'
+
+run drive --cells 262144 "$config" --start=0 <"$script" >"$out" 2>"$err"
+judge options-between-files $? 0 "$minute"
+
+run drive -- "$config" <"$script" >"$out" 2>"$err"
+judge file-behind-two-dashes $? 0 "$minute"
+
+printf 'ratelimit 0.1.0\n' >"$work/version"
+run --version </dev/null >"$out" 2>"$err"
+judge version $? 0 "$work/version"
+
+run --help </dev/null >"$out" 2>"$err"
+judge help $? 0 -
+
+run --help drive </dev/null >"$out" 2>"$err"
+judge help-with-a-word $? 1 "$none" 'ratelimit: usage'
+
+run lookup "$top/examples/gateway.json" <"$top/examples/requests.jsonl" >"$out" 2>"$err"
+judge lookup $? 0 "$here/requests.out"
+
+run lookup "$top/examples/rules.json" </dev/null >"$out" 2>"$err"
+judge lookup-of-no-request $? 0 "$none"
+
+run lookup </dev/null >"$out" 2>"$err"
+judge lookup-without-file $? 1 "$none"
+
 run drive "$config" -x <"$script" >"$out" 2>"$err"
 judge option-after-file $? 1 "$none"
 

@@ -11,44 +11,45 @@ use Rattle.rate_types.specs.Requests.{RequestParts}
 use Rattle.rate_types.specs.declared.counter_key.CounterKey.{CounterKey}
 use Rattle.rate_types.specs.declared.request.Descriptor.{Descriptor}
 use Rattle.rate_types.specs.declared.request.OwnLimit.{OwnLimit}
+use Rattle.rate_types.specs.declared.unit.Unit.{Unit}
 use Rattle.window_keys.specs.Counter.{counter_of, window_end_of}
-use Rattle.rule_lookup.specs.declared.flat.FlatConfig.{FlatConfig}
+use Rattle.descriptor_tree.specs.Trees.{DomainTree}
 use Rattle.rule_lookup.specs.declared.found.Found.{Found}
 use Rattle.rule_lookup.specs.declared.found.Found.TheVariants.{NoRule, Unlimited, Limited}
 use Rattle.rls_core.specs.declared.status.Count.{Count}
 use Rattle.rls_core.specs.declared.status.Count.TheVariants.{NoCount, Before, Seen}
 use Rattle.rls_core.specs.declared.status.Status.{Status}
 use Rattle.rls_core.specs.Reply.{charge_shown, charges_of, counter_under, counters_named, found_for}
-use Rattle.rls_core.specs.Sequential.{IsNumberOf, Needs, HasRoom, LacksRoom, charged_under}
+use Rattle.rls_core.specs.Sequential.{IsNumberOf, Needs, HasRoom, LacksRoom}
 use Rattle.rls_core.specs.Sums.{Sums, has_sum, sum_on}
 use Rattle.rls_core.specs.Plain.{PlainState, Drops, Charges}
 use Rattle.reply_text.specs.declared.record.Record.{Record}
-use Rattle.drive_run.specs.declared.line.Line.{Line}
+use Rattle.drive_run.specs.ScriptLine.{ScriptLine}
 use Rattle.drive_run.specs.Totals.{ledger_of, sights_of, charged_in, charges_shown, sights_shown}
 use Rattle.drive_run.specs.Refusals.{all_bound, counters_bound, is_bound}
 use Rattle.window_keys.proofs.Counters.{same_end, ends_later}
 
 -- a further line, in a list that is made line after line
-module _ {X : Type 0} (one : Line → Record → List X) (all : List Line → List Record → List X) (none : all [] [] ≡ [])
-    (first : (l : Line) (r : Record) (ls : List Line) (rs : List Record) → all (l ∷ ls) (r ∷ rs) ≡ one l r ++ all ls rs) where
-  line_push : (ls : List Line) (rs : List Record) (l : Line) (r : Record) → length rs ≡ length ls → all (ls ++ l ∷ []) (rs ++ r ∷ []) ≡ all ls rs ++ one l r
+module _ {X : Type 0} (one : ScriptLine → Record → List X) (all : List ScriptLine → List Record → List X) (none : all [] [] ≡ [])
+    (first : (l : ScriptLine) (r : Record) (ls : List ScriptLine) (rs : List Record) → all (l ∷ ls) (r ∷ rs) ≡ one l r ++ all ls rs) where
+  line_push : (ls : List ScriptLine) (rs : List Record) (l : ScriptLine) (r : Record) → length rs ≡ length ls → all (ls ++ l ∷ []) (rs ++ r ∷ []) ≡ all ls rs ++ one l r
   line_push [] [] l r h = first l r [] [] ∙ ap (λ k. one l r ++ k) none ∙ append-nil (one l r) ∙ ap (λ k. k ++ one l r) (sym none)
   line_push [] (s ∷ rs) l r h = absurd (omega (arith, h))
   line_push (m ∷ ls) [] l r h = absurd (omega (arith, h))
   line_push (m ∷ ls) (s ∷ rs) l r h = first m s (ls ++ l ∷ []) (rs ++ r ∷ []) ∙ ap (λ k. one m s ++ k) (line_push ls rs l r (omega (arith, h)))
       ∙ sym (append_assoc (one m s) (all ls rs) (one l r)) ∙ ap (λ k. k ++ one l r) (sym (first m s ls rs))
 
-pub ledger_push : (ls : List Line) (rs : List Record) (l : Line) (r : Record) → length rs ≡ length ls
+pub ledger_push : (ls : List ScriptLine) (rs : List Record) (l : ScriptLine) (r : Record) → length rs ≡ length ls
     → ledger_of (ls ++ l ∷ []) (rs ++ r ∷ []) ≡ ledger_of ls rs ++ charges_shown l r.moment r.outcome
 ledger_push = line_push (λ l r. charges_shown l r.moment r.outcome) ledger_of refl (λ l r ls rs. refl)
 
-pub sights_push : (ls : List Line) (rs : List Record) (l : Line) (r : Record) → length rs ≡ length ls
+pub sights_push : (ls : List ScriptLine) (rs : List Record) (l : ScriptLine) (r : Record) → length rs ≡ length ls
     → sights_of (ls ++ l ∷ []) (rs ++ r ∷ []) ≡ sights_of ls rs ++ sights_shown l r.moment r.outcome
 sights_push = line_push (λ l r. sights_shown l r.moment r.outcome) sights_of refl (λ l r ls rs. refl)
 
-pub bound_push : (config : List FlatConfig) (ls : List Line) (rs : List Record) (l : Line) (r : Record) → length rs ≡ length ls
-    → all_bound config (ls ++ l ∷ []) (rs ++ r ∷ []) ≡ all_bound config ls rs ++ counters_bound config l r.moment r.outcome
-bound_push config = line_push (λ l r. counters_bound config l r.moment r.outcome) (all_bound config) refl (λ l r ls rs. refl)
+pub bound_push : (configs : ℕ → List DomainTree) (ls : List ScriptLine) (rs : List Record) (l : ScriptLine) (r : Record) → length rs ≡ length ls
+    → all_bound configs (ls ++ l ∷ []) (rs ++ r ∷ []) ≡ all_bound configs ls rs ++ counters_bound (configs r.version) l r.moment r.outcome
+bound_push configs = line_push (λ l r. counters_bound (configs r.version) l r.moment r.outcome) (all_bound configs) refl (λ l r ls rs. refl)
 
 -- the counters of a request are open at its moment
 any_open : (moment : ℕ) (c k : CounterKey) → same_counter c k ≡ true → moment < window_end_of k → nat_lt moment (window_end_of c) ≡ true
@@ -67,7 +68,7 @@ or_true : (a b : Bool) → (a || b) ≡ true → (a ≡ false → b ≡ true)
 or_true true b h = λ f. cc
 or_true false b h = λ f. h
 
-pub named_open : (config : List FlatConfig) (request : RequestParts) (moment : ℕ) (ds : List Descriptor) (c : CounterKey)
+pub named_open : (config : List DomainTree) (request : RequestParts) (moment : ℕ) (ds : List Descriptor) (c : CounterKey)
     → list_any (λ k. same_counter c k) (flat_map (λ d. counter_under request moment d (found_for config request d)) ds) ≡ true → nat_lt moment (window_end_of c) ≡ true
 named_open config request moment [] c h = cc
 named_open config request moment (d ∷ ds) c h =
@@ -107,17 +108,14 @@ charges_closed request moment (d ∷ ds) (s ∷ ss) c h =
     omega (arith, both, shown_closed request moment d s.limit s.count c h, charges_closed request moment ds ss c h)
 
 -- the sums of a limiter are those of these lines and records
-pub record AgreesWith (config : List FlatConfig) (ls : List Line) (rs : List Record) (moment : ℕ) (sums : Sums) : Type 0 where
-  pub bound : (c : CounterKey) → has_sum sums c ≡ is_bound config ls rs moment c
+pub record AgreesWith (configs : ℕ → List DomainTree) (ls : List ScriptLine) (rs : List Record) (moment : ℕ) (sums : Sums) : Type 0 where
+  pub bound : (c : CounterKey) → has_sum sums c ≡ is_bound configs ls rs moment c
   pub charged : (c : CounterKey) → sum_on sums c ≡ cond (nat_lt moment (window_end_of c)) (charged_in (ledger_of ls rs) c) 0
 
 -- a counter of a request has what the ledger has on it
-pub charged_here : (config : List FlatConfig) (ls : List Line) (rs : List Record) (moment : ℕ) (sums : Sums) → AgreesWith config ls rs moment sums
-    → (request : RequestParts) (d : Descriptor) (found : Found) → charged_under (sum_on sums) request moment d found
-    ≡ charged_under (charged_in (ledger_of ls rs)) request moment d found
-charged_here config ls rs moment sums agrees request d NoRule = refl
-charged_here config ls rs moment sums agrees request d (Unlimited rule) = refl
-charged_here config ls rs moment sums agrees request d (Limited limit unit shadow rule) =
+pub charged_here : (configs : ℕ → List DomainTree) (ls : List ScriptLine) (rs : List Record) (moment : ℕ) (sums : Sums) → AgreesWith configs ls rs moment sums
+    → (request : RequestParts) (d : Descriptor) (unit : Unit) → sum_on sums (counter_of request.domain d unit moment) ≡ charged_in (ledger_of ls rs) (counter_of request.domain d unit moment)
+charged_here configs ls rs moment sums agrees request d unit =
     let later : moment < window_end_of (counter_of request.domain d unit moment) = ends_later request.domain d unit moment in
     let lasts : nat_lt moment (window_end_of (counter_of request.domain d unit moment)) ≡ true = grind (arith, nat_tests) in
     agrees.charged (counter_of request.domain d unit moment) ∙ ap (λ b. cond b (charged_in (ledger_of ls rs) (counter_of request.domain d unit moment)) 0) lasts
@@ -126,29 +124,29 @@ charged_here config ls rs moment sums agrees request d (Limited limit unit shado
 number_by : (f g : CounterKey → Bool) (n : ℕ) → ((c : CounterKey) → f c ≡ g c) → IsNumberOf f n → IsNumberOf g n
 number_by f g n same h = record { counters = h.counters; differ = h.differ; all = λ c. h.all c ∙ same c; count = h.count }
 
-needs_by : (config : List FlatConfig) (request : RequestParts) (moment : ℕ) (f g : CounterKey → Bool) (live wanted : ℕ) → ((c : CounterKey) → f c ≡ g c)
+needs_by : (config : List DomainTree) (request : RequestParts) (moment : ℕ) (f g : CounterKey → Bool) (live wanted : ℕ) → ((c : CounterKey) → f c ≡ g c)
     → Needs config request moment f live wanted → Needs config request moment g live wanted
 needs_by config request moment f g live wanted same h = record {
   lives = number_by f g live same h.lives;
   wants = number_by _ _ wanted (λ c. ap (λ b. list_any (λ k. same_counter c k) (counters_named config request moment) && not b) (same c)) h.wants;
 }
 
-pub room_by : (config : List FlatConfig) (cells : ℕ) (request : RequestParts) (moment : ℕ) (f g : CounterKey → Bool) → ((c : CounterKey) → f c ≡ g c)
+pub room_by : (config : List DomainTree) (cells : ℕ) (request : RequestParts) (moment : ℕ) (f g : CounterKey → Bool) → ((c : CounterKey) → f c ≡ g c)
     → HasRoom config cells request moment f → HasRoom config cells request moment g
 room_by config cells request moment f g same h = record { live = h.live; wanted = h.wanted; needs = needs_by config request moment f g h.live h.wanted same h.needs; fits = h.fits }
 
-pub lacks_by : (config : List FlatConfig) (cells : ℕ) (request : RequestParts) (moment : ℕ) (f g : CounterKey → Bool) (live wanted : ℕ) → ((c : CounterKey) → f c ≡ g c)
+pub lacks_by : (config : List DomainTree) (cells : ℕ) (request : RequestParts) (moment : ℕ) (f g : CounterKey → Bool) (live wanted : ℕ) → ((c : CounterKey) → f c ≡ g c)
     → LacksRoom config cells request moment f live wanted → LacksRoom config cells request moment g live wanted
 lacks_by config cells request moment f g live wanted same h = record { needs = needs_by config request moment f g live wanted same h.needs; above = h.above }
 
-module _ (config : List FlatConfig) (ls : List Line) (rs : List Record) (l : Line) (r : Record) (size : length rs ≡ length ls) (moment : ℕ) (sums : Sums)
-    (agrees : AgreesWith config ls rs moment sums) where
+module _ (configs : ℕ → List DomainTree) (ls : List ScriptLine) (rs : List Record) (l : ScriptLine) (r : Record) (size : length rs ≡ length ls) (moment : ℕ) (sums : Sums)
+    (agrees : AgreesWith configs ls rs moment sums) where
   -- a line that gives no cell and charges nothing
-  pub agrees_still : counters_bound config l r.moment r.outcome ≡ [] → charges_shown l r.moment r.outcome ≡ [] → AgreesWith config (ls ++ l ∷ []) (rs ++ r ∷ []) moment sums
+  pub agrees_still : counters_bound (configs r.version) l r.moment r.outcome ≡ [] → charges_shown l r.moment r.outcome ≡ [] → AgreesWith configs (ls ++ l ∷ []) (rs ++ r ∷ []) moment sums
   agrees_still none nothing = record {
     bound = λ c. agrees.bound c
         ∙ ap (λ ks. nat_lt moment (window_end_of c) && list_any (λ k. same_counter c k) ks)
-        (sym (bound_push config ls rs l r size ∙ ap (λ ks. all_bound config ls rs ++ ks) none ∙ append-nil (all_bound config ls rs)));
+        (sym (bound_push configs ls rs l r size ∙ ap (λ ks. all_bound configs ls rs ++ ks) none ∙ append-nil (all_bound configs ls rs)));
     charged = λ c. agrees.charged c
         ∙ ap (λ xs. cond (nat_lt moment (window_end_of c)) (charged_in xs c) 0) (sym (ledger_push ls rs l r size ∙ ap (λ xs. ledger_of ls rs ++ xs) nothing
         ∙ append-nil (ledger_of ls rs)));
@@ -174,11 +172,11 @@ later_sum a b e n h = by (nat_lt b e) refl
     by true is = let early : nat_lt a e ≡ true = grind (arith, nat_tests) in rw (is, early) refl
     by false is = rw is refl
 
-pub agrees_later : (config : List FlatConfig) (ls : List Line) (rs : List Record) (now : ℕ) (old new : PlainState) → old.moment ≤ now → AgreesWith config ls rs old.moment old.sums
-    → Drops now old new → AgreesWith config ls rs now new.sums
-agrees_later config ls rs now old new h agrees drops = record {
+pub agrees_later : (configs : ℕ → List DomainTree) (ls : List ScriptLine) (rs : List Record) (now : ℕ) (old new : PlainState) → old.moment ≤ now → AgreesWith configs ls rs old.moment old.sums
+    → Drops now old new → AgreesWith configs ls rs now new.sums
+agrees_later configs ls rs now old new h agrees drops = record {
   bound = λ c. drops.bound c ∙ ap (λ b. b && nat_lt now (window_end_of c)) (agrees.bound c)
-      ∙ later_first old.moment now (window_end_of c) (list_any (λ k. same_counter c k) (all_bound config ls rs)) h;
+      ∙ later_first old.moment now (window_end_of c) (list_any (λ k. same_counter c k) (all_bound configs ls rs)) h;
   charged = λ c. drops.charged c ∙ ap (λ n. cond (nat_lt now (window_end_of c)) n 0) (agrees.charged c)
       ∙ later_sum old.moment now (window_end_of c) (charged_in (ledger_of ls rs) c) h;
 }
@@ -193,19 +191,20 @@ sum_open : (lasts : Bool) (old more : ℕ) → (lasts ≡ false → more ≡ 0) 
 sum_open true old more h = refl
 sum_open false old more h = let none : more ≡ 0 = h refl in omega (arith, none)
 
-pub agrees_charged : (ls : List Line) (rs : List Record) (l : Line) (r : Record) (size : length rs ≡ length ls) (request : RequestParts) (ss : List Status) (old new : PlainState)
-    → counters_bound old.config l r.moment r.outcome ≡ counters_named old.config request old.moment
+pub agrees_charged : (configs : ℕ → List DomainTree) (ls : List ScriptLine) (rs : List Record) (l : ScriptLine) (r : Record) (size : length rs ≡ length ls)
+    (request : RequestParts) (ss : List Status) (old new : PlainState)
+    → counters_bound (configs r.version) l r.moment r.outcome ≡ counters_named old.config request old.moment
     → charges_shown l r.moment r.outcome ≡ charges_of request old.moment request.descriptors ss
-    → AgreesWith old.config ls rs old.moment old.sums → Charges request ss old new → AgreesWith old.config (ls ++ l ∷ []) (rs ++ r ∷ []) old.moment new.sums
-agrees_charged ls rs l r size request ss old new named shown agrees charges = record {
+    → AgreesWith configs ls rs old.moment old.sums → Charges request ss old new → AgreesWith configs (ls ++ l ∷ []) (rs ++ r ∷ []) old.moment new.sums
+agrees_charged configs ls rs l r size request ss old new named shown agrees charges = record {
   bound = λ c. charges.bound c
       ∙ ap (λ b. b || list_any (λ k. same_counter c k) (counters_named old.config request old.moment)) (agrees.bound c)
-      ∙ either_open (nat_lt old.moment (window_end_of c)) (list_any (λ k. same_counter c k) (all_bound old.config ls rs))
+      ∙ either_open (nat_lt old.moment (window_end_of c)) (list_any (λ k. same_counter c k) (all_bound configs ls rs))
       (list_any (λ k. same_counter c k) (counters_named old.config request old.moment)) (named_open old.config request old.moment request.descriptors c)
       ∙ ap (λ b. nat_lt old.moment (window_end_of c) && b)
-      (sym (list_any-append (λ k. same_counter c k) (all_bound old.config ls rs) (counters_named old.config request old.moment)))
+      (sym (list_any-append (λ k. same_counter c k) (all_bound configs ls rs) (counters_named old.config request old.moment)))
       ∙ ap (λ ks. nat_lt old.moment (window_end_of c) && list_any (λ k. same_counter c k) ks)
-      (sym (bound_push old.config ls rs l r size ∙ ap (λ ks. all_bound old.config ls rs ++ ks) named));
+      (sym (bound_push configs ls rs l r size ∙ ap (λ ks. all_bound configs ls rs ++ ks) named));
   charged = λ c. charges.charged c
       ∙ ap (λ n. n + charged_in (charges_of request old.moment request.descriptors ss) c) (agrees.charged c)
       ∙ sum_open (nat_lt old.moment (window_end_of c)) (charged_in (ledger_of ls rs) c) (charged_in (charges_of request old.moment request.descriptors ss) c)

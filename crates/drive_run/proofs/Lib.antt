@@ -1,5 +1,7 @@
-pub mod Cut
-pub mod Flat
+pub mod Cutting
+pub mod Plain
+pub mod Reloads
+pub mod Versions
 pub mod Ledgers
 pub mod Bounds
 pub mod Nexts

@@ -1,4 +1,11 @@
+pub mod Versions
+pub mod Lines
+pub mod FieldNames
+pub mod ScriptLine
 pub mod Script
+pub mod Views
+pub mod LineAnswers
+pub mod Pointers
 pub mod Run
 pub mod Refusals
 pub mod Totals

@@ -1,14 +1,25 @@
--- The lines of a script.
-use Rattle.std.specs.Prelude.{◌≡◌, ℕ, ◌==◌, List, [], ◌∷◌, length, map, Option, Some, None, option_map, option_and_then, codes, ⊤}
-use Rattle.std.specs.List.{slice_split, AllByRecursion}
+-- The lines of a script, and what each of them reads as.
+use Rattle.std.specs.Prelude.{ℕ, ◌==◌, List, [], ◌∷◌, ◌++◌, map, Option, Some, None, Result, Ok, Err}
+use Rattle.std.specs.List.{slice_split}
 use Rattle.serde_json.specs.Data.{Data}
-use Rattle.proto_json.specs.Document.{json_of}
+use Rattle.rate_types.specs.Places.{item}
+use Rattle.rate_types.specs.declared.refused.Refused.{Refused}
+use Rattle.rate_types.specs.declared.refused.At.{At}
 use Rattle.rate_types.specs.declared.limits.TheConstants.{LATEST_MOMENT}
-use Rattle.rate_types.specs.declared.refusals.TheConstants.{BAD_JSON, NOT_BUILT}
-use Rattle.reply_text.specs.Flat.{only_field, whole_of}
-use Rattle.reply_text.specs.Request.{flat_request}
-use Rattle.drive_run.specs.declared.line.Line.{Line}
-use Rattle.drive_run.specs.declared.line.Line.TheVariants.{Check, Tick, Bad}
+use Rattle.rate_types.specs.declared.refusals.TheConstants.{NO_EVENT, TWO_EVENTS}
+use Rattle.proto_json.specs.Said.{Said, said, says, refuses, reading_of, ◌>>=◌}
+use Rattle.proto_json.specs.Fields.{Object, Listed, Placed, take, ends}
+use Rattle.proto_json.specs.Kinds as kinds
+use Rattle.proto_json.specs.Lists.{each_item}
+use Rattle.proto_json.specs.Document.{document}
+use Rattle.descriptor_tree.specs.Trees.{DomainTree}
+use Rattle.descriptor_tree.specs.Faults.{config_faults}
+use Rattle.config_json.specs.Trees.{file_at}
+use Rattle.reply_text.specs.ReadRequest.{request}
+use Rattle.drive_run.specs.FieldNames as names
+use Rattle.drive_run.specs.ScriptLine.{ScriptLine, check, reload, tick, bad}
+
+-- ---- cutting
 
 -- a last part that is empty is no line
 abbrev pub unless_empty : List ℕ → List (List ℕ)
@@ -25,46 +36,70 @@ lines_of_parts (x ∷ y ∷ more) = x ∷ lines_of_parts (y ∷ more)
 abbrev pub cut : List ℕ → List (List ℕ)
 cut bytes = lines_of_parts (slice_split (λ b. b == 10) bytes)
 
--- a refusal of the whole line
-abbrev pub refused_with : ℕ → Line
-refused_with number = Bad (record { at = []; number = number })
+-- ---- the events
 
--- the first answer that is there
-abbrev pub first_of : {X : Type 0} → Option X → Option X → Option X
-first_of (Some x) o = Some x
-first_of None o = o
+-- a request
+unfoldable pub check_in : Placed → Said (Option ScriptLine)
+check_in v = request v.place v.value >>= kinds.read_some (λ r. says (Some (check r)))
 
--- {"check":..} with a flat request
-abbrev pub check_of : Data → Option Line
-check_of d = option_map Check (option_and_then flat_request (only_field (codes "check") d))
+-- a moment: a whole number of at most 1,000,000,000,000, above that 7 NumberRange
+unfoldable pub tick_in : Placed → Said (Option ScriptLine)
+tick_in v = kinds.whole LATEST_MOMENT v.place v.value >>= kinds.read_some (λ moment. says (Some (tick moment)))
 
--- {"tick":..} with a whole number of at most 1,000,000,000,000
-abbrev pub tick_of_data : Data → Option Line
-tick_of_data d = option_map Tick (option_and_then (whole_of LATEST_MOMENT) (only_field (codes "tick") d))
+-- a fault of a file's tree, in a list of files at this place
+abbrev pub in_list : List ℕ → At → Refused
+in_list place at = record { at = item place at.file ++ at.refused.at; number = at.refused.number }
 
--- another value is refused as not built
-abbrev pub or_not_built : Option Line → Line
-or_not_built None = refused_with NOT_BUILT
-or_not_built (Some line) = line
+-- the trees of a list of files at this place, and the faults of a configuration of them
+unfoldable pub config_of : List ℕ → List DomainTree → Said (Option ScriptLine)
+config_of place trees = said (map (in_list place) (config_faults trees)) (Some (reload trees))
 
--- bytes that are no JSON are refused as such
-abbrev pub event_of : Option Data → Line
-event_of None = refused_with BAD_JSON
-event_of (Some d) = or_not_built (first_of (check_of d) (tick_of_data d))
+-- a configuration: a list of its files as objects
+unfoldable pub configs_in : Listed → Said (Option ScriptLine)
+configs_in list = each_item file_at list >>= kinds.read_some (config_of list.place)
+
+-- such a list in a line
+unfoldable pub reload_in : Placed → Said (Option ScriptLine)
+reload_in v = kinds.list v.place v.value >>= kinds.read_some configs_in
+
+-- ---- a line
+
+-- The event of the one field that is there. The own rules, which are tried before these fields are read: 27 NoEvent where
+-- none is there, 28 TwoEvents where more than one is.
+abbrev pub one_event : List ℕ → Option Placed → Option Placed → Option Placed → Said (Option ScriptLine)
+one_event place None None None = refuses NO_EVENT place
+one_event place (Some v) None None = check_in v
+one_event place None (Some v) None = reload_in v
+one_event place None None (Some v) = tick_in v
+one_event place first second third = refuses TWO_EVENTS place
+
+-- the fields that are there, each name that is none of theirs, and then the event
+unfoldable pub line_in : Object → Said (Option ScriptLine)
+line_in o = do
+  c ← take kinds.any names.check o
+  r ← take kinds.any names.reload c.1
+  t ← take kinds.any names.tick r.1
+  place ← ends t.1
+  one_event place c.0 r.0 t.0
+
+-- a line's object at its place
+abbrev pub line_at : List ℕ → Data → Said (Option ScriptLine)
+line_at = kinds.and_read kinds.message line_in
+
+-- a line's bytes: 1 BadJson, or what their object says
+unfoldable pub line : List ℕ → Said (Option ScriptLine)
+line bytes = document bytes >>= kinds.read_some (line_at [])
+
+-- what a line says by its reading: its event, which is there where the line has no fault, or its refusal
+abbrev pub said_by : Result (Option ScriptLine) Refused → ScriptLine
+said_by (Ok (Some event)) = event
+said_by (Ok None) = bad (record { at = []; number = NO_EVENT })
+said_by (Err refused) = bad refused
 
 -- A line by its bytes. One that is refused is a line too.
-unfoldable pub line_of : List ℕ → Line
-line_of bytes = event_of (json_of bytes)
+abbrev pub line_of : List ℕ → ScriptLine
+line_of bytes = said_by (reading_of (line bytes))
 
--- The script of these bytes.
-abbrev pub script_of : List ℕ → List Line
+-- The script of these bytes: what each of its lines says.
+abbrev pub script_of : List ℕ → List ScriptLine
 script_of bytes = map line_of (cut bytes)
-
--- a check has one descriptor
-abbrev pub IsFlatLine : Line → Type 0
-IsFlatLine (Check request) = length request.descriptors ≡ 1
-IsFlatLine other = ⊤
-
--- each check of these lines has one descriptor
-abbrev pub AreFlatLines : List Line → Type 0
-AreFlatLines lines = AllByRecursion IsFlatLine lines

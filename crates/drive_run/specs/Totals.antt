@@ -10,36 +10,35 @@ use Rattle.rls_core.specs.Totals.{AreTotals}
 use Rattle.reply_text.specs.declared.record.Record.{Record}
 use Rattle.reply_text.specs.declared.record.Outcome.{Outcome}
 use Rattle.reply_text.specs.declared.record.Outcome.TheVariants as outcome
-use Rattle.drive_run.specs.declared.line.Line.{Line}
-use Rattle.drive_run.specs.declared.line.Line.TheVariants.{Check, Tick}
+use Rattle.drive_run.specs.ScriptLine.{ScriptLine, check, tick}
 
 -- the moment that a tick line offers
-abbrev pub tick_of : Line → ℕ
-tick_of (Tick moment) = moment
+abbrev pub tick_of : ScriptLine → ℕ
+tick_of (tick moment) = moment
 tick_of other = 0
 
 -- the greatest of the start and the ticks of these lines
-abbrev pub moment_after : ℕ → List Line → ℕ
+abbrev pub moment_after : ℕ → List ScriptLine → ℕ
 moment_after start [] = start
 moment_after start (l ∷ ls) = max (tick_of l) (moment_after start ls)
 
 -- the charges that an answered check shows
-abbrev pub charges_shown : Line → ℕ → Outcome → List (Charge CounterKey)
-charges_shown (Check request) moment (outcome.Checked answer) = charges_of request moment request.descriptors answer.statuses
+abbrev pub charges_shown : ScriptLine → ℕ → Outcome → List (Charge CounterKey)
+charges_shown (check request) moment (outcome.Checked answer) = charges_of request moment request.descriptors answer.statuses
 charges_shown line moment other = []
 
 -- The charges of all answered checks, line after line.
-abbrev pub ledger_of : List Line → List Record → List (Charge CounterKey)
+abbrev pub ledger_of : List ScriptLine → List Record → List (Charge CounterKey)
 ledger_of (l ∷ ls) (r ∷ rs) = charges_shown l r.moment r.outcome ++ ledger_of ls rs
 ledger_of lines records = []
 
 -- the sights that an answered check shows
-abbrev pub sights_shown : Line → ℕ → Outcome → List (Sight CounterKey)
-sights_shown (Check request) moment (outcome.Checked answer) = reply.sights_of request moment request.descriptors answer.statuses
+abbrev pub sights_shown : ScriptLine → ℕ → Outcome → List (Sight CounterKey)
+sights_shown (check request) moment (outcome.Checked answer) = reply.sights_of request moment request.descriptors answer.statuses
 sights_shown line moment other = []
 
 -- The sights of all answered checks, line after line.
-abbrev pub sights_of : List Line → List Record → List (Sight CounterKey)
+abbrev pub sights_of : List ScriptLine → List Record → List (Sight CounterKey)
 sights_of (l ∷ ls) (r ∷ rs) = sights_shown l r.moment r.outcome ++ sights_of ls rs
 sights_of lines records = []
 
@@ -48,5 +47,5 @@ abbrev pub charged_in : List (Charge CounterKey) → CounterKey → ℕ
 charged_in ledger c = charged_total same_counter c ledger
 
 -- The totals: each counter that was charged and whose window ends after the greatest of the start and the ticks.
-abbrev pub AreTotalsOf : ℕ → List Line → List Record → List Total → Type 0
+abbrev pub AreTotalsOf : ℕ → List ScriptLine → List Record → List Total → Type 0
 AreTotalsOf start lines records totals = AreTotals (charged_in (ledger_of lines records)) (moment_after start lines) totals

@@ -1,66 +1,118 @@
 // From the bytes of a line to the line.
-ghost use Rattle.std.specs.Prelude.{◌≡◌, IfOk};
+ghost use Rattle.std.specs.Prelude.{◌≡◌, IfOk, Some, option_map};
 ghost use Rattle.serde_json.specs.View.{view};
-ghost use Rattle.drive_run.specs.Script as script;
+ghost use Rattle.rate_types.specs.declared.fault.Fault.{Fault};
+ghost use Rattle.proto_json.specs.Said.{reading_of};
+ghost use Rattle.proto_json.specs.Held.{object_of, placed_of};
+ghost use Rattle.drive_run.specs.LineAnswers.{AnswersLine};
+ghost use Rattle.drive_run.specs.Views.{line_view};
+ghost use Rattle.drive_run.specs.Script as scripts;
 
 use crate::Line;
-use proto_json::{FormFault, parse};
+use crate::field_names::{CHECK, RELOAD, TICK};
+use crate::reload::read_reload;
+use proto_json::{Fields, FormFault, Placed, parse, read_whole};
 use rate_types::limits::LATEST_MOMENT;
-use rate_types::refusals::{BAD_JSON, NOT_BUILT};
+use rate_types::refusals::{NO_EVENT, TWO_EVENTS};
 use rate_types::{OutOfMemory, Place, Refused, Seconds};
-use reply_text::{only_field, read_flat_request, whole_of};
+use reply_text::read_request;
 use serde_json::Value;
 use std::alloc::Global;
+use std::sync::Arc;
 
-fn check_of(alloc: Global, value: &Value) -> Result<Option<Line>, OutOfMemory>
-    ensures { IfOk result (λ l. l ≡ script.check_of (view value.now)) }
+// A line that checks a request.
+#[tactic(auto, using(proto_json::specs::Laws::reading_then), unfolding(crate::specs::Script::check_in))]
+fn check_in(alloc: Global, placed: Placed) -> Result<Line, FormFault>
+    ensures { AnswersLine result (reading_of (scripts.check_in (placed_of placed))) }
 {
-    let Some(check) = only_field(value, "check") else {
-        return Ok(None);
-    };
-    let Some(request) = read_flat_request(alloc, check)? else {
-        return Ok(None);
-    };
-    Ok(Some(Line::Check(request)))
+    let request = read_request(alloc, placed.value, placed.place)?;
+    Ok(Line::Check(request))
 }
 
-fn tick_of(value: &Value) -> Option<Line>
-    ensures { result ≡ script.tick_of_data (view value.now) }
+// A line that offers a moment.
+#[tactic(auto, using(proto_json::specs::Laws::reading_then), unfolding(crate::specs::Script::tick_in))]
+fn tick_in(placed: Placed) -> Result<Line, FormFault>
+    ensures { AnswersLine result (reading_of (scripts.tick_in (placed_of placed))) }
 {
-    let number = whole_of(only_field(value, "tick")?, LATEST_MOMENT)?;
-    Some(Line::Tick(Seconds::capped(number)))
+    let moment = read_whole(placed.value, placed.place, LATEST_MOMENT)?;
+    Ok(Line::Tick(Seconds::capped(moment)))
 }
 
-fn refused_with(alloc: Global, number: u32) -> Line
-    ensures { result ≡ script.refused_with number }
+// A line that installs a configuration.
+fn reload_in(alloc: Global, placed: Placed) -> Result<Line, FormFault>
+    ensures { AnswersLine result (reading_of (scripts.reload_in (placed_of placed))) }
 {
-    Line::Bad(Refused {
-        at: Place::empty(alloc),
-        number,
-    })
+    let config = read_reload(alloc, placed)?;
+    let config = Arc::new(alloc, config)?;
+    Ok(Line::Reload(config))
 }
 
-fn event_of(alloc: Global, value: &Value) -> Result<Line, OutOfMemory>
-    ensures { IfOk result (λ l. l
-        ≡ script.or_not_built (script.first_of (script.check_of (view value.now)) (script.tick_of_data (view value.now)))) }
+fn refused(at: Place, number: u32) -> FormFault
+    ensures { result ≡ Fault.Refused (record { at = at; number = number }) }
 {
-    if let Some(line) = check_of(alloc, value)? {
-        return Ok(line);
+    FormFault::Refused(Refused { at, number })
+}
+
+// The line with the one event that is there.
+fn one_event(
+    alloc: Global,
+    at: Place,
+    check: Option<Placed>,
+    reload: Option<Placed>,
+    tick: Option<Placed>,
+) -> Result<Line, FormFault>
+    ensures { AnswersLine result (reading_of
+        (scripts.one_event at (option_map placed_of check) (option_map placed_of reload) (option_map placed_of tick))) }
+{
+    match (check, reload, tick) {
+        (None, None, None) => Err(refused(at, NO_EVENT)),
+        (Some(placed), None, None) => check_in(alloc, placed),
+        (None, Some(placed), None) => reload_in(alloc, placed),
+        (None, None, Some(placed)) => tick_in(placed),
+        (_, _, _) => Err(refused(at, TWO_EVENTS)),
     }
-    match tick_of(value) {
-        Some(line) => Ok(line),
-        None => Ok(refused_with(alloc, NOT_BUILT)),
-    }
+}
+
+// The line of its fields.
+#[tactic(auto, using(proto_json::specs::Laws::reading_then), unfolding(crate::specs::Script::line_in))]
+fn line_in(alloc: Global, mut fields: Fields) -> Result<Line, FormFault>
+    ensures { AnswersLine result (reading_of (scripts.line_in (object_of fields))) }
+{
+    let check = fields.take_value(CHECK)?;
+    let reload = fields.take_value(RELOAD)?;
+    let tick = fields.take_value(TICK)?;
+    let at = fields.end()?;
+    let line = one_event(alloc, at, check, reload, tick)?;
+    Ok(line)
+}
+
+// The line that a value is.
+#[tactic(auto, using(proto_json::specs::Laws::reading_then), unfolding(proto_json::specs::Kinds::and_read))]
+fn line_at(alloc: Global, value: Value, at: Place) -> Result<Line, FormFault>
+    ensures { AnswersLine result (reading_of (scripts.line_at at (view value))) }
+{
+    let fields = Fields::of(value, at)?;
+    let line = line_in(alloc, fields)?;
+    Ok(line)
+}
+
+// The line that bytes are, where they aren't refused.
+#[tactic(auto, using(proto_json::specs::Laws::reading_then), unfolding(crate::specs::Script::line))]
+fn event_of(alloc: Global, bytes: &[u8]) -> Result<Line, FormFault>
+    ensures { AnswersLine result (reading_of (scripts.line bytes.now)) }
+{
+    let value = parse(alloc, bytes)?;
+    let line = line_at(alloc, value, Place::empty(alloc))?;
+    Ok(line)
 }
 
 /// Reads a line of a script.
-#[tactic(auto, unfolding(crate::specs::Script::line_of))]
 pub fn read_line(alloc: Global, bytes: &[u8]) -> Result<Line, OutOfMemory>
-    ensures { IfOk result (λ l. l ≡ script.line_of bytes.now) }
+    ensures { IfOk result (λ l. line_view l ≡ scripts.line_of bytes.now) }
 {
-    match parse(alloc, bytes) {
-        Ok(value) => Ok(event_of(alloc, &value)?),
-        Err(FormFault::Refused(_)) => Ok(refused_with(alloc, BAD_JSON)),
+    match event_of(alloc, bytes) {
+        Ok(line) => Ok(line),
+        Err(FormFault::Refused(refused)) => Ok(Line::Bad(refused)),
         Err(FormFault::OutOfMemory) => Err(OutOfMemory),
     }
 }

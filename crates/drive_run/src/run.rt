@@ -1,15 +1,19 @@
-ghost use Rattle.std.specs.Prelude.{◌≡◌, ◌≤◌, [], length, IfOk};
-ghost use Rattle.drive_run.specs.Script.{IsFlatLine};
-ghost use Rattle.drive_run.specs.declared.line.Line.TheVariants.{Check};
+ghost use Rattle.std.specs.Prelude.{◌≡◌, ◌≤◌, ◌+◌, [], length, IfOk};
+ghost use Rattle.std.specs.Arc.{arc_value};
+ghost use Rattle.descriptor_tree.specs.Views.{config_view};
+ghost use Rattle.drive_run.specs.ScriptLine.{check, reload};
+ghost use Rattle.drive_run.specs.Views.{line_view, script_view};
 ghost use Rattle.drive_run.specs.Steps.{Steps, Outcomes};
 ghost use Rattle.drive_run.specs.Run.{IsRun};
 ghost use Rattle.drive_run.specs.Totals.{AreTotalsOf};
 
 use crate::{Line, Script};
+use descriptor_tree::Config;
 use rate_types::{OutOfMemory, Request, Seconds};
 use reply_text::{Outcome, Record, Records, Statuses};
-use rls_core::{CheckFault, FlatConfigs, Plain, Totals};
+use rls_core::{CheckFault, Plain, ReloadFault, Totals};
 use std::alloc::Global;
+use std::sync::Arc;
 
 /// The records of a script, in order of its lines, and the totals of the windows that are open at its end.
 #[derive(Drop)]
@@ -19,22 +23,19 @@ pub struct Driven {
 }
 
 fn record_of(plain: &Plain, number: u32, outcome: Outcome) -> Record
-    ensures { result ≡ record { line = number; worker = 0; version = 0; moment = plain.now.moment; outcome = outcome } }
+    ensures { result ≡ record { line = number; worker = 0; version = plain.now.version; moment = plain.now.moment; outcome = outcome } }
 {
     Record {
         line: number,
         worker: 0,
-        version: 0,
+        version: plain.version(),
         moment: plain.moment(),
         outcome,
     }
 }
 
-// A check of one descriptor.
-fn check(alloc: Global, plain: &mut Plain, request: &Request) -> Result<Outcome, OutOfMemory>
-    requires { length request.now.descriptors ≡ 1 }
-    ensures outcome { IfOk result (λ o. Outcomes (Check request.now) o plain.old plain.new) }
-    ensures moment { IfOk result (λ o. plain.new.moment ≡ plain.old.moment) }
+fn check_line(alloc: Global, plain: &mut Plain, request: &Request) -> Result<Outcome, OutOfMemory>
+    ensures { IfOk result (λ o. Outcomes (check request.now) o plain.old plain.new) }
 {
     match plain.check(request) {
         Ok(reply) => {
@@ -54,36 +55,46 @@ fn check(alloc: Global, plain: &mut Plain, request: &Request) -> Result<Outcome,
     }
 }
 
+fn reload_line(plain: &mut Plain, config: Arc<Config>) -> Result<Outcome, OutOfMemory>
+    ensures { IfOk result (λ o. Outcomes (reload (config_view (arc_value config))) o plain.old plain.new) }
+{
+    match plain.reload(config) {
+        Ok(_) => Ok(Outcome::Installed),
+        Err(ReloadFault::VersionsFull { versions }) => Ok(Outcome::VersionsFull { versions }),
+        Err(ReloadFault::OutOfMemory) => Err(OutOfMemory),
+    }
+}
+
 // One line.
 fn step(alloc: Global, plain: &mut Plain, number: u32, line: Line) -> Result<Record, OutOfMemory>
-    requires { IsFlatLine line }
-    ensures { IfOk result (λ r. Steps number line r plain.old plain.new) }
+    ensures { IfOk result (λ r. Steps number (line_view line) r plain.old plain.new) }
 {
-    match line {
-        Line::Check(request) => {
-            let outcome = check(alloc, plain, &request)?;
-            Ok(record_of(plain, number, outcome))
-        }
+    let outcome = match line {
+        Line::Check(request) => check_line(alloc, plain, &request)?,
+        Line::Reload(config) => reload_line(plain, config)?,
         Line::Tick(now) => {
             plain.tick(now);
-            Ok(record_of(plain, number, Outcome::Ticked(now)))
+            Outcome::Ticked(now)
         }
-        Line::Bad(refused) => Ok(record_of(plain, number, Outcome::Bad(refused))),
-    }
+        Line::Bad(refused) => Outcome::Bad(refused),
+    };
+    Ok(record_of(plain, number, outcome))
 }
 
 /// The run of a script by one worker: its records, and the totals at its end. The limiter has so many cells.
 pub fn drive_script(
     alloc: Global,
     script: Script,
-    config: FlatConfigs,
+    config: Arc<Config>,
     cells: u32,
     start: Seconds,
+    global_shadow: bool,
 ) -> Result<Driven, OutOfMemory>
-    ensures run { IfOk result (λ d. IsRun config cells start script d.records) }
-    ensures totals { IfOk result (λ d. AreTotalsOf start script d.records d.totals) }
+    ensures run { IfOk result
+        (λ d. IsRun (config_view (arc_value config)) cells start global_shadow (script_view script) d.records) }
+    ensures totals { IfOk result (λ d. AreTotalsOf start (script_view script) d.records d.totals) }
 {
-    let mut plain = Plain::make(alloc, config, cells, start)?;
+    let mut plain = Plain::make(alloc, config, cells, start, global_shadow)?;
     let mut records = Records::new(alloc);
     let mut number = 0u32;
     'lines: for line in script.into_lines() {

@@ -1,12 +1,12 @@
-ghost use Rattle.std.specs.Prelude.{◌≡◌, ◌<◌, ◌≤◌, ◌∷◌, ◌==◌, ℕ, length, position, IfOk, IfSome, Err};
-ghost use Rattle.drive_run.specs.Script as scripts;
+ghost use Rattle.std.specs.Prelude.{◌≡◌, ◌<◌, ◌≤◌, ℕ, length, map, IfOk, Err};
+ghost use Rattle.rate_types.specs.declared.limits.TheConstants.{MOST_LINES};
 ghost use Rattle.drive_run.specs.declared.script.ScriptFault.TheVariants.{TooManyLines};
 
 use crate::Line;
+use crate::cut::cut_line;
 use crate::reading::read_line;
 use rate_types::limits::MOST_LINES;
 use std::alloc::Global;
-use std::marker::Model;
 use thiserror::Error;
 
 /// Why a script isn't read.
@@ -20,49 +20,22 @@ pub enum ScriptFault {
     OutOfMemory,
 }
 
-/// The lines of a script, in order.
+/// The lines of a script, in order: at most 1,048,576.
 #[derive(Drop)]
 pub struct Script {
     lines: Vec<Line>,
-}
-
-impl Model for Script {
-    ghost use Rattle.std.specs.Prelude.{◌≤◌, List, length};
-    ghost use Rattle.rate_types.specs.declared.limits.TheConstants.{MOST_LINES};
-    ghost use Rattle.drive_run.specs.declared.line.Line.{Line};
-    ghost use Rattle.drive_run.specs.Script.{AreFlatLines};
-
-    ghost Value = { List Line };
-
-    ghost view = { λ s. s.lines.items };
-
-    ghost invariant = { λ s. AreFlatLines s.lines.items × (length s.lines.items ≤ MOST_LINES) };
-}
-
-fn line_feed(bytes: &[u8]) -> Option<usize>
-    ensures at { result ≡ position (λ b. b == 10) bytes.now }
-    ensures within { IfSome result (λ at. at < length bytes.now) }
-{
-    bytes.iter().position(|b| *b == b'\n')
-}
-
-// The first line, and the bytes after its line feed.
-fn cut_line(bytes: &[u8]) -> (&[u8], &[u8])
-    requires { 0 < length bytes.now }
-    ensures cut { scripts.cut bytes.now ≡ result.0.now ∷ scripts.cut result.1.now }
-    ensures less { length result.1.now < length bytes.now }
-{
-    match line_feed(bytes) {
-        Some(at) => (&bytes[..at], &bytes[at + 1..]),
-        None => (bytes, &[]),
-    }
+    ghost few: { length lines.items ≤ MOST_LINES },
 }
 
 impl Script {
+    ghost use Rattle.drive_run.specs.Views.{line_view, script_view};
+    ghost use Rattle.drive_run.specs.Script as scripts;
+
     /// The script of these bytes: one line per line feed, and one for what stands behind the last line feed.
+    #[tactic(auto, unfolding(crate::specs::Views::script_view))]
     pub fn read(alloc: Global, bytes: &[u8]) -> Result<Script, ScriptFault>
-        ensures script { IfOk result (λ s. s ≡ scripts.script_of bytes.now) }
-        ensures within { IfOk result (λ s. length s ≤ MOST_LINES) }
+        ensures script { IfOk result (λ s. script_view s ≡ scripts.script_of bytes.now) }
+        ensures within { IfOk result (λ s. length (script_view s) ≤ MOST_LINES) }
         ensures many { (lines : ℕ) → result ≡ Err (TooManyLines lines) → MOST_LINES < lines }
         ensures more { (lines : ℕ) → result ≡ Err (TooManyLines lines) → lines ≤ length (scripts.cut bytes.now) }
     {
@@ -87,10 +60,10 @@ impl Script {
     }
 
     /// The lines in order, which are moved.
+    #[tactic(auto, unfolding(crate::specs::Views::script_view))]
     pub fn into_lines(self) -> Vec<Line>
-        ensures lines { result.items ≡ self }
-        ensures flat { scripts.AreFlatLines self }
-        ensures within { length self ≤ MOST_LINES }
+        ensures lines { map line_view result.items ≡ script_view self }
+        ensures within { length result.items ≤ MOST_LINES }
     {
         self.lines
     }

@@ -27,6 +27,7 @@ mod fields;
 mod kinds;
 mod lists;
 mod named_members;
+mod numbers;
 mod placed;
 mod texts;
 
@@ -37,6 +38,7 @@ pub use field_name::FieldName;
 pub use fields::Fields;
 pub use lists::{Kind, read_items};
 pub use named_members::{NamedMember, read_members};
+pub use numbers::read_whole;
 pub use placed::{List, Placed};
 pub use texts::{ShortText, read_text};
 

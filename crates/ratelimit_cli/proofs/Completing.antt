@@ -7,7 +7,9 @@ use Rattle.std.proofs.lemmas.List.Folds.{list_any-append}
 use Rattle.rate_types.specs.declared.limits.TheConstants.{MOST_BYTES}
 use Rattle.rate_types.specs.declared.refused.At.{At}
 use Rattle.rate_io.specs.Events.{Event, wrote, write_failed, FileEvent, given, has_failed, has_write_failed, is_write_failed}
-use Rattle.ratelimit_cli.specs.Configs.{configuration_of}
+use Rattle.config_json.specs.Reading.{reading_of}
+use Rattle.ratelimit_cli.specs.Jobs.{configs_of}
+use Rattle.ratelimit_cli.specs.declared.command.Command.{Command}
 use Rattle.ratelimit_cli.specs.Exits.{World, AreFilesOf, FilesSay, StopsAt, IsLong, IsUnread, HasNoCause, WroteUpTo, Explains, IsExitOf}
 use Rattle.ratelimit_cli.specs.declared.exit.Exit.{Exit}
 use Rattle.ratelimit_cli.specs.declared.exit.Exit.TheVariants.{Done, Usage, ConfigRefused, TooLong, ReadFault, WriteFault, FileFault, OutOfMemory}
@@ -45,9 +47,10 @@ write_fails pieces writes h =
     ∙ or_true (has_write_failed (map wrote (take h.count pieces)))
 
 module _ (w : World) (no : HasNoCause w) where
-  not_refused : (at : At) → FilesSay w (Err at) → ⊥
-  not_refused at say =
-      no.lawful at (subst (λ (files : List (List ℕ)). configuration_of files ≡ Err at) (same_files w.content say.names w.files say.files say.contents) say.spells)
+  not_refused : (at : At) (command : Command) → FilesSay w command (Err at) → ⊥
+  not_refused at command say =
+      no.lawful at (subst (λ (files : List (List ℕ)). reading_of files ≡ Err at)
+      (same_files w.content (configs_of command) w.files say.files say.contents) say.spells)
 
   not_long : (names : List (List ℕ)) (index : ℕ) → StopsAt w.content names w.files index (IsLong w.content) → ⊥
   not_long names index s =
@@ -60,13 +63,13 @@ module _ (w : World) (no : HasNoCause w) where
   complete_exit : (e : Exit) → Explains e w → (e ≡ Done) ⊎ (e ≡ OutOfMemory)
   complete_exit Done h = inl (λ i. Done)
   complete_exit OutOfMemory h = inr (λ i. OutOfMemory)
-  complete_exit Usage h = absurd (none-some no.names (sym h.0 ∙ no.command))
-  complete_exit (ConfigRefused at) h = absurd (not_refused at h.0)
-  complete_exit TooLong (inl long, none) = absurd (not_long long.0.0 long.0.2.0 long.0.2.1)
+  complete_exit Usage h = absurd (none-some no.command (sym h.0 ∙ no.named))
+  complete_exit (ConfigRefused at) h = absurd (not_refused at h.0.0 h.0.1)
+  complete_exit TooLong (inl long, none) = absurd (not_long (configs_of long.0.0) long.0.2.0 long.0.2.1)
   complete_exit TooLong (inr long, none) = absurd (no.fits long.1)
   complete_exit ReadFault h = absurd (true≢false (sym h.1 ∙ no.read))
   complete_exit WriteFault h = absurd (true≢false (sym (write_fails _ w.writes h.0.each) ∙ no.written))
-  complete_exit (FileFault index) h = absurd (not_unread h.0.0 index h.0.2)
+  complete_exit (FileFault index) h = absurd (not_unread (configs_of h.0.0) index h.0.2)
 
 pub answers : (e : Exit) (w : World) → Explains e w → IsExitOf e w
 answers e w h = record { cause = h; complete = λ no. complete_exit w no e h }

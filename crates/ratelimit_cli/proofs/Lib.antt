@@ -3,3 +3,7 @@ pub mod Told
 pub mod Explaining
 mod Completing
 pub mod Histories
+pub mod Apps
+pub mod Numbers
+pub mod Founds
+pub mod Lines

@@ -1,6 +1,7 @@
 pub mod Output
 pub mod Words
-pub mod Configs
+pub mod Jobs
+pub mod Lookup
 pub mod Exits
 pub mod Parts
 pub mod Reports

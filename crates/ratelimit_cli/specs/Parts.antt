@@ -2,18 +2,15 @@
 use Rattle.std.specs.Prelude.{◌≡◌, ℕ, List, [], map, true, Option, Result, Err, ⊤}
 use Rattle.std.specs.List.{concat}
 use Rattle.rate_types.specs.declared.refused.At.{At}
-use Rattle.rate_types.specs.declared.limits.TheConstants.{DEFAULT_CELLS}
 use Rattle.rate_io.specs.Causes.{Rose}
 use Rattle.rate_io.specs.Content.{Told, Appends}
-use Rattle.rate_io.specs.Events.{Event, wrote, FileEvent, given, has_failed, Grew}
-use Rattle.rule_lookup.specs.declared.flat.FlatConfig.{FlatConfig}
-use Rattle.rls_core.specs.declared.totals.Total.{Total}
-use Rattle.reply_text.specs.declared.record.Record.{Record}
-use Rattle.drive_run.specs.declared.line.Line.{Line}
-use Rattle.drive_run.specs.Totals.{AreTotalsOf}
-use Rattle.drive_run.specs.Run.{IsRun}
-use Rattle.ratelimit_cli.specs.Output.{lines_of, AppendsFront}
-use Rattle.ratelimit_cli.specs.Exits.{StopsAt, IsLong, IsUnread, IsTooLong, IsInput, WroteUpTo}
+use Rattle.rate_io.specs.Events.{Event, wrote, FileEvent, given, has_failed}
+use Rattle.descriptor_tree.specs.Trees.{DomainTree}
+use Rattle.ratelimit_cli.specs.Output.{AppendsFront}
+use Rattle.ratelimit_cli.specs.Lookup.{lookup_output}
+use Rattle.ratelimit_cli.specs.Exits.{StopsAt, IsLong, IsUnread, IsTooLong, IsRunText, WroteUpTo}
+use Rattle.ratelimit_cli.specs.declared.work.Work.{Work}
+use Rattle.ratelimit_cli.specs.declared.work.Work.TheVariants.{Lookup, Drive}
 use Rattle.ratelimit_cli.specs.declared.exit.Exit.{Exit}
 use Rattle.ratelimit_cli.specs.declared.exit.Exit.TheVariants.{Done, ConfigRefused, TooLong, ReadFault, WriteFault, FileFault, OutOfMemory}
 
@@ -25,7 +22,7 @@ IsOfFiles content names faults OutOfMemory calls = ⊤
 IsOfFiles content names faults other calls = ⊥
 
 -- why the files are no configuration
-abbrev pub IsOfConfig : Result (List FlatConfig) At → Exit → Type 0
+abbrev pub IsOfConfig : Result (List DomainTree) At → Exit → Type 0
 IsOfConfig reading (ConfigRefused at) = reading ≡ Err at
 IsOfConfig reading OutOfMemory = ⊤
 IsOfConfig reading other = ⊥
@@ -43,30 +40,28 @@ pub record Sinks : Type 0 where
   pub after : Option (List ℕ)
   pub faults : ℕ × ℕ
 
--- a lawful run of these lines, and its totals
-pub record AreOfRun (config : List FlatConfig) (lines : List Line) (records : List Record) (totals : List Total) : Type 0 where
-  pub run : IsRun config DEFAULT_CELLS 0 lines records
-  pub sums : AreTotalsOf 0 lines records totals
+-- what this work makes of a configuration and an input
+abbrev pub IsOfWork : Work → List DomainTree → List ℕ → List (List ℕ) → Type 0
+IsOfWork Lookup config bytes pieces = pieces ≡ lookup_output config bytes
+IsOfWork (Drive workers cells start global_shadow) config bytes pieces = IsRunText config cells start global_shadow bytes pieces
 
--- the texts of such a run were written
-pub record Writes (config : List FlatConfig) (lines : List Line) (s : Sinks) (writes : List Event) : Type 0 where
-  pub records : List Record
-  pub totals : List Total
-  pub are : AreOfRun config lines records totals
-  pub each : writes ≡ map wrote (lines_of records totals)
-  pub bytes : Appends s.written s.after (concat (lines_of records totals))
+-- pieces of which this holds were written
+pub record Wrote (Is : List (List ℕ) → Type 0) (s : Sinks) (writes : List Event) : Type 0 where
+  pub pieces : List (List ℕ)
+  pub are : Is pieces
+  pub each : writes ≡ map wrote pieces
+  pub bytes : Appends s.written s.after (concat pieces)
 
 -- the first of them were written
-pub record WritesFront (config : List FlatConfig) (lines : List Line) (s : Sinks) (writes : List Event) : Type 0 where
-  pub records : List Record
-  pub totals : List Total
-  pub are : AreOfRun config lines records totals
-  pub each : WroteUpTo (lines_of records totals) writes
-  pub bytes : AppendsFront s.written s.after (concat (lines_of records totals))
+pub record WroteFront (Is : List (List ℕ) → Type 0) (s : Sinks) (writes : List Event) : Type 0 where
+  pub pieces : List (List ℕ)
+  pub are : Is pieces
+  pub each : WroteUpTo pieces writes
+  pub bytes : AppendsFront s.written s.after (concat pieces)
 
--- how running and writing ended, after these writes
-abbrev pub IsOfOutput : List FlatConfig → List Line → Sinks → Exit → List Event → Type 0
-IsOfOutput config lines s Done writes = Writes config lines s writes
-IsOfOutput config lines s WriteFault writes = WritesFront config lines s writes × Rose s.faults.0 s.faults.1
-IsOfOutput config lines s OutOfMemory writes = (writes ≡ []) × (s.after ≡ s.written)
-IsOfOutput config lines s other writes = ⊥
+-- how making and writing ended, after these writes
+abbrev pub IsOfOutput : (List (List ℕ) → Type 0) → Sinks → Exit → List Event → Type 0
+IsOfOutput Is s Done writes = Wrote Is s writes
+IsOfOutput Is s WriteFault writes = WroteFront Is s writes × Rose s.faults.0 s.faults.1
+IsOfOutput Is s OutOfMemory writes = (writes ≡ []) × (s.after ≡ s.written)
+IsOfOutput Is s other writes = ⊥

@@ -1,15 +1,112 @@
--- The words of the program.
-use Rattle.std.specs.Prelude.{ℕ, ◌==◌, ◌&&◌, not, List, [], ◌∷◌, Bool, true, Option, None, Some, if◌then◌else◌, codes}
+-- The words of the program: which of them are a command.
+use Rattle.std.specs.Prelude.{ℕ, ◌<◌, ◌&&◌, ◌||◌, List, [], ◌∷◌, length, Bool, true, false, nat_lt, Option, None, Some, option_map, option_and_then, unwrap_or, if◌then◌else◌, codes}
 use Rattle.std.specs.List.{list_all}
 use Rattle.std.specs.Str.{bytes_eq}
+use Rattle.std.specs.Str.Parse.{digits_value, without_leading_plus}
+use Rattle.std.specs.Char.{digit_value}
+use Rattle.rate_types.specs.declared.limits.TheConstants.{DEFAULT_CELLS, LATEST_MOMENT, MOST_CELLS}
+use Rattle.clap.specs.Words.{App, Row, Rule, new_app, new_rule, with_rule, first_of, all_of, matches_of, fault_of, rows_of, found_of}
+use Rattle.clap.specs.Kinds.{Kinds}
+use Rattle.clap.specs.declared.parser.matches.ArgMatches.{ArgMatches}
+use Rattle.clap.specs.declared.builder.action.ArgAction.TheVariants.{Append, SetTrue}
+use Rattle.ratelimit_cli.specs.declared.command.Command.{Command}
+use Rattle.ratelimit_cli.specs.declared.command.Command.TheVariants.{Plain, Threads, Help, Version}
+use Rattle.ratelimit_cli.specs.declared.command.ThreadJob.TheVariants.{Drive}
 
--- a name doesn't begin with `-`, as options do
-abbrev pub is_name : List ℕ → Bool
-is_name [] = true
-is_name (b ∷ bs) = not (b == 45)
+-- ---- what each command takes
 
--- the names of the configuration files, where the words are `drive` and one name or more
-abbrev pub command_of : List (List ℕ) → Option (List (List ℕ))
-command_of (command ∷ name ∷ more) =
-    if bytes_eq command (codes "drive") && list_all is_name (name ∷ more) then Some (name ∷ more) else None
-command_of words = None
+-- an option with a value, as `--cells N`
+abbrev pub option_named : List ℕ → Rule
+option_named name = record (new_rule name) { long = Some name }
+
+-- a flag, as `--global-shadow`
+abbrev pub flag_named : List ℕ → Rule
+flag_named name = record (new_rule name) { long = Some name; action = Some SetTrue }
+
+-- the names of the configuration files, one or more
+abbrev pub configs_rule : Rule
+configs_rule = record (new_rule (codes "configs")) { required = true; action = Some Append }
+
+-- `drive [--workers N] [--cells N] [--start T] [--global-shadow] CONFIG..`
+unfoldable pub drive_app : App
+drive_app = with_rule (with_rule (with_rule (with_rule (with_rule (new_app (codes "drive")) (option_named (codes "workers")))
+    (option_named (codes "cells"))) (option_named (codes "start"))) (flag_named (codes "global-shadow"))) configs_rule
+
+-- `lookup CONFIG..`
+unfoldable pub lookup_app : App
+lookup_app = with_rule (new_app (codes "lookup")) configs_rule
+
+-- what is made of the words where a command takes them: where it has no fault in them
+abbrev pub if_taken : {X : Type 0} → Kinds → Option X → Option X
+if_taken [] made = made
+if_taken (fault ∷ more) made = None
+
+-- ---- values
+
+-- digits of a number below 2^64
+abbrev pub are_digits : List ℕ → Bool
+are_digits ds = nat_lt 0 (length ds) && (list_all (λ d. nat_lt (digit_value d) 10) ds && nat_lt (digits_value 10 ds) 18446744073709551616)
+
+-- the number that a text spells, before which a plus may stand
+abbrev pub number_of : List ℕ → Option ℕ
+number_of text = if are_digits (without_leading_plus text) then Some (digits_value 10 (without_leading_plus text)) else None
+
+-- a number from `least` to `most`
+abbrev pub if_within : ℕ → ℕ → ℕ → Option ℕ
+if_within least most n = if nat_lt n least || nat_lt most n then None else Some n
+
+-- the number of an option, the default where it isn't there, none where its text is no number from `least` to `most`
+abbrev pub number_in : ℕ → ℕ → ℕ → Option (List ℕ) → Option ℕ
+number_in least most default None = Some default
+number_in least most default (Some text) = option_and_then (if_within least most) (number_of text)
+
+-- whether a flag was given
+abbrev pub is_given : Option (List ℕ) → Bool
+is_given None = false
+is_given (Some text) = bytes_eq text (codes "true")
+
+-- ---- the commands
+
+-- the names of the configuration files
+abbrev pub configs_in : List Row → List (List ℕ)
+configs_in rows = unwrap_or (all_of (codes "configs") rows) []
+
+-- a run by these numbers, where all are there
+abbrev pub job_of : List (List ℕ) → Option ℕ → Option ℕ → Option ℕ → Bool → Option Command
+job_of configs (Some workers) (Some cells) (Some start) global_shadow = Some (Threads (Drive configs workers cells start global_shadow))
+job_of configs workers cells start global_shadow = None
+
+-- the run that `drive` makes: `--workers` is 1, `--cells` 1 to 1,048,576, `--start` 0 to 1,000,000,000,000
+abbrev pub drive_job : List Row → Option Command
+drive_job rows = job_of (configs_in rows) (number_in 1 1 1 (first_of (codes "workers") rows))
+    (number_in 1 MOST_CELLS DEFAULT_CELLS (first_of (codes "cells") rows))
+    (number_in 0 LATEST_MOMENT 0 (first_of (codes "start") rows)) (is_given (first_of (codes "global-shadow") rows))
+
+-- the words of `drive`
+abbrev pub drive_of : List (List ℕ) → Option Command
+drive_of words = if_taken (fault_of drive_app words) (drive_job (matches_of drive_app words))
+
+-- the words of `lookup`
+abbrev pub lookup_of : List (List ℕ) → Option Command
+lookup_of words = if_taken (fault_of lookup_app words) (Some (Plain (configs_in (matches_of lookup_app words))))
+
+-- a command of one word
+abbrev pub alone : List (List ℕ) → Command → Option Command
+alone (word ∷ []) command = Some command
+alone words command = None
+
+-- the command of this name
+abbrev pub command_named : List ℕ → List (List ℕ) → Option Command
+command_named name words = if bytes_eq name (codes "drive") then drive_of words
+    else (if bytes_eq name (codes "lookup") then lookup_of words
+    else (if bytes_eq name (codes "--help") then alone words Help
+    else (if bytes_eq name (codes "--version") then alone words Version else None)))
+
+-- The command that the words are: the first names it, and it takes the rest.
+abbrev pub command_of : List (List ℕ) → Option Command
+command_of [] = None
+command_of (first ∷ more) = command_named first (first ∷ more)
+
+-- the rows of matches
+abbrev pub rows_in : ArgMatches → List Row
+rows_in m = rows_of (found_of m)

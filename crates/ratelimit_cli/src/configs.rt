@@ -1,6 +1,6 @@
 // From the names of files to a configuration.
 ghost use Rattle.std.specs.Prelude.{◌≡◌, Ok, IfOk, IfErr};
-ghost use Rattle.ratelimit_cli.specs.Configs.{configuration_of, flat_or_first};
+ghost use Rattle.config_json.specs.Reading.{reading_of};
 ghost use Rattle.descriptor_tree.specs.Views.{config_view};
 ghost use Rattle.rate_io.specs.Events.{Grew};
 ghost use Rattle.ratelimit_cli.specs.Exits.{AreFilesOf};
@@ -9,12 +9,9 @@ ghost use Rattle.ratelimit_cli.specs.Parts.{IsOfFiles, IsOfConfig};
 use crate::Exit;
 use config_json::read_config;
 use descriptor_tree::{Config, ConfigFault};
-use flat_config::{FlatFault, NotFlat, flatten};
 use rate_io::{FileFault, Files};
 use rate_types::limits::MOST_BYTES;
-use rate_types::refusals::NOT_BUILT;
-use rate_types::{At, Blob, Blobs, Place, Refused, Word};
-use rls_core::FlatConfigs;
+use rate_types::{Blob, Blobs, Word};
 use std::alloc::Global;
 
 /// The bytes of the files of these names, in order. The first that can't be read ends it.
@@ -39,34 +36,13 @@ pub fn read_files<F: Files>(alloc: Global, files: &mut F, names: &[Word]) -> Res
     Ok(Blobs::of(blobs))
 }
 
-// The flat trees of a configuration. The first tree that isn't flat is refused as not built, at the empty place.
-fn flat_trees(alloc: Global, config: &Config) -> Result<FlatConfigs, Exit>
-    ensures trees { IfOk result (λ c. flat_or_first (Ok (config_view config.now)) ≡ Ok c) }
-    ensures fault { IfErr result (IsOfConfig (flat_or_first (Ok (config_view config.now)))) }
-{
-    match flatten(alloc, config) {
-        Ok(trees) => Ok(trees),
-        Err(FlatFault::Refused(NotFlat { tree })) => Err(Exit::ConfigRefused(At {
-            file: tree,
-            refused: Refused {
-                at: Place::empty(alloc),
-                number: NOT_BUILT,
-            },
-        })),
-        Err(FlatFault::OutOfMemory) => Err(Exit::OutOfMemory),
-    }
-}
-
-/// The configuration that these files spell, as flat trees.
-pub fn configuration(alloc: Global, files: &Blobs) -> Result<FlatConfigs, Exit>
-    ensures spells { IfOk result (λ c. configuration_of files.now ≡ Ok c) }
-    ensures fault { IfErr result (IsOfConfig (configuration_of files.now)) }
+/// The configuration that these files spell.
+pub fn configuration(alloc: Global, files: &Blobs) -> Result<Config, Exit>
+    ensures spells { IfOk result (λ c. reading_of files.now ≡ Ok (config_view c)) }
+    ensures fault { IfErr result (IsOfConfig (reading_of files.now)) }
 {
     match read_config(alloc, files) {
-        Ok(config) => match flat_trees(alloc, &config) {
-            Ok(trees) => Ok(trees),
-            Err(exit) => Err(exit),
-        },
+        Ok(config) => Ok(config),
         Err(ConfigFault::Refused(at)) => Err(Exit::ConfigRefused(at)),
         Err(ConfigFault::OutOfMemory) => Err(Exit::OutOfMemory),
     }

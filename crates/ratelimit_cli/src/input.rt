@@ -1,19 +1,42 @@
-// From a source to a script.
-ghost use Rattle.std.specs.Prelude.{IfOk, IfErr, OnOk};
+// From a source to the bytes of an input.
+ghost use Rattle.std.specs.Prelude.{◌≡◌, ◌≤◌, ◌<◌, IfOk, IfErr, OnOk, length, true, false};
 ghost use Rattle.std.specs.Io.KnownBytes.{IsAtEnd};
-ghost use Rattle.rate_io.specs.Events.{Grew};
+ghost use Rattle.rate_types.specs.declared.limits.TheConstants.{MOST_LINES};
+ghost use Rattle.rate_io.specs.Events.{Grew, given};
+ghost use Rattle.drive_run.specs.Script.{cut};
 ghost use Rattle.ratelimit_cli.specs.Exits.{IsInput};
 ghost use Rattle.ratelimit_cli.specs.Parts.{IsOfInput};
 
 use crate::Exit;
-use drive_run::{Script, ScriptFault};
+use drive_run::cut_line;
 use rate_io::{FileFault, Source, read_up_to};
-use rate_types::limits::MOST_BYTES;
+use rate_types::limits::{MOST_BYTES, MOST_LINES};
 use std::alloc::Global;
 
-/// The script that a source has left.
-pub fn read_input<S: Source>(alloc: Global, source: &mut S) -> Result<Script, Exit>
-    ensures input { IfOk result (λ s. Grew (S.history source.old) (S.history source.new) (λ reads. IsInput (S.left source.old) reads s)) }
+// Whether there are at most 1,048,576 lines.
+#[tactic(auto, using(crate::proofs::Lines::none_cut))]
+fn are_few_lines(bytes: &[u8]) -> bool
+    ensures few { result ≡ true → length (cut bytes.now) ≤ MOST_LINES }
+    ensures many { result ≡ false → MOST_LINES < length (cut bytes.now) }
+{
+    let mut rest = bytes;
+    let mut lines = 0u32;
+    'lines: while rest.len() > 0 {
+        let (_, after) = cut_line(rest);
+        if lines >= MOST_LINES {
+            return false;
+        }
+        lines += 1;
+        rest = after;
+    }
+    true
+}
+
+/// The bytes that a source has left, where they are neither too many nor too many lines.
+pub fn read_input<S: Source>(alloc: Global, source: &mut S) -> Result<Vec<u8>, Exit>
+    ensures input { IfOk result (λ b. Grew (S.history source.old) (S.history source.new)
+        (λ reads. IsInput (S.left source.old) reads × (given reads ≡ b.items))) }
+    ensures few { IfOk result (λ b. length (cut b.items) ≤ MOST_LINES) }
     ensures end { OnOk result (IsAtEnd (S.left source.new)) }
     ensures fault { IfErr result (λ exit. Grew (S.history source.old) (S.history source.new)
         (IsOfInput (S.left source.old) (S.faults source.old, S.faults source.new) exit)) }
@@ -24,9 +47,8 @@ pub fn read_input<S: Source>(alloc: Global, source: &mut S) -> Result<Script, Ex
         Err(FileFault::TooLong { .. }) => return Err(Exit::TooLong),
         Err(FileFault::OutOfMemory) => return Err(Exit::OutOfMemory),
     };
-    match Script::read(alloc, &bytes) {
-        Ok(script) => Ok(script),
-        Err(ScriptFault::TooManyLines { .. }) => Err(Exit::TooLong),
-        Err(ScriptFault::OutOfMemory) => Err(Exit::OutOfMemory),
+    if !are_few_lines(&bytes) {
+        return Err(Exit::TooLong);
     }
+    Ok(bytes)
 }

@@ -1,21 +1,34 @@
 //! The program's one public call: words in, an exit out, over files, a source and a sink that are handed in.
 //!
-//! `specs/Exits.antt` says when each exit comes, in the histories of what was handed in: with `Done` the writes are the texts of a
-//! lawful run of the script that the reads of the source handed out, by the configuration of the files that were read, and of
-//! its totals; every other exit says what was asked for, read and written before its cause, and that nothing was after it.
-//! `specs/Reports.antt` says which status and which line an exit has.
+//! `specs/Words.antt` says which words are a command. `specs/Exits.antt` says when each exit comes, in the histories of what
+//! was handed in: with `Done` the writes are the output of the command: the texts of a lawful run of the script that the
+//! reads of the source handed out, by the configuration of the files that were read, and of its totals; or what each
+//! descriptor of the requests finds (`specs/Lookup.antt`); or the help or the version. Every other exit says what was asked
+//! for, read and written before its cause, and that nothing was after it. `specs/Reports.antt` says which status and which
+//! line an exit has.
 #![tactic(auto)]
 
+mod command;
 mod configs;
 mod exit;
+mod found_json;
+mod help;
 mod input;
+mod lookup;
+mod making;
+mod number;
 mod output;
+mod parsers;
 mod report;
+mod texts;
 mod top;
 mod words;
+mod work;
 
+pub use command::{Command, ThreadJob};
 pub use exit::Exit;
 pub use top::ratelimit;
+pub use words::{WordsFault, read_words};
 
 #[cfg(test)]
 mod tests;

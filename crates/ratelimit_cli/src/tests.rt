@@ -1,13 +1,11 @@
 mod limits;
 mod lines;
 mod reports;
+mod rows;
 
-use crate::configs::configuration;
-use crate::output::all_lines;
 use crate::{Exit, ratelimit};
-use drive_run::{Script, drive_script};
 use rate_io::{MemFile, MemFiles, MemSink, MemSource};
-use rate_types::{Blob, Blobs, Names, Seconds, Word};
+use rate_types::{Blob, Names, Word};
 use std::alloc::Global;
 use std::str;
 use std::test::Fail;
@@ -176,7 +174,9 @@ fn scripts_are_answered(rt: HostRuntime) -> Result<(), Fail> {
         (
             A,
             &[r#"{"tick":1.5}"#],
-            &[r#"{"line":1,"moment":0,"refused":{"at":"","number":9},"version":0,"worker":0}"#],
+            &[
+                r#"{"line":1,"moment":0,"refused":{"at":"/tick","number":6},"version":0,"worker":0}"#,
+            ],
         ),
     ];
     for (config, script, want) in rows {
@@ -204,12 +204,7 @@ fn each_exit_has_its_cause(rt: HostRuntime) -> Result<(), Fail> {
         (&["drive", "b"], &[A], NONE, "file 0: fault\n"),
         (&["drive", "a", "b"], &[A, DOMAIN], file, "file 1: fault\n"),
         (&["drive", "a", "b"], &[A, DOMAIN], NONE, "file 1: 11 at \n"),
-        (
-            &["drive", "a", "b"],
-            &[DOMAIN, NESTED],
-            NONE,
-            "file 1: 9 at \n",
-        ),
+        (&["drive", "a", "b"], &[DOMAIN, NESTED], NONE, "done\n"),
         (
             &["drive", "a"],
             &[KEYLESS],
@@ -221,29 +216,5 @@ fn each_exit_has_its_cause(rt: HostRuntime) -> Result<(), Fail> {
     for (words, files, failing, want) in rows {
         assert_eq!(rt; said(alloc, words, files, "", failing)?.as_str(), want);
     }
-    Ok(())
-}
-
-#[test]
-fn a_counter_without_a_cell_is_refused(rt: HostRuntime) -> Result<(), Fail> {
-    let alloc = rt.alloc();
-    let mut files = Vec::new(alloc);
-    files.push(blob(alloc, A)?)?;
-    let script = joined(alloc, &[CHECK_A, CHECK_B])?;
-    let Ok(config) = configuration(alloc, &Blobs::of(files)) else {
-        assert!(rt; false, "the file is refused");
-        return Ok(());
-    };
-    let Ok(script) = Script::read(alloc, script.as_bytes()) else {
-        assert!(rt; false, "the script is refused");
-        return Ok(());
-    };
-    let driven = drive_script(alloc, script, config, 1, Seconds::capped(0))?;
-    let lines = all_lines(alloc, driven.records.items(), driven.totals.items())?;
-    assert_eq!(rt; lines.len(), 3);
-    assert_eq!(rt;
-        lines[1].as_str(),
-        "{\"line\":2,\"moment\":0,\"refused\":{\"held\":0,\"live\":1,\"name\":\"CountersFull\",\"wanted\":1},\"version\":0,\"worker\":0}\n"
-    );
     Ok(())
 }

@@ -1,33 +1,164 @@
-ghost use Rattle.std.specs.Prelude.{◌≡◌, option_map};
-ghost use Rattle.std.specs.List.{list_all};
+// From the words of the program to its command.
+ghost use Rattle.std.specs.Prelude.{◌≡◌, ◌≤◌, IfOk, IfSome, Some, None, Err, option_map, true, codes};
+ghost use Rattle.std.specs.Str.{bytes_eq};
 ghost use Rattle.ratelimit_cli.specs.Words as spec;
+ghost use Rattle.ratelimit_cli.specs.declared.words.WordsFault.TheVariants.{Usage};
 
-use rate_types::Word;
+use crate::command::{Command, ThreadJob};
+use crate::number::{count_in, number_in};
+use crate::parsers::{all_in, drive_parser, first_in, lookup_parser, parse};
+use crate::texts::{names_of, texts_of};
+use clap::ArgMatches;
+use rate_types::limits::{DEFAULT_CELLS, LATEST_MOMENT, MOST_CELLS};
+use rate_types::{Names, OutOfMemory, Seconds, Word};
+use std::alloc::{AllocError, Global};
+use thiserror::Error;
 
-fn is_name(word: &Word) -> bool
-    ensures { result ≡ spec.is_name word.now }
-{
-    match word.as_str().as_bytes() {
-        [] => true,
-        [first, ..] => *first != b'-',
+/// Why the words are no command.
+#[derive(Clone, Copy, Debug, PartialEq, Eq, Error)]
+pub enum WordsFault {
+    /// They name none, or what stands behind its name is refused.
+    #[error("usage")]
+    Usage,
+    /// There was no memory to read them.
+    #[error("out of memory")]
+    OutOfMemory,
+}
+
+impl From<OutOfMemory> for WordsFault {
+    ghost use Rattle.std.specs.Prelude.{◌≡◌};
+    ghost use Rattle.ratelimit_cli.specs.declared.words.WordsFault.TheVariants as fault;
+
+    ghost from_gives = { λ _ e. e ≡ fault.OutOfMemory };
+
+    fn from(_: OutOfMemory) -> Self {
+        WordsFault::OutOfMemory
     }
 }
 
-fn are_names(words: &[Word]) -> bool
-    ensures { result ≡ list_all spec.is_name words.now }
-{
-    words.iter().all(is_name)
+impl From<AllocError> for WordsFault {
+    ghost use Rattle.std.specs.Prelude.{◌≡◌};
+    ghost use Rattle.ratelimit_cli.specs.declared.words.WordsFault.TheVariants as fault;
+
+    ghost from_gives = { λ _ e. e ≡ fault.OutOfMemory };
+
+    fn from(_: AllocError) -> Self {
+        WordsFault::OutOfMemory
+    }
 }
 
-/// The names of the configuration files, where the words are a command.
-pub fn command_of(words: &[Word]) -> Option<&[Word]>
-    ensures { option_map (λ names. names.now) result ≡ spec.command_of words.now }
+// Whether a flag was given.
+fn is_given(text: Option<&str>) -> bool
+    ensures { result ≡ spec.is_given (option_map (λ t. t.now) text.entry) }
 {
-    let [command, names @ ..] = words else {
-        return None;
+    match text {
+        Some(text) => text == "true",
+        None => false,
+    }
+}
+
+// A run by these numbers, where all are there.
+fn job_of(
+    configs: Names,
+    workers: Option<u32>,
+    cells: Option<u32>,
+    start: Option<u64>,
+    global_shadow: bool,
+) -> Option<Command>
+    requires { IfSome start (λ n. n ≤ LATEST_MOMENT) }
+    ensures { result ≡ spec.job_of configs workers cells start global_shadow }
+{
+    match (workers, cells, start) {
+        (Some(workers), Some(cells), Some(start)) => Some(Command::Threads(ThreadJob::Drive {
+            configs,
+            workers,
+            cells,
+            start: Seconds::capped(start),
+            global_shadow,
+        })),
+        _ => None,
+    }
+}
+
+// The run that these matches ask for.
+fn drive_job(alloc: Global, matches: &ArgMatches<'_>) -> Result<Command, WordsFault>
+    ensures command { IfOk result (λ c. spec.drive_job (spec.rows_in matches.now) ≡ Some c) }
+    ensures usage { result ≡ Err Usage → spec.drive_job (spec.rows_in matches.now) ≡ None }
+{
+    let configs = names_of(alloc, all_in(matches, "configs"))?;
+    let workers = count_in(first_in(matches, "workers"), 1, 1, 1);
+    let cells = count_in(first_in(matches, "cells"), 1, MOST_CELLS, DEFAULT_CELLS);
+    let start = number_in(first_in(matches, "start"), 0, LATEST_MOMENT, 0);
+    let global_shadow = is_given(first_in(matches, "global-shadow"));
+    match job_of(configs, workers, cells, start, global_shadow) {
+        Some(job) => Ok(job),
+        None => Err(WordsFault::Usage),
+    }
+}
+
+// The words of `drive`.
+fn read_drive(alloc: Global, words: &[Word]) -> Result<Command, WordsFault>
+    ensures command { IfOk result (λ c. spec.drive_of words.now ≡ Some c) }
+    ensures usage { result ≡ Err Usage → spec.drive_of words.now ≡ None }
+{
+    let texts = texts_of(alloc, words)?;
+    let command = drive_parser(alloc)?;
+    let matches = match parse(command, texts.as_slice()) {
+        Ok(matches) => matches,
+        Err(fault) => return Err(fault),
     };
-    if names.is_empty() || command.as_str() != "drive" || !are_names(names) {
-        return None;
+    let job = drive_job(alloc, &matches)?;
+    Ok(job)
+}
+
+// The words of `lookup`.
+fn read_lookup(alloc: Global, words: &[Word]) -> Result<Command, WordsFault>
+    ensures command { IfOk result (λ c. spec.lookup_of words.now ≡ Some c) }
+    ensures usage { result ≡ Err Usage → spec.lookup_of words.now ≡ None }
+{
+    let texts = texts_of(alloc, words)?;
+    let command = lookup_parser(alloc)?;
+    let matches = match parse(command, texts.as_slice()) {
+        Ok(matches) => matches,
+        Err(fault) => return Err(fault),
+    };
+    let configs = names_of(alloc, all_in(&matches, "configs"))?;
+    Ok(Command::Plain(configs))
+}
+
+// A command of one word.
+fn alone(words: &[Word], command: Command) -> Result<Command, WordsFault>
+    ensures command { IfOk result (λ c. spec.alone words.now command ≡ Some c) }
+    ensures usage { result ≡ Err Usage → spec.alone words.now command ≡ None }
+{
+    match words {
+        [_] => Ok(command),
+        _ => Err(WordsFault::Usage),
     }
-    Some(names)
+}
+
+/// The command that the words name: the first is `drive`, `lookup`, `--help` or `--version`, and the rest is read by that
+/// command.
+pub fn read_words(alloc: Global, words: &Names) -> Result<Command, WordsFault>
+    ensures command { IfOk result (λ c. spec.command_of words.now ≡ Some c) }
+    ensures usage { result ≡ Err Usage → spec.command_of words.now ≡ None }
+{
+    let words = words.items();
+    let Some(first) = words.first() else {
+        return Err(WordsFault::Usage);
+    };
+    let first = first.as_str();
+    if first == "drive" {
+        return read_drive(alloc, words);
+    }
+    if first == "lookup" {
+        return read_lookup(alloc, words);
+    }
+    if first == "--help" {
+        return alone(words, Command::Help);
+    }
+    if first == "--version" {
+        return alone(words, Command::Version);
+    }
+    Err(WordsFault::Usage)
 }

@@ -1,3 +1,4 @@
 pub mod Wholes
 pub mod Sizes
-pub mod Singles
+pub mod Lawful
+pub mod Keyed

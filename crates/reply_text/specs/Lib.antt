@@ -1,5 +1,5 @@
 pub mod Answer
 pub mod Shown
 pub mod Texts
-pub mod Flat
-pub mod Request
+pub mod FieldNames
+pub mod ReadRequest

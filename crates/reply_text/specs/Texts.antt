@@ -17,7 +17,7 @@ use Rattle.rls_core.specs.declared.status.Count.TheVariants.{NoCount, Before, Se
 use Rattle.rls_core.specs.declared.status.Status.{Status}
 use Rattle.rls_core.specs.declared.totals.Total.{Total}
 use Rattle.reply_text.specs.declared.record.Outcome.{Outcome}
-use Rattle.reply_text.specs.declared.record.Outcome.TheVariants.{Checked, Ticked, Bad, Full}
+use Rattle.reply_text.specs.declared.record.Outcome.TheVariants.{Checked, Ticked, Installed, Bad, Full, Spent, VersionsFull}
 use Rattle.reply_text.specs.Answer.{Answer}
 use Rattle.reply_text.specs.Shown.{Shown}
 
@@ -81,10 +81,20 @@ counts_data statuses = array (items_of (map (λ s. count_data s.count) statuses)
 unfoldable pub refused_data : Refused → Data
 refused_data refused = object (member (codes "at") (string refused.at) (member (codes "number") (whole refused.number) no_members))
 
--- the numbers of a refused check
+-- the numbers of a check that is refused for want of cells
 unfoldable pub full_data : ℕ → ℕ → ℕ → Data
 full_data live held wanted = object (member (codes "held") (whole held) (member (codes "live") (whole live)
     (member (codes "name") (string (codes "CountersFull")) (member (codes "wanted") (whole wanted) no_members))))
+
+-- the numbers of a check that is refused for want of claims
+unfoldable pub spent_data : ℕ → ℕ → Data
+spent_data claims wanted = object (member (codes "claims") (whole claims) (member (codes "name") (string (codes "ClaimsSpent"))
+    (member (codes "wanted") (whole wanted) no_members)))
+
+-- the number of versions where no more may be installed
+unfoldable pub versions_full_data : ℕ → Data
+versions_full_data versions = object (member (codes "name") (string (codes "VersionsFull"))
+    (member (codes "versions") (whole versions) no_members))
 
 -- the last two members of each record
 abbrev pub by_worker : ℕ → ℕ → Members
@@ -100,6 +110,11 @@ unfoldable pub ticked_line_data : ℕ → ℕ → ℕ → ℕ → ℕ → Data
 ticked_line_data line moment version worker ticked = object (member (codes "line") (whole line) (member (codes "moment") (whole moment)
     (member (codes "ticked") (whole ticked) (by_worker version worker))))
 
+-- the record of an installed configuration, whose number is the version
+unfoldable pub installed_line_data : ℕ → ℕ → ℕ → ℕ → Data
+installed_line_data line moment version worker = object (member (codes "installed") (whole version)
+    (member (codes "line") (whole line) (member (codes "moment") (whole moment) (by_worker version worker))))
+
 -- the record of a refused line, from the reason
 unfoldable pub refused_line_data : ℕ → ℕ → ℕ → ℕ → Data → Data
 refused_line_data line moment version worker why = object (member (codes "line") (whole line) (member (codes "moment") (whole moment)
@@ -110,8 +125,12 @@ abbrev pub outcome_data : ℕ → ℕ → ℕ → ℕ → Outcome → Data
 outcome_data line moment version worker (Checked answer) =
     checked_line_data line moment version worker (counts_data answer.statuses) (reply_data answer)
 outcome_data line moment version worker (Ticked ticked) = ticked_line_data line moment version worker ticked
+outcome_data line moment version worker Installed = installed_line_data line moment version worker
 outcome_data line moment version worker (Bad refused) = refused_line_data line moment version worker (refused_data refused)
 outcome_data line moment version worker (Full live held wanted) = refused_line_data line moment version worker (full_data live held wanted)
+outcome_data line moment version worker (Spent claims wanted) = refused_line_data line moment version worker (spent_data claims wanted)
+outcome_data line moment version worker (VersionsFull versions) =
+    refused_line_data line moment version worker (versions_full_data versions)
 
 -- a record, by its line, its moment, its version and its worker
 unfoldable pub record_data : Shown → Data

@@ -1,12 +1,18 @@
 //! Requests, replies, records and totals as JSON.
 //!
 //! Each text is compact JSON of a value that `specs/Texts.antt` gives, with the names of each object in byte order.
-//! Requests are flat today: one descriptor of one entry, whose hits are 1.
+//! `read_request` answers what a value spells, or the first of all its faults with its place and its number (`specs/ReadRequest.antt`,
+//! field by field, both spellings of each).
 #![tactic(auto)]
 
 mod array;
-mod flat;
+mod descriptor_list;
+mod entry_list;
+mod field_names;
 mod names;
+mod read_descriptors;
+mod read_entries;
+mod read_limit;
 mod record;
 mod record_json;
 mod reply;
@@ -14,11 +20,12 @@ mod request;
 mod statuses;
 mod total_json;
 
-pub use flat::{only_field, whole_of};
+pub use array::array_value;
+pub use names::unit_name;
 pub use record::{Outcome, Record, Records};
-pub use record_json::{record_text, record_value};
+pub use record_json::{record_text, record_value, refused_value};
 pub use reply::{reply_body, reply_value};
-pub use request::read_flat_request;
+pub use request::read_request;
 pub use statuses::Statuses;
 pub use total_json::{total_text, total_value};
 

@@ -9,10 +9,16 @@ pub enum Outcome {
     Checked(Statuses),
     /// A tick offered this moment.
     Ticked(Seconds),
+    /// A configuration was installed, whose number is the record's version.
+    Installed,
     /// The line was refused and had no other effect.
     Bad(Refused),
     /// A check was refused: `live` counters have cells, `held` cells are held, and `wanted` counters have none.
     Full { live: u32, held: u32, wanted: u32 },
+    /// A check was refused: so many claims were made, and `wanted` counters have none.
+    Spent { claims: u64, wanted: u32 },
+    /// A configuration was refused: there are so many versions.
+    VersionsFull { versions: u32 },
 }
 
 /// What came of a line, at which moment and by which version and worker. Lines are numbered from 1, workers and

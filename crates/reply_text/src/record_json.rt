@@ -18,8 +18,9 @@ struct Head {
     worker: u32,
 }
 
+/// A refusal as a JSON value.
 #[tactic(auto, unfolding(crate::specs::Texts::refused_data))]
-fn refused_value(alloc: Global, refused: &Refused) -> Result<Value, AllocError>
+pub fn refused_value(alloc: Global, refused: &Refused) -> Result<Value, AllocError>
     ensures value { IfOk result (λ v. view v ≡ texts.refused_data refused.now) }
     ensures whole { IfOk result (λ v. has_float (view v) ≡ false) }
 {
@@ -34,6 +35,22 @@ fn full_value(alloc: Global, live: u32, held: u32, wanted: u32) -> Result<Value,
     ensures whole { IfOk result (λ v. has_float (view v) ≡ false) }
 {
     json!(in alloc; {"held": held, "live": live, "name": "CountersFull", "wanted": wanted})
+}
+
+#[tactic(auto, unfolding(crate::specs::Texts::spent_data))]
+fn spent_value(alloc: Global, claims: u64, wanted: u32) -> Result<Value, AllocError>
+    ensures value { IfOk result (λ v. view v ≡ texts.spent_data claims wanted) }
+    ensures whole { IfOk result (λ v. has_float (view v) ≡ false) }
+{
+    json!(in alloc; {"claims": claims, "name": "ClaimsSpent", "wanted": wanted})
+}
+
+#[tactic(auto, unfolding(crate::specs::Texts::versions_full_data))]
+fn versions_full_value(alloc: Global, versions: u32) -> Result<Value, AllocError>
+    ensures value { IfOk result (λ v. view v ≡ texts.versions_full_data versions) }
+    ensures whole { IfOk result (λ v. has_float (view v) ≡ false) }
+{
+    json!(in alloc; {"name": "VersionsFull", "versions": versions})
 }
 
 #[tactic(auto, unfolding(crate::specs::Texts::checked_line_data))]
@@ -84,6 +101,20 @@ fn ticked_line_value(alloc: Global, head: Head, ticked: u64) -> Result<Value, Al
     json!(in alloc; {"line": line, "moment": moment, "ticked": ticked, "version": version, "worker": worker})
 }
 
+#[tactic(auto, unfolding(crate::specs::Texts::installed_line_data))]
+fn installed_line_value(alloc: Global, head: Head) -> Result<Value, AllocError>
+    ensures value { IfOk result (λ v. view v ≡ texts.installed_line_data head.line head.moment head.version head.worker) }
+    ensures whole { IfOk result (λ v. has_float (view v) ≡ false) }
+{
+    let Head {
+        line,
+        moment,
+        version,
+        worker,
+    } = head;
+    json!(in alloc; {"installed": version, "line": line, "moment": moment, "version": version, "worker": worker})
+}
+
 #[tactic(auto, unfolding(crate::specs::Texts::refused_line_data))]
 fn refused_line_value(alloc: Global, head: Head, why: Value) -> Result<Value, AllocError>
     requires { has_float (view why) ≡ false }
@@ -114,12 +145,21 @@ pub fn record_value(alloc: Global, rec: &Record) -> Result<Value, OutOfMemory>
     match &rec.outcome {
         Outcome::Checked(answer) => Ok(checked_value(alloc, head, answer)?),
         Outcome::Ticked(ticked) => Ok(ticked_line_value(alloc, head, ticked.get())?),
+        Outcome::Installed => Ok(installed_line_value(alloc, head)?),
         Outcome::Bad(refused) => {
             let why = refused_value(alloc, refused)?;
             Ok(refused_line_value(alloc, head, why)?)
         }
         Outcome::Full { live, held, wanted } => {
             let why = full_value(alloc, *live, *held, *wanted)?;
+            Ok(refused_line_value(alloc, head, why)?)
+        }
+        Outcome::Spent { claims, wanted } => {
+            let why = spent_value(alloc, *claims, *wanted)?;
+            Ok(refused_line_value(alloc, head, why)?)
+        }
+        Outcome::VersionsFull { versions } => {
+            let why = versions_full_value(alloc, *versions)?;
             Ok(refused_line_value(alloc, head, why)?)
         }
     }

@@ -1,112 +1,68 @@
-ghost use Rattle.std.specs.Prelude.{◌≡◌, ◌≤◌, ◌<◌, length, IfOk, IfSome};
+ghost use Rattle.std.specs.Prelude.{◌≡◌, [], Some};
 ghost use Rattle.serde_json.specs.View.{view};
-ghost use Rattle.rate_types.specs.declared.limits.TheConstants.{LONGEST_TEXT};
-ghost use Rattle.reply_text.specs.Request as request;
+ghost use Rattle.rate_types.specs.Reading.{AnswersReading};
+ghost use Rattle.proto_json.specs.Said.{reading_of};
+ghost use Rattle.proto_json.specs.Held.{object_of};
+ghost use Rattle.reply_text.specs.ReadRequest as reading;
 
-use crate::flat::{both_fields, name_of, only_field, only_item, text_of};
-use rate_types::{Descriptor, Entries, Entry, OutOfMemory, Request, Text};
+use crate::descriptor_list::DescriptorList;
+use crate::field_names::{DOMAIN, HITS_ADDEND};
+use crate::read_descriptors::take_descriptors;
+use proto_json::{Fields, FormFault};
+use rate_types::refusals::{NO_DESCRIPTORS, REQUEST_EMPTY_DOMAIN, REQUEST_TEXT_TOO_LONG};
+use rate_types::{Place, Refused, Request, RequestFault, Text};
 use serde_json::Value;
 use std::alloc::Global;
 
-// A copy of a text that has room in a `Text`.
-fn copy_of(alloc: Global, text: &str) -> Result<Text, OutOfMemory>
-    requires { length text.now ≤ LONGEST_TEXT }
-    ensures { IfOk result (λ t. t ≡ text.now) }
+// The request of these parts.
+#[tactic(auto, using(crate::proofs::Lawful::request_reads, crate::proofs::Lawful::never_too_many))]
+fn request_of(
+    at: Place,
+    domain: Text,
+    descriptors: DescriptorList,
+    hits: u32,
+) -> Result<Request, FormFault>
+    ensures { AnswersReading (λ r. Some r) result (reading_of (reading.request_rules at domain descriptors hits)) }
 {
-    let Ok(text) = String::from_str(alloc, text) else {
-        return Err(OutOfMemory);
-    };
-    match Text::of(text) {
-        Some(text) => Ok(text),
-        None => unreachable!(),
+    match Request::build(domain, descriptors.into_items(), hits) {
+        Ok(request) => Ok(request),
+        Err(RequestFault::EmptyDomain) => Err(FormFault::Refused(Refused {
+            at,
+            number: REQUEST_EMPTY_DOMAIN,
+        })),
+        Err(RequestFault::NoDescriptors) => Err(FormFault::Refused(Refused {
+            at,
+            number: NO_DESCRIPTORS,
+        })),
+        Err(RequestFault::TooMany { .. }) => unreachable!(),
     }
 }
 
-// The descriptor of one entry whose key isn't empty.
-#[tactic(auto, using(crate::proofs::Singles::one_entry))]
-fn descriptor_of(alloc: Global, entry: Entry) -> Result<Descriptor, OutOfMemory>
-    requires { 0 < length entry.key }
-    ensures { IfOk result (λ d. d ≡ request.descriptor_of entry) }
+// The request of its fields.
+#[tactic(auto, using(proto_json::specs::Laws::reading_then), unfolding(crate::specs::ReadRequest::request_in))]
+fn request_in(alloc: Global, mut fields: Fields) -> Result<Request, FormFault>
+    ensures { AnswersReading (λ r. Some r) result (reading_of (reading.request_in (object_of fields))) }
 {
-    let mut entries = Vec::new(alloc);
-    entries.push(entry)?;
-    let Ok(entries) = Entries::build(entries) else {
-        unreachable!();
-    };
-    Ok(Descriptor {
-        entries,
-        own: None,
-        hits: None,
-    })
-}
-
-// The request of one entry, whose key and domain aren't empty.
-#[tactic(auto, using(crate::proofs::Singles::one_request))]
-fn request_with(alloc: Global, domain: Text, entry: Entry) -> Result<Request, OutOfMemory>
-    requires domain { 0 < length domain }
-    requires key { 0 < length entry.key }
-    ensures { IfOk result (λ r. r ≡ request.request_with domain entry) }
-{
-    let mut descriptors = Vec::new(alloc);
-    descriptors.push(descriptor_of(alloc, entry)?)?;
-    let Ok(request) = Request::build(domain, descriptors, 1) else {
-        unreachable!();
-    };
+    let domain = fields.take_short_text(DOMAIN, REQUEST_TEXT_TOO_LONG)?;
+    let descriptors = take_descriptors(alloc, &mut fields)?;
+    let hits = fields.take_u32(HITS_ADDEND)?;
+    let at = fields.end()?;
+    let domain = domain.unwrap_or(Text::empty(alloc));
+    let descriptors = descriptors.unwrap_or(DescriptorList::none(alloc));
+    let request = request_of(at, domain, descriptors, hits.unwrap_or(0))?;
     Ok(request)
 }
 
-#[tactic(auto, unfolding(crate::specs::Request::entry_of))]
-fn entry_of(alloc: Global, value: &Value) -> Result<Option<Entry>, OutOfMemory>
-    ensures entry { IfOk result (λ r. r ≡ request.entry_of (view value.now)) }
-    ensures key { IfOk result (λ r. IfSome r (λ e. 0 < length e.key)) }
+/// Reads a request (Envoy's `RateLimitRequest` in the proto3 JSON mapping), which stands at this place. It answers the
+/// request that the value spells, or its first fault: 20 EmptyDomain and 21 NoDescriptors at the request, 22
+/// TooManyDescriptors and 25 TooManyEntries at a list of more than 32 items, 23 NoEntries at a descriptor, 14 UnitMissing at
+/// a descriptor's own limit, 24 EmptyKey at an entry, 26 TextTooLong at a text of more than 1,024 bytes, and those of every
+/// message.
+#[tactic(auto, using(proto_json::specs::Laws::reading_then), unfolding(proto_json::specs::Kinds::and_read))]
+pub fn read_request(alloc: Global, value: Value, place: Place) -> Result<Request, FormFault>
+    ensures { AnswersReading (λ r. Some r) result (reading_of (reading.request place (view value))) }
 {
-    let Some((key, value)) = both_fields(value, "key", "value") else {
-        return Ok(None);
-    };
-    let Some(key) = name_of(key) else {
-        return Ok(None);
-    };
-    let Some(value) = text_of(value) else {
-        return Ok(None);
-    };
-    let key = copy_of(alloc, key)?;
-    let value = copy_of(alloc, value)?;
-    Ok(Some(Entry { key, value }))
-}
-
-#[tactic(auto, unfolding(crate::specs::Request::flat_descriptor))]
-fn flat_descriptor(alloc: Global, value: &Value) -> Result<Option<Entry>, OutOfMemory>
-    ensures entry { IfOk result (λ r. r ≡ request.flat_descriptor (view value.now)) }
-    ensures key { IfOk result (λ r. IfSome r (λ e. 0 < length e.key)) }
-{
-    let Some(entries) = only_field(value, "entries") else {
-        return Ok(None);
-    };
-    let Some(entry) = only_item(entries) else {
-        return Ok(None);
-    };
-    let entry = entry_of(alloc, entry)?;
-    Ok(entry)
-}
-
-/// The request that a flat value is; None where it isn't flat.
-#[tactic(auto, unfolding(crate::specs::Request::flat_request))]
-pub fn read_flat_request(alloc: Global, value: &Value) -> Result<Option<Request>, OutOfMemory>
-    ensures { IfOk result (λ r. r ≡ request.flat_request (view value.now)) }
-{
-    let Some((domain, descriptors)) = both_fields(value, "domain", "descriptors") else {
-        return Ok(None);
-    };
-    let Some(domain) = name_of(domain) else {
-        return Ok(None);
-    };
-    let Some(descriptor) = only_item(descriptors) else {
-        return Ok(None);
-    };
-    let Some(entry) = flat_descriptor(alloc, descriptor)? else {
-        return Ok(None);
-    };
-    let domain = copy_of(alloc, domain)?;
-    let request = request_with(alloc, domain, entry)?;
-    Ok(Some(request))
+    let fields = Fields::of(value, place)?;
+    let request = request_in(alloc, fields)?;
+    Ok(request)
 }

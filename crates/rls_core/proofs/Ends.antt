@@ -1,14 +1,15 @@
 -- The ends of the windows of the counters in a map, and what dropping the ended ones leaves.
-use Rattle.std.proofs.Common.{◌≡◌, ℕ, ◌<◌, ◌≤◌, ◌&&◌, min, Bool, true, false, cond, [], ◌∷◌, filter, length, Ordering, Less, Equal, Greater, is_eq, is_some, unwrap_or, nat_lt}
+use Rattle.std.proofs.Common.{◌≡◌, true≢false, ℕ, ◌<◌, ◌≤◌, ◌&&◌, min, Bool, true, false, cond, [], ◌∷◌, filter, length, Ordering, Less, Equal, Greater, is_eq, is_some, unwrap_or, nat_lt}
 use Rattle.std.proofs.Common.{Option, Some, None, refl, ap, ◌∙◌, arith}
 use Rattle.std.proofs.lemmas.Bool.Decides.{nat_tests}
+use Rattle.std.proofs.lemmas.Cmp.{tied_itself}
 use Rattle.std.specs.List.{AllByRecursion}
-use Rattle.std.specs.Map.{lookup, set_value}
+use Rattle.std.specs.Map.{lookup, set_value, remove_entry}
 use Rattle.std.specs.BTreeMap.{is_at, insert_entry}
 use Rattle.std.specs.Ordering.{match_ordering}
 use Rattle.rate_types.specs.Counters.{key_cmp}
 use Rattle.rate_types.specs.declared.counter_key.CounterKey.{CounterKey}
-use Rattle.rate_types.specs.contracts.counter_key.CounterKeyOrd.TheImpl.Laws.{matches_eq-law}
+use Rattle.rate_types.specs.contracts.counter_key.CounterKeyOrd.TheImpl.Laws.{total-law, matches_eq-law}
 use Rattle.window_keys.specs.Counter.{window_end_of}
 use Rattle.window_keys.proofs.Counters.{same_end}
 use Rattle.rls_core.specs.Sums.{Sums, AreOpen}
@@ -107,10 +108,9 @@ bound_insert next late sums k v is h =
     all_insert (λ e. min next late ≤ window_end_of e.0) sums k v (λ c n p m. p) (omega (arith, is)) (lower_all (min next late) next sums (omega arith) h)
 
 -- a tick drops what has ended
-pub drops : (moment : ℕ) (old : PlainState) → Drops moment old (record { config = old.config; cells = old.cells; moment = moment; sums = open_of moment old.sums })
+pub drops : (moment : ℕ) (old : PlainState) → Drops moment old (record old { moment = moment; sums = open_of moment old.sums })
 drops moment old = record {
-  config = refl;
-  cells = refl;
+  rules = record { config = refl; version = refl; global_shadow = refl; cells = refl };
   moment = refl;
   bound = λ c. ap is_some (lookup_open moment c old.sums) ∙ has (nat_lt moment (window_end_of c)) (lookup (is_at (key_cmp c)) old.sums);
   charged = λ c. ap (λ o. unwrap_or o 0) (lookup_open moment c old.sums) ∙ sum (nat_lt moment (window_end_of c)) (lookup (is_at (key_cmp c)) old.sums);
@@ -125,3 +125,20 @@ drops moment old = record {
     sum : (lasts : Bool) (o : Option ℕ) → unwrap_or (cond lasts o None) 0 ≡ cond lasts (unwrap_or o 0) 0
     sum true o = refl
     sum false o = refl
+
+-- ---- a counter that is put and taken away again
+
+pub remove_inserted : (sums : Sums) (k : CounterKey) (v : ℕ) → is_some (lookup (is_at (key_cmp k)) sums) ≡ false → remove_entry (is_at (key_cmp k)) (insert_entry key_cmp sums k v) ≡ sums
+remove_inserted [] k v absent = ap (λ o. cond (is_eq o) [] ((k, v) ∷ [])) (tied_itself total-law k)
+remove_inserted (e ∷ sums) k v absent = by (key_cmp k e.0) refl absent (remove_inserted sums k v)
+  where
+    by : (o : Ordering) → key_cmp k e.0 ≡ o → is_some (cond (is_eq o) (Some e.1) (lookup (is_at (key_cmp k)) sums)) ≡ false
+        → (is_some (lookup (is_at (key_cmp k)) sums) ≡ false → remove_entry (is_at (key_cmp k)) (insert_entry key_cmp sums k v) ≡ sums)
+        → remove_entry (is_at (key_cmp k)) (match_ordering o ((k, v) ∷ e ∷ sums) ((e.0, v) ∷ sums) (e ∷ insert_entry key_cmp sums k v)) ≡ e ∷ sums
+    by Less is none more = ap (λ o. cond (is_eq o) (e ∷ sums) ((k, v) ∷ remove_entry (is_at (key_cmp k)) (e ∷ sums))) (tied_itself total-law k)
+    by Equal is none more = absurd (true≢false none)
+    by Greater is none more = ap (λ o. cond (is_eq o) (insert_entry key_cmp sums k v) (e ∷ remove_entry (is_at (key_cmp k)) (insert_entry key_cmp sums k v))) is ∙ ap (λ s. e ∷ s) (more none)
+
+pub all_remove : (P : CounterKey × ℕ → Type 0) (test : CounterKey → Bool) (sums : Sums) → AllByRecursion P sums → AllByRecursion P (remove_entry test sums)
+all_remove P test [] h = tt
+all_remove P test (e ∷ sums) h = by_test P (test e.0) _ _ h.1 (h.0, all_remove P test sums h.1)

@@ -1,5 +1,6 @@
 pub mod Ends
 pub mod Summed
 pub mod Numbers
-pub mod Counting
+pub mod Binding
+pub mod Counted
 pub mod Replying

@@ -1,5 +1,5 @@
 -- How many counters a map of sums has, and whether one more is among them.
-use Rattle.std.proofs.Common.{◌≡◌, ◌&&◌, ◌||◌, not, Bool, true, false, cond, [], ◌∷◌, length, is_eq, is_some, Some, refl, sym, ap, ◌∙◌, arith}
+use Rattle.std.proofs.Common.{◌≡◌, ◌&&◌, ◌||◌, not, Bool, true, false, cond, List, [], ◌∷◌, length, is_eq, is_some, Some, refl, sym, ap, ◌∙◌, arith}
 use Rattle.std.specs.BTreeMap.{is_at}
 use Rattle.std.specs.List.{list_any}
 use Rattle.std.specs.List.Sorted.{IsStrictlySortedBy}
@@ -10,8 +10,9 @@ use Rattle.rate_types.specs.contracts.counter_key.CounterKeyOrd.TheImpl.Laws.{ma
 use Rattle.window_keys.proofs.Counters.{same_is}
 use Rattle.rls_core.specs.Sequential.{IsNumberOf, Wants}
 use Rattle.rls_core.specs.Sums.{Sums, has_sum}
+use Rattle.rls_core.specs.Counting.{AreFresh}
 
-has_among : (c : CounterKey) (sums : Sums) → list_any (λ k. same_counter c k) (keys_of sums) ≡ has_sum sums c
+pub has_among : (c : CounterKey) (sums : Sums) → list_any (λ k. same_counter c k) (keys_of sums) ≡ has_sum sums c
 has_among c [] = refl
 has_among c (e ∷ sums) = ap (λ b. b || list_any (λ k. same_counter c k) (keys_of sums)) (matches_eq-law c e.0) ∙ by (is_eq (key_cmp c e.0)) (has_among c sums)
   where
@@ -20,7 +21,7 @@ has_among c (e ∷ sums) = ap (λ b. b || list_any (λ k. same_counter c k) (key
     by true more = refl
     by false more = more
 
-keys_length : (sums : Sums) → length (keys_of sums) ≡ length sums
+pub keys_length : (sums : Sums) → length (keys_of sums) ≡ length sums
 keys_length [] = refl
 keys_length (e ∷ sums) = omega (arith, keys_length sums)
 
@@ -31,30 +32,7 @@ number_of sums sorted = record { counters = keys_of sums; differ = sorted; all =
 pub lookup_same : (sums : Sums) (c k : CounterKey) → same_counter c k ≡ true → lookup (is_at (key_cmp k)) sums ≡ lookup (is_at (key_cmp c)) sums
 lookup_same sums c k same = ap (λ x. lookup (is_at (key_cmp x)) sums) (sym (same_is c k same))
 
-sorted_none : IsStrictlySortedBy key_cmp []
-unfolding IsStrictlySortedBy
-sorted_none = tt
-
-sorted_one : (k : CounterKey) → IsStrictlySortedBy key_cmp (k ∷ [])
-unfolding IsStrictlySortedBy
-sorted_one k = (tt, tt)
-
--- a counter that has a cell wants none
-pub wants_none : (sums : Sums) (k : CounterKey) → has_sum sums k ≡ true → Wants (has_sum sums) (k ∷ []) 0
-wants_none sums k has = record { counters = []; differ = sorted_none; all = λ c. by c (same_counter c k) refl; count = refl }
-  where
-    by : (c : CounterKey) (b : Bool) → same_counter c k ≡ b → false ≡ ((same_counter c k || false) && not (has_sum sums c))
-    by c true is = let here : has_sum sums c ≡ true = ap is_some (sym (lookup_same sums c k is)) ∙ has in rw (is, here) refl
-    by c false is = rw is refl
-
--- one that has none wants one
-pub wants_one : (sums : Sums) (k : CounterKey) → has_sum sums k ≡ false → Wants (has_sum sums) (k ∷ []) 1
-wants_one sums k has = record { counters = k ∷ []; differ = sorted_one k; all = λ c. by c (same_counter c k) refl; count = refl }
-  where
-    by : (c : CounterKey) (b : Bool) → same_counter c k ≡ b → (same_counter c k || false) ≡ ((same_counter c k || false) && not (has_sum sums c))
-    by c true is = let here : has_sum sums c ≡ false = ap is_some (sym (lookup_same sums c k is)) ∙ has in rw (is, here) refl
-    by c false is = rw is refl
-
--- and no counter wants none
-pub wants_nothing : (sums : Sums) → Wants (has_sum sums) [] 0
-wants_nothing sums = record { counters = []; differ = sorted_none; all = λ c. refl; count = refl }
+-- as many counters are wanted as are fresh
+pub wants_fresh : (counters : List CounterKey) (sums fresh : Sums) → AreFresh counters sums fresh → IsStrictlySortedBy key_cmp (keys_of fresh)
+    → Wants (has_sum sums) counters (length fresh)
+wants_fresh counters sums fresh is sorted = record { counters = keys_of fresh; differ = sorted; all = λ c. has_among c fresh ∙ is.bound c; count = keys_length fresh }

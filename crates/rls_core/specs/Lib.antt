@@ -4,4 +4,5 @@ pub mod Sequential
 pub mod Totals
 pub mod Sums
 pub mod Plain
+pub mod Stored
 pub mod Counting

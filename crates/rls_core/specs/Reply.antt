@@ -7,8 +7,8 @@ use Rattle.rate_types.specs.declared.counter_key.CounterKey.{CounterKey}
 use Rattle.rate_types.specs.declared.request.Descriptor.{Descriptor}
 use Rattle.rate_types.specs.declared.request.OwnLimit.{OwnLimit}
 use Rattle.window_keys.specs.Counter.{counter_of}
-use Rattle.rule_lookup.specs.Rule.{rule_of}
-use Rattle.rule_lookup.specs.declared.flat.FlatConfig.{FlatConfig}
+use Rattle.descriptor_tree.specs.Trees.{DomainTree}
+use Rattle.rule_lookup.specs.Replaces.{found_among}
 use Rattle.rule_lookup.specs.declared.found.Found.{Found}
 use Rattle.rule_lookup.specs.declared.found.Found.TheVariants.{Limited}
 use Rattle.rls_core.specs.declared.status.Code.{Code}
@@ -23,9 +23,9 @@ use Rattle.rls_core.specs.Status.{status_of}
 abbrev pub hits_of : RequestParts → Descriptor → ℕ
 hits_of request descriptor = unwrap_or descriptor.hits request.hits
 
--- what the look-up of a descriptor finds
-abbrev pub found_for : List FlatConfig → RequestParts → Descriptor → Found
-found_for config request descriptor = rule_of config request.domain descriptor
+-- what a descriptor of a request finds: its rule, and none where the rule of another descriptor replaces it
+abbrev pub found_for : List DomainTree → RequestParts → Descriptor → Found
+found_for config request descriptor = found_among config request.domain request.descriptors descriptor
 
 -- the code is OVER_LIMIT
 abbrev pub is_over_limit : Code → Bool
@@ -33,14 +33,14 @@ is_over_limit OverLimit = true
 is_over_limit code.Ok = false
 
 -- each descriptor in order has the status of its rule and its count
-abbrev pub AreStatuses : List FlatConfig → RequestParts → ℕ → List Descriptor → List Status → Type 0
+abbrev pub AreStatuses : List DomainTree → RequestParts → ℕ → List Descriptor → List Status → Type 0
 AreStatuses config request moment [] [] = Unit {0}
 AreStatuses config request moment (d ∷ ds) (s ∷ ss) =
     (status_of (found_for config request d) moment (hits_of request d) s.count ≡ Some s) × AreStatuses config request moment ds ss
 AreStatuses config request moment ds ss = ⊥
 
 -- The reply: these statuses, and over where one of them is and global shadow is off.
-pub record IsReplyOf (config : List FlatConfig) (request : RequestParts) (moment : ℕ) (global_shadow over : Bool)
+pub record IsReplyOf (config : List DomainTree) (request : RequestParts) (moment : ℕ) (global_shadow over : Bool)
     (statuses : List Status) : Type 0 where
   pub each : AreStatuses config request moment request.descriptors statuses
   pub overall : over ≡ (list_any (λ s. is_over_limit s.code) statuses && not global_shadow)
@@ -72,5 +72,5 @@ counter_under request moment d (Limited limit unit shadow rule) = counter_of req
 counter_under request moment d other = []
 
 -- the counters that a request names at a moment
-abbrev pub counters_named : List FlatConfig → RequestParts → ℕ → List CounterKey
+abbrev pub counters_named : List DomainTree → RequestParts → ℕ → List CounterKey
 counters_named config request moment = flat_map (λ d. counter_under request moment d (found_for config request d)) request.descriptors

@@ -8,7 +8,7 @@ use Rattle.rate_types.specs.Requests.{RequestParts}
 use Rattle.rate_types.specs.declared.counter_key.CounterKey.{CounterKey}
 use Rattle.rate_types.specs.declared.request.Descriptor.{Descriptor}
 use Rattle.window_keys.specs.Counter.{counter_of}
-use Rattle.rule_lookup.specs.declared.flat.FlatConfig.{FlatConfig}
+use Rattle.descriptor_tree.specs.Trees.{DomainTree}
 use Rattle.rule_lookup.specs.declared.found.Found.{Found}
 use Rattle.rule_lookup.specs.declared.found.Found.TheVariants.{Limited}
 use Rattle.rls_core.specs.declared.status.Count.{Count}
@@ -31,7 +31,7 @@ charged_under charged request moment d (Limited limit unit shadow rule) = charge
 charged_under charged request moment d other = 0
 
 -- each descriptor counts what was charged before, in earlier descriptors too
-abbrev pub AreSequential : List FlatConfig → RequestParts → ℕ → (CounterKey → ℕ) → List Descriptor → List Status → Type 0
+abbrev pub AreSequential : List DomainTree → RequestParts → ℕ → (CounterKey → ℕ) → List Descriptor → List Status → Type 0
 AreSequential config request moment charged (d ∷ ds) (s ∷ ss) =
     (s.count ≡ count_for (found_for config request d) (hits_of request d)
     (charged_under charged request moment d (found_for config request d)))
@@ -51,20 +51,20 @@ abbrev pub Wants : (CounterKey → Bool) → List CounterKey → ℕ → Type 0
 Wants bound counters wanted = IsNumberOf (λ c. list_any (λ k. same_counter c k) counters && not (bound c)) wanted
 
 -- how many counters have cells, and how many of those that a request names have none
-pub record Needs (config : List FlatConfig) (request : RequestParts) (moment : ℕ) (bound : CounterKey
+pub record Needs (config : List DomainTree) (request : RequestParts) (moment : ℕ) (bound : CounterKey
     → Bool) (live wanted : ℕ) : Type 0 where
   pub lives : IsNumberOf bound live
   pub wants : Wants bound (counters_named config request moment) wanted
 
 -- these fit into the cells
-pub record HasRoom (config : List FlatConfig) (cells : ℕ) (request : RequestParts) (moment : ℕ) (bound : CounterKey → Bool) : Type 0 where
+pub record HasRoom (config : List DomainTree) (cells : ℕ) (request : RequestParts) (moment : ℕ) (bound : CounterKey → Bool) : Type 0 where
   pub live : ℕ
   pub wanted : ℕ
   pub needs : Needs config request moment bound live wanted
   pub fits : live + wanted ≤ cells
 
 -- they don't
-pub record LacksRoom (config : List FlatConfig) (cells : ℕ) (request : RequestParts) (moment : ℕ) (bound : CounterKey
+pub record LacksRoom (config : List DomainTree) (cells : ℕ) (request : RequestParts) (moment : ℕ) (bound : CounterKey
     → Bool) (live wanted : ℕ) : Type 0 where
   pub needs : Needs config request moment bound live wanted
   pub above : cells < live + wanted

@@ -3,11 +3,11 @@ ghost use Rattle.std.specs.Prelude.{OnOk, OnErr};
 ghost use Rattle.std.specs.BTreeMap.{is_at, insert_entry};
 ghost use Rattle.std.specs.List.{AllByRecursion};
 ghost use Rattle.std.specs.List.Sorted.{IsStrictlySortedBy};
-ghost use Rattle.std.specs.Map.{lookup, keys_of};
+ghost use Rattle.std.specs.Map.{lookup, keys_of, remove_entry};
 ghost use Rattle.rate_types.specs.Counters.{key_cmp, same_counter};
 ghost use Rattle.rate_types.specs.declared.counter_key.CounterKey.{CounterKey};
 ghost use Rattle.window_keys.specs.Counter.{window_end_of};
-ghost use Rattle.rls_core.specs.Counting.{hits_charged};
+ghost use Rattle.rls_core.specs.Counting.{hits_charged, Binds, AllLater};
 ghost use Rattle.rls_core.specs.Sequential.{count_under};
 ghost use Rattle.rls_core.specs.Sums.{AreOpen, charged_totals, has_sum, sum_on};
 
@@ -96,6 +96,55 @@ impl CounterSums {
         self.sums.insert(counter, sum)?;
         self.next_end = self.next_end.min(end);
         Ok(())
+    }
+
+    /// Whether a counter has a sum.
+    pub fn has(&self, counter: &CounterKey) -> bool
+        ensures { result ≡ has_sum self.now counter.now }
+    {
+        self.sums.contains_key(counter)
+    }
+
+    // Takes the sum of a counter away.
+    fn remove(&mut self, counter: &CounterKey)
+        ensures { self.new ≡ remove_entry (is_at (key_cmp counter.now)) self.old }
+    {
+        self.sums.remove(counter);
+    }
+
+    /// The counters, in order.
+    pub fn counters(&self) -> Result<Vec<CounterKey>, OutOfMemory>
+        ensures { IfOk result (λ ks. ks.items ≡ keys_of self.now) }
+    {
+        let mut counters = Vec::new(self.alloc);
+        'sums: for (counter, _) in self.sums.iter() {
+            counters.push(counter.copy()?)?;
+        }
+        Ok(counters)
+    }
+
+    /// Gives those of these counters that have no sum the sum 0, or changes nothing for want of memory.
+    pub fn add(&mut self, counters: &[CounterKey]) -> Result<(), OutOfMemory>
+        ensures binds { OnOk result (Binds counters.now self.old self.new) }
+        ensures len { OnOk result (length self.new ≤ length self.old + length counters.now) }
+        ensures open { OnOk result ((m : ℕ) → AreOpen m self.old → AllLater m counters.now → AreOpen m self.new) }
+        ensures refused { OnErr result (self.new ≡ self.old) }
+    {
+        let Some((counter, rest)) = counters.split_first() else {
+            return Ok(());
+        };
+        if self.has(counter) {
+            self.add(rest)?;
+            return Ok(());
+        }
+        self.put(counter.copy()?, 0)?;
+        match self.add(rest) {
+            Ok(()) => Ok(()),
+            Err(_) => {
+                self.remove(counter);
+                Err(OutOfMemory)
+            }
+        }
     }
 
     /// Counts hits under a limit on a counter that has a sum. None where it has none.

@@ -34,3 +34,25 @@ impl From<OutOfMemory> for CheckFault {
         CheckFault::OutOfMemory
     }
 }
+
+/// Why a configuration isn't put in force. The version in force stays then.
+#[derive(Clone, Copy, Debug, PartialEq, Eq, Error)]
+pub enum ReloadFault {
+    /// There are `versions` versions, as many as there can be: 1,048,576.
+    #[error("there are {versions} versions, and there can be no more")]
+    VersionsFull { versions: u32 },
+    /// There was no memory for the version.
+    #[error("out of memory")]
+    OutOfMemory,
+}
+
+impl From<OutOfMemory> for ReloadFault {
+    ghost use Rattle.std.specs.Prelude.{◌≡◌};
+    ghost use Rattle.rls_core.specs.declared.fault.ReloadFault.TheVariants as fault;
+
+    ghost from_gives = { λ _ e. e ≡ fault.OutOfMemory };
+
+    fn from(_: OutOfMemory) -> Self {
+        ReloadFault::OutOfMemory
+    }
+}

@@ -1,42 +1,61 @@
-ghost use Rattle.std.specs.Prelude.{◌≡◌, ◌≤◌, ◌<◌, ◌+◌, max, false, [], ◌∷◌, length, IfOk, IfErr, IfSome, IfNone, OnOk, OnErr};
+ghost use Rattle.std.specs.Prelude.{◌≡◌, ◌≤◌, ◌+◌, ◌++◌, max, ℕ, List, ◌<◌, [], length, IfOk, IfErr, IfSome, OnOk, OnErr};
+ghost use Rattle.std.specs.Arc.{arc_value};
+ghost use Rattle.rate_types.specs.declared.counter_key.CounterKey.{CounterKey};
 ghost use Rattle.window_keys.specs.Counter.{window_end_of};
-ghost use Rattle.rls_core.specs.Sequential.{count_under, count_for, charged_under, AreSequential, IsNumberOf, HasRoom};
-ghost use Rattle.rls_core.specs.Reply.{IsReplyOf, counter_under};
+ghost use Rattle.descriptor_tree.specs.Views.{config_view};
+ghost use Rattle.rls_core.specs.Sequential.{AreSequential, IsNumberOf, HasRoom};
+ghost use Rattle.rls_core.specs.Reply.{IsReplyOf};
 ghost use Rattle.rls_core.specs.Totals.{AreTotals};
-ghost use Rattle.rls_core.specs.Sums.{sum_on, has_sum};
-ghost use Rattle.rls_core.specs.Plain.{Drops, Charges, IsFull};
-ghost use Rattle.rls_core.specs.Counting.{CountsEach, HasRoomFor, IsFullFor, hits_charged};
-ghost use Rattle.rls_core.specs.declared.status.Count.TheVariants.{NoCount};
+ghost use Rattle.rls_core.specs.Sums.{sum_on, has_sum, AreOpen};
+ghost use Rattle.rls_core.specs.Plain.{Drops, Charges, IsFull, HasVersionsFull};
+ghost use Rattle.rls_core.specs.Counting.{as_list, counters_in, AreLater, Binds, AreFresh, HasRoomFor, IsFullFor};
 
-use crate::count_hits::count_hits;
+use crate::count_each::count_each;
 use crate::counter_sums::CounterSums;
-use crate::reply::reply_of;
-use crate::{CheckFault, Count, Reply, Totals, status_for};
-use rate_types::{CounterKey, Descriptor, OutOfMemory, Request, Seconds};
-use rule_lookup::{FlatConfigs, Found, Index, lookup};
+use crate::named::{Named, name_counters};
+use crate::reply::is_over;
+use crate::{CheckFault, ReloadFault, Reply, Totals};
+use descriptor_tree::Config;
+use rate_types::limits::{MOST_DESCRIPTORS, MOST_VERSIONS};
+use rate_types::{OutOfMemory, Request, Seconds};
+use rule_lookup::Index;
 use std::alloc::Global;
 use std::marker::Model;
-use window_keys::counter_at;
+use std::sync::Arc;
 
 /// The limiter of one worker. Each counter that an answered check named has a cell until its window is over.
 #[derive(Drop)]
 pub struct Plain {
+    alloc: Global,
     index: Index,
+    version: u32,
+    global_shadow: bool,
     cells: u32,
     moment: Seconds,
     sums: CounterSums,
 }
 
 impl Model for Plain {
-    ghost use Rattle.std.specs.Prelude.{◌≤◌, length};
+    ghost use Rattle.std.specs.Prelude.{◌≤◌, ◌<◌, length};
+    ghost use Rattle.rate_types.specs.declared.limits.TheConstants.{MOST_VERSIONS};
     ghost use Rattle.rls_core.specs.Sums.{AreOpen};
     ghost use Rattle.rls_core.specs.Plain.{PlainState};
+    ghost use Rattle.rls_core.specs.Stored.{state_code};
 
     ghost Value = { PlainState };
 
-    ghost view = { λ p. record { config = p.index; cells = p.cells; moment = p.moment; sums = p.sums } };
+    ghost coded = { state_code };
 
-    ghost invariant = { λ p. AreOpen p.moment p.sums × (length p.sums ≤ p.cells) };
+    ghost view = { λ p. record {
+      config = p.index;
+      version = p.version;
+      global_shadow = p.global_shadow;
+      cells = p.cells;
+      moment = p.moment;
+      sums = p.sums;
+    } };
+
+    ghost invariant = { λ p. AreOpen p.moment p.sums × (length p.sums ≤ p.cells) × (p.version < MOST_VERSIONS) };
 }
 
 fn later_of(one: Seconds, other: Seconds) -> Seconds
@@ -45,22 +64,108 @@ fn later_of(one: Seconds, other: Seconds) -> Seconds
     if one.get() < other.get() { other } else { one }
 }
 
+// Adds the counter of a descriptor, where it has one without a sum.
+fn add_fresh(sums: &CounterSums, fresh: &mut CounterSums, named: &Named) -> Result<(), OutOfMemory>
+    ensures fresh { OnOk result ((counters : List CounterKey) → AreFresh counters sums.now fresh.old
+        → AreFresh (counters ++ as_list named.now.counter) sums.now fresh.new) }
+    ensures few { OnOk result (length fresh.new ≤ length fresh.old + 1) }
+    ensures open { OnOk result ((m : ℕ) → IfSome named.now.counter (λ k. m < window_end_of k) → AreOpen m fresh.old → AreOpen m fresh.new) }
+{
+    let Some(counter) = &named.counter else {
+        return Ok(());
+    };
+    if sums.has(counter) {
+        return Ok(());
+    }
+    fresh.put(counter.copy()?, 0)?;
+    Ok(())
+}
+
+// Those of the counters of these descriptors that have no sum.
+fn fresh_counters(
+    alloc: Global,
+    sums: &CounterSums,
+    names: &[Named],
+) -> Result<CounterSums, OutOfMemory>
+    ensures fresh { IfOk result (λ fresh. AreFresh (counters_in names.now) sums.now fresh) }
+    ensures few { IfOk result (λ fresh. length fresh ≤ length names.now) }
+    ensures open { IfOk result (λ fresh. (m : ℕ) → AreLater m names.now → AreOpen m fresh) }
+{
+    let mut fresh = CounterSums::new(alloc);
+    'names: for named in names {
+        add_fresh(sums, &mut fresh, named)?;
+    }
+    Ok(fresh)
+}
+
+// Gives each counter of these descriptors a cell.
+fn bind(
+    alloc: Global,
+    sums: &mut CounterSums,
+    names: &[Named],
+    cells: u32,
+    moment: Seconds,
+) -> Result<(), CheckFault>
+    requires fits { length sums.old ≤ cells }
+    requires few { length names.now ≤ MOST_DESCRIPTORS }
+    ensures binds { OnOk result (Binds (counters_in names.now) sums.old sums.new) }
+    ensures room { OnOk result (HasRoomFor (counters_in names.now) sums.old cells) }
+    ensures len { OnOk result (length sums.new ≤ cells) }
+    ensures open { OnOk result ((m : ℕ) → AreOpen m sums.old → AreLater m names.now → AreOpen m sums.new) }
+    ensures fault { IfErr result (IsFullFor (counters_in names.now) sums.old cells moment) }
+    ensures refused { OnErr result (sums.new ≡ sums.old) }
+{
+    let fresh = fresh_counters(alloc, sums, names)?;
+    let live = sums.len() as u32;
+    let wanted = fresh.len() as u32;
+    if u64::from(live) + u64::from(wanted) > u64::from(cells) {
+        return Err(CheckFault::CountersFull {
+            moment,
+            live,
+            held: 0,
+            wanted,
+        });
+    }
+    let counters = fresh.counters()?;
+    sums.add(&counters)?;
+    Ok(())
+}
+
 impl Plain {
-    /// A limiter of a configuration with so many cells, of whose counters none has a cell yet.
+    /// A limiter of a configuration, which is version 0, with so many cells, of whose counters none has a cell yet. With
+    /// global shadow its overall codes are always OK.
     pub fn make(
         alloc: Global,
-        config: FlatConfigs,
+        config: Arc<Config>,
         cells: u32,
         start: Seconds,
+        global_shadow: bool,
     ) -> Result<Plain, OutOfMemory>
-        ensures { IfOk result (λ p. p ≡ record { config = config; cells = cells; moment = start; sums = [] }) }
+        ensures { IfOk result (λ p. p ≡ record {
+          config = config_view (arc_value config);
+          version = 0;
+          global_shadow = global_shadow;
+          cells = cells;
+          moment = start;
+          sums = [];
+        }) }
     {
         Ok(Plain {
+            alloc,
             index: Index::make(alloc, config)?,
+            version: 0,
+            global_shadow,
             cells,
             moment: start,
             sums: CounterSums::new(alloc),
         })
+    }
+
+    /// The number of the version in force: the reloads that were done.
+    pub fn version(&self) -> u32
+        ensures { result ≡ self.now.version }
+    {
+        self.version
     }
 
     /// The moment: the greatest of the start and of what ticks offered.
@@ -81,6 +186,30 @@ impl Plain {
         moment
     }
 
+    /// Puts a configuration in force, and answers its version's number, which is the next one. What was charged stays.
+    ///
+    /// `VersionsFull` comes exactly where there are 1,048,576 versions. A refused reload changes nothing.
+    pub fn reload(&mut self, config: Arc<Config>) -> Result<u32, ReloadFault>
+        ensures answer { IfOk result (λ version. version ≡ self.old.version + 1) }
+        ensures state { OnOk result (self.new ≡ record self.old {
+          config = config_view (arc_value config);
+          version = self.old.version + 1;
+        }) }
+        ensures room { OnOk result (self.old.version + 1 < MOST_VERSIONS) }
+        ensures fault { IfErr result (HasVersionsFull self.old) }
+        ensures refused { OnErr result (self.new ≡ self.old) }
+    {
+        let version = self.version + 1;
+        if version >= MOST_VERSIONS {
+            return Err(ReloadFault::VersionsFull {
+                versions: MOST_VERSIONS,
+            });
+        }
+        self.index = Index::make(self.alloc, config)?;
+        self.version = version;
+        Ok(version)
+    }
+
     /// The counters that were charged and whose windows aren't over at the limiter's moment, with what was charged.
     pub fn totals(&self) -> Result<Totals, OutOfMemory>
         ensures { IfOk result (λ ts. AreTotals (sum_on self.now.sums) self.now.moment ts) }
@@ -90,15 +219,16 @@ impl Plain {
         Ok(totals)
     }
 
-    /// Answers a request of one descriptor: its status by the configuration at the limiter's moment, with the count
-    /// of its counter, which is charged unless it is above the limit or the hits are 0.
+    /// Answers a request: the status of each descriptor by the version in force at the limiter's moment, with the count
+    /// of its counter, which is charged unless it is above the limit or the hits are 0. Each descriptor finds what was
+    /// charged before it, in earlier descriptors too.
     ///
-    /// `CountersFull` comes exactly where the counters that have cells, together with that of the request, are more
+    /// `CountersFull` comes exactly where the counters that have cells, together with those of the request, are more
     /// than the cells. A refused check changes nothing.
     pub fn check(&mut self, request: &Request) -> Result<Reply, CheckFault>
-        requires { length request.now.descriptors ≡ 1 }
-        ensures version { IfOk result (λ r. (r.version ≡ 0) × (r.moment ≡ self.old.moment)) }
-        ensures reply { IfOk result (λ r. IsReplyOf self.old.config request.now self.old.moment false r.over r.statuses.items) }
+        ensures version { IfOk result (λ r. (r.version ≡ self.old.version) × (r.moment ≡ self.old.moment)) }
+        ensures reply { IfOk result
+            (λ r. IsReplyOf self.old.config request.now self.old.moment self.old.global_shadow r.over r.statuses.items) }
         ensures counts { IfOk result
             (λ r. AreSequential self.old.config request.now self.old.moment (sum_on self.old.sums) request.now.descriptors
             r.statuses.items) }
@@ -107,128 +237,17 @@ impl Plain {
         ensures fault { IfErr result (IsFull request.now self.old) }
         ensures refused { OnErr result (self.new ≡ self.old) }
     {
-        let descriptor = &request.descriptors()[0];
-        let hits = descriptor.hits.unwrap_or(request.hits());
-        let found = lookup(&self.index, request.domain(), descriptor);
-        let count = match self.count_found(request, descriptor, found, hits) {
-            Ok(count) => count,
-            Err(fault) => return Err(fault),
-        };
-        let status = status_for(found, self.moment, hits, count);
-        Ok(reply_of(self.moment, status))
-    }
-
-    // Counts the hits of a descriptor, where it has a limit.
-    fn count_found(
-        &mut self,
-        request: &Request,
-        descriptor: &Descriptor,
-        found: Found,
-        hits: u32,
-    ) -> Result<Count, CheckFault>
-        ensures answer { IfOk result (λ n. n ≡ count_for found hits
-            (charged_under (sum_on self.old.sums) request.now self.old.moment descriptor.now found)) }
-        ensures counts { IfOk result
-            (λ n. CountsEach (counter_under request.now self.old.moment descriptor.now found) (hits_charged n hits) self.old self.new) }
-        ensures room { OnOk result (HasRoomFor (counter_under request.now self.old.moment descriptor.now found) self.old) }
-        ensures fault { IfErr result (IsFullFor (counter_under request.now self.old.moment descriptor.now found) self.old) }
-        ensures refused { OnErr result (self.new ≡ self.old) }
-    {
-        let (limit, unit) = match found {
-            Found::NoRule => return Ok(self.count_nothing()),
-            Found::Unlimited { .. } => return Ok(self.count_nothing()),
-            Found::Limited { limit, unit, .. } => (limit, unit),
-        };
-        let Ok(counter) = counter_at(request.domain(), descriptor, unit, self.moment) else {
-            return Err(CheckFault::OutOfMemory);
-        };
-        self.count(counter, limit, hits)
-    }
-
-    // Without a limit nothing is counted.
-    fn count_nothing(&self) -> Count
-        ensures count { result ≡ NoCount }
-        ensures room { HasRoomFor [] self.now }
-        ensures counts { CountsEach [] 0 self.now self.now }
-    {
-        let _live = self.live();
-        Count::NoCount
-    }
-
-    // How many counters have cells.
-    fn live(&self) -> u32
-        ensures number { IsNumberOf (has_sum self.now.sums) result }
-        ensures len { result ≡ length self.now.sums }
-        ensures fits { result ≤ self.now.cells }
-    {
-        let _cells = self.cells;
-        self.sums.len() as u32
-    }
-
-    // Whether there is a cell for a counter that has none.
-    fn make_room(&self, counter: &CounterKey) -> Result<(), CheckFault>
-        requires { has_sum self.now.sums counter.now ≡ false }
-        ensures room { OnOk result (HasRoomFor (counter.now ∷ []) self.now) }
-        ensures space { OnOk result (length self.now.sums < self.now.cells) }
-        ensures fault { IfErr result (IsFullFor (counter.now ∷ []) self.now) }
-    {
-        let live = self.live();
-        if live >= self.cells {
-            return Err(CheckFault::CountersFull {
-                moment: self.moment,
-                live,
-                held: 0,
-                wanted: 1,
-            });
-        }
-        Ok(())
-    }
-
-    // Counts hits under a limit on a counter that has a cell. None where it has none.
-    fn recount(&mut self, counter: &CounterKey, limit: u32, hits: u32) -> Option<Count>
-        ensures absent { IfNone result (has_sum self.old.sums counter.now ≡ false) }
-        ensures stays { IfNone result (self.new ≡ self.old) }
-        ensures answer { IfSome result (λ n. n ≡ count_under limit hits (sum_on self.old.sums counter.now)) }
-        ensures counts { IfSome result (λ n. CountsEach (counter.now ∷ []) (hits_charged n hits) self.old self.new) }
-        ensures room { IfSome result (λ _. HasRoomFor (counter.now ∷ []) self.old) }
-    {
-        let _live = self.live();
-        let Some(count) = self.sums.recount(counter, limit, hits) else {
-            return None;
-        };
-        Some(count)
-    }
-
-    // Counts hits under a limit on a counter that has no cell.
-    fn count_new(&mut self, counter: CounterKey, limit: u32, hits: u32) -> Result<Count, CheckFault>
-        requires later { self.old.moment < window_end_of counter }
-        requires absent { has_sum self.old.sums counter ≡ false }
-        ensures answer { IfOk result (λ n. n ≡ count_under limit hits (sum_on self.old.sums counter)) }
-        ensures counts { IfOk result (λ n. CountsEach (counter ∷ []) (hits_charged n hits) self.old self.new) }
-        ensures room { OnOk result (HasRoomFor (counter ∷ []) self.old) }
-        ensures fault { IfErr result (IsFullFor (counter ∷ []) self.old) }
-        ensures refused { OnErr result (self.new ≡ self.old) }
-    {
-        if let Err(fault) = self.make_room(&counter) {
+        let names = name_counters(self.alloc, &self.index, request, self.moment)?;
+        if let Err(fault) = bind(self.alloc, &mut self.sums, &names, self.cells, self.moment) {
             return Err(fault);
         }
-        let (count, sum) = count_hits(limit, hits, 0);
-        self.sums.put(counter, sum)?;
-        Ok(count)
-    }
-
-    // Counts hits on a counter under a limit.
-    fn count(&mut self, counter: CounterKey, limit: u32, hits: u32) -> Result<Count, CheckFault>
-        requires { self.old.moment < window_end_of counter }
-        ensures answer { IfOk result (λ n. n ≡ count_under limit hits (sum_on self.old.sums counter)) }
-        ensures counts { IfOk result (λ n. CountsEach (counter ∷ []) (hits_charged n hits) self.old self.new) }
-        ensures room { OnOk result (HasRoomFor (counter ∷ []) self.old) }
-        ensures fault { IfErr result (IsFullFor (counter ∷ []) self.old) }
-        ensures refused { OnErr result (self.new ≡ self.old) }
-    {
-        match self.recount(&counter, limit, hits) {
-            Some(count) => Ok(count),
-            None => self.count_new(counter, limit, hits),
-        }
+        let statuses = count_each(&mut self.sums, &names, self.moment);
+        let over = is_over(statuses.as_slice(), self.global_shadow);
+        Ok(Reply {
+            version: self.version,
+            moment: self.moment,
+            over,
+            statuses,
+        })
     }
 }

@@ -1,4 +1,5 @@
-ghost use Rattle.std.specs.Prelude.{◌≡◌, [], ◌∷◌};
+ghost use Rattle.std.specs.Prelude.{◌≡◌, ◌&&◌, not};
+ghost use Rattle.std.specs.List.{list_any};
 ghost use Rattle.rls_core.specs.Reply.{is_over_limit};
 
 use crate::{Code, Status};
@@ -18,22 +19,24 @@ pub struct Reply {
     pub statuses: ArrayVec<Status, MOST_DESCRIPTORS>,
 }
 
-// The reply of one status, by version 0.
-pub fn reply_of(moment: Seconds, status: Status) -> Reply
-    ensures version { (result.version ≡ 0) × (result.moment ≡ moment) }
-    ensures over { result.over ≡ is_over_limit status.code }
-    ensures statuses { result.statuses.items ≡ status ∷ [] }
+fn is_over_limit(status: &Status) -> bool
+    ensures { result ≡ is_over_limit status.now.code }
 {
-    let over = match status.code {
+    match status.code {
         Code::OverLimit => true,
         Code::Ok => false,
-    };
-    let mut statuses = ArrayVec::new();
-    statuses.push(status);
-    Reply {
-        version: 0,
-        moment,
-        over,
-        statuses,
     }
+}
+
+fn any_over_limit(statuses: &[Status]) -> bool
+    ensures { result ≡ list_any (λ s. is_over_limit s.code) statuses.now }
+{
+    statuses.iter().any(is_over_limit)
+}
+
+/// Whether the overall code of these statuses is OVER_LIMIT: one of theirs is, and global shadow is off.
+pub fn is_over(statuses: &[Status], global_shadow: bool) -> bool
+    ensures { result ≡ (list_any (λ s. is_over_limit s.code) statuses.now && not global_shadow) }
+{
+    any_over_limit(statuses) && !global_shadow
 }

@@ -1,2 +1,5 @@
 pub mod Rule
+pub mod Replaces
 pub mod Level
+pub mod Stored
+pub mod Index

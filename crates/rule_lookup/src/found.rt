@@ -1,8 +1,9 @@
 use rate_types::{RuleId, Unit};
 
 /// What a descriptor's look-up finds.
-#[derive(Clone, Copy, Debug, PartialEq, Eq)]
+#[derive(Clone, Copy, Debug, PartialEq, Eq, Default)]
 pub enum Found {
+    #[default]
     /// The descriptor isn't limited.
     NoRule,
     /// The rule counts nothing.

@@ -1,114 +1,132 @@
-ghost use Rattle.std.specs.Prelude.{◌≡◌, IfOk, OnOk};
-ghost use Rattle.rule_lookup.specs.Rule.{matching_node, limit_of};
-ghost use Rattle.rule_lookup.specs.Level.{Indexes, PutsFirst};
+ghost use Rattle.std.specs.Prelude.{◌≡◌, ◌==◌, ◌&&◌, Some, None, if◌then◌else◌, option_map, option_copied, find, OnOk, true, false};
+ghost use Rattle.std.specs.Option.{option_or};
+ghost use Rattle.indexmap.specs.IndexMap.{get};
+ghost use Rattle.rate_types.specs.Counters.{same_text, same_entry};
+ghost use Rattle.rate_types.specs.declared.entries.Entry.{Entry};
+ghost use Rattle.rule_lookup.specs.Rule.{is_wildcard, covers};
+ghost use Rattle.rule_lookup.specs.Level.{fits, equal_in, wildcard_in, alone_in, reached_in, Puts};
 
-use crate::{FlatConfig, FlatRule, Found};
+use crate::Found;
+use crate::put::put;
+use indexmap::IndexMap;
 use rate_types::{Entry, OutOfMemory, Text};
 use std::alloc::Global;
-use std::collections::BTreeMap;
-use std::marker::Model;
 
-/// A flat tree with its nodes by key and value.
+/// What a node says, and the index of the level below it.
+#[derive(Clone, Copy)]
+pub struct Reached {
+    pub found: Found,
+    pub below: usize,
+}
+
+/// A node whose value is a wildcard.
+#[derive(Drop)]
+pub struct Wildcard {
+    entry: Entry,
+    reached: Reached,
+}
+
+/// The nodes of a level, in three parts: those with a value that is no wildcard, the wildcards in the file's order, and
+/// those without a value.
 #[derive(Drop)]
 pub struct Level {
-    tree: FlatConfig,
-    valued: BTreeMap<Entry, Found>,
-    alone: BTreeMap<Text, Found>,
+    valued: IndexMap<Entry, Reached>,
+    wildcards: Vec<Wildcard>,
+    alone: IndexMap<Text, Reached>,
 }
 
-impl Model for Level {
-    ghost use Rattle.rule_lookup.specs.declared.flat.FlatConfig.{FlatConfig};
-    ghost use Rattle.rule_lookup.specs.Level.{Indexes};
-
-    ghost Value = { FlatConfig };
-
-    ghost view = { λ l. l.tree };
-
-    ghost invariant = { λ l. Indexes l.tree.rules l.valued l.alone };
-}
-
-// The two maps of a level, while they are filled.
-#[derive(Drop)]
-struct Maps {
-    valued: BTreeMap<Entry, Found>,
-    alone: BTreeMap<Text, Found>,
-}
-
-fn found_of(rule: &FlatRule) -> Found
-    ensures { result ≡ limit_of rule.now }
+fn is_wildcard(value: &Text) -> bool
+    ensures { result ≡ is_wildcard value.now }
 {
-    Found::Limited {
-        limit: rule.limit,
-        unit: rule.unit,
-        shadow: false,
-        rule: Some(rule.rule),
-    }
+    value.as_str().as_bytes().ends_with(b"*")
 }
 
-impl Maps {
-    // Puts a rule before those that the maps hold.
-    fn put(&mut self, rule: &FlatRule) -> Result<(), OutOfMemory>
-        ensures { OnOk result (PutsFirst rule.now self.old.valued self.new.valued self.old.alone self.new.alone) }
-    {
-        let key = rule.key.copy()?;
-        match &rule.value {
-            Some(value) => {
-                let value = value.copy()?;
-                self.valued.insert(Entry { key, value }, found_of(rule))?;
-            }
-            None => {
-                self.alone.insert(key, found_of(rule))?;
-            }
-        }
-        Ok(())
-    }
-}
-
-fn maps_of(alloc: Global, rules: &[FlatRule]) -> Result<Maps, OutOfMemory>
-    ensures { IfOk result (λ maps. Indexes rules.now maps.valued maps.alone) }
+// Whether a text begins with what stands before a wildcard's `*`.
+fn covers(wildcard: &Text, text: &Text) -> bool
+    ensures { result ≡ covers wildcard.now text.now }
 {
-    let mut maps = Maps {
-        valued: BTreeMap::new(alloc),
-        alone: BTreeMap::new(alloc),
-    };
-    let mut rest = rules.len();
-    'rules: while rest > 0 {
-        rest -= 1;
-        maps.put(&rules[rest])?;
-    }
-    Ok(maps)
+    let wildcard = wildcard.as_str().as_bytes();
+    let before = &wildcard[..wildcard.len().saturating_sub(1)];
+    text.as_str().as_bytes().starts_with(before)
+}
+
+fn fits(wildcard: &Wildcard, entry: &Entry) -> bool
+    ensures { result ≡ fits entry.now wildcard.now }
+{
+    wildcard.entry.key == entry.key && covers(&wildcard.entry.value, &entry.value)
 }
 
 impl Level {
-    /// The level of a flat tree.
-    pub fn make(alloc: Global, tree: FlatConfig) -> Result<Level, OutOfMemory>
-        ensures { IfOk result (λ level. level ≡ tree) }
+    /// A level without nodes.
+    pub fn new(alloc: Global) -> Level
+        ensures { (entry : Entry) → (equal_in result entry ≡ None) × (wildcard_in result entry ≡ None) × (alone_in result entry ≡ None) }
     {
-        let maps = maps_of(alloc, tree.rules.items())?;
-        Ok(Level {
-            tree,
-            valued: maps.valued,
-            alone: maps.alone,
-        })
+        Level {
+            valued: IndexMap::new(alloc),
+            wildcards: Vec::new(alloc),
+            alone: IndexMap::new(alloc),
+        }
     }
 
-    /// The domain of the tree.
-    pub fn domain(&self) -> &Text
-        ensures { result.now ≡ self.now.domain }
+    /// Puts a node behind those that the level holds.
+    pub fn put(
+        &mut self,
+        key: Text,
+        value: Option<Text>,
+        reached: Reached,
+    ) -> Result<(), OutOfMemory>
+        ensures { OnOk result (Puts key value reached self.old self.new) }
     {
-        &self.tree.domain
+        let Some(value) = value else {
+            return put(&mut self.alone, key, reached);
+        };
+        let entry = Entry { key, value };
+        if !is_wildcard(&entry.value) {
+            return put(&mut self.valued, entry, reached);
+        }
+        self.wildcards.push(Wildcard { entry, reached })?;
+        Ok(())
     }
 
-    /// What the matching node of an entry says.
-    pub fn find(&self, entry: &Entry) -> Found
-        ensures { result ≡ matching_node self.now.rules entry.now }
+    // By a node with the entry's key and value.
+    fn equal(&self, entry: &Entry) -> Option<Reached>
+        ensures { result ≡ equal_in self.now entry.now }
     {
-        if let Some(found) = self.valued.get(entry) {
-            return *found;
+        if !is_wildcard(&entry.value) {
+            return self.valued.get(entry).copied();
         }
-        match self.alone.get(&entry.key) {
-            Some(found) => *found,
-            None => Found::NoRule,
+        self.equal_wildcard(entry)
+    }
+
+    fn equal_wildcard(&self, entry: &Entry) -> Option<Reached>
+        ensures { result ≡ option_map (λ w. w.reached) (find (λ w. same_entry w.entry entry.now) self.now.wildcards.items) }
+    {
+        match self.wildcards.iter().find(|w| w.entry == *entry) {
+            Some(wildcard) => Some(wildcard.reached),
+            None => None,
         }
+    }
+
+    // By the first wildcard that fits.
+    fn wildcard(&self, entry: &Entry) -> Option<Reached>
+        ensures { result ≡ wildcard_in self.now entry.now }
+    {
+        match self.wildcards.iter().find(|w| fits(w, entry)) {
+            Some(wildcard) => Some(wildcard.reached),
+            None => None,
+        }
+    }
+
+    /// What is reached by the matching node of an entry.
+    pub fn reached(&self, entry: &Entry) -> Option<Reached>
+        ensures { result ≡ reached_in self.now entry.now }
+    {
+        if let Some(reached) = self.equal(entry) {
+            return Some(reached);
+        }
+        if let Some(reached) = self.wildcard(entry) {
+            return Some(reached);
+        }
+        self.alone.get(&entry.key).copied()
     }
 }

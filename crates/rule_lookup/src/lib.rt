@@ -1,17 +1,29 @@
 //! Which rule of a configuration a descriptor has.
 //!
-//! Today configurations are flat: each tree has a domain and nodes of the first level, each with a limit. A rule is
-//! found by one look-up a descriptor, whatever the number of nodes.
+//! `Index::make` indexes a configuration, each level of each tree by itself: the nodes with a value by key and value, the
+//! wildcards in the file's order, the nodes without a value by key. `lookup` follows a descriptor's entries, one level an
+//! entry, with one look-up for key and value, one for the key alone and the wildcards of the level between them; it takes
+//! no memory, and its time doesn't grow with the number of nodes. Its promise is the rule of `specs/Rule.antt`, whatever
+//! the configuration: contracts see an `Index` as its configuration's list of trees. `Index::replaces` says whether a rule
+//! names another as one that it replaces, and `find_rules` what each descriptor of a request finds, which is nothing where
+//! the rule of another one replaces its own (`specs/Replaces.antt`).
+//!
+//! The look-ups hash with a fixed seed: what lies in a table are the configuration's names, and names that a client
+//! chooses are only looked up.
 #![tactic(auto)]
 
-mod flat;
 mod found;
 mod index;
 mod level;
+mod levels;
+mod names;
+mod put;
+mod roots;
+mod rules;
 
-pub use flat::{FlatConfig, FlatConfigs, FlatRule, FlatRules};
 pub use found::Found;
 pub use index::{Index, lookup};
+pub use rules::{Rules, find_rules};
 
 #[cfg(test)]
 mod tests;

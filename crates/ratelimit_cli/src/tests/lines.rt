@@ -3,57 +3,42 @@ use super::{A, NONE, said};
 use std::alloc::Global;
 use std::test::Fail;
 
-const BAD_JSON: &str =
-    "done\n{\"line\":1,\"moment\":0,\"refused\":{\"at\":\"\",\"number\":1},\"version\":0,\"worker\":0}\n";
-
-const NOT_BUILT: &str =
-    "done\n{\"line\":1,\"moment\":0,\"refused\":{\"at\":\"\",\"number\":9},\"version\":0,\"worker\":0}\n";
-
 // The record of a check that no rule limits.
 const WITHOUT_RULE: &str =
     "done\n{\"counts\":[null],\"line\":1,\"moment\":0,\"reply\":{\"overallCode\":\"OK\",\"statuses\":[{\"code\":\"OK\"}]},\"version\":0,\"worker\":0}\n";
 
+// A table is a text. Each of its lines is a line of a script, an arrow, and the place and the number of its refusal.
+const REFUSED: &str = r#"{ => "at":"","number":1
+{"tick":1}} => "at":"","number":1
+tick => "at":"","number":1
+  => "at":"","number":1
+[] => "at":"","number":2
+{} => "at":"","number":27
+null => "at":"","number":2
+{"tock":1} => "at":"/tock","number":3
+{"tick":-1} => "at":"/tick","number":7
+{"tick":1000000000001} => "at":"/tick","number":7
+{"check":{}} => "at":"/check","number":20
+{"check":{"domain":"d","descriptors":[]}} => "at":"/check","number":21
+{"check":{"domain":"d","descriptors":[{"entries":[]}]}} => "at":"/check/descriptors/0","number":23
+{"check":{"domain":"d","descriptors":[{"entries":[{"key":"","value":"a"}]}]}} => "at":"/check/descriptors/0/entries/0","number":24
+{"check":{"domain":"","descriptors":[{"entries":[{"key":"k","value":"a"}]}]}} => "at":"/check","number":20
+{"check":{"domain":"d","descriptors":[{"entries":[{"key":"k","value":"a","x":1}]}]}} => "at":"/check/descriptors/0/entries/0/x","number":3"#;
+
+// The exit and the output of a run whose one line is refused so.
+fn refused(alloc: Global, at: &str) -> Result<String, Fail> {
+    Ok(format!(in alloc;
+        "done\n{{\"line\":1,\"moment\":0,\"refused\":{{{at}}},\"version\":0,\"worker\":0}}\n"
+    )?)
+}
+
 #[test]
 fn lines_are_refused_by_number(rt: HostRuntime) -> Result<(), Fail> {
-    let rows = [
-        ("{", BAD_JSON),
-        ("{\"tick\":1}}", BAD_JSON),
-        ("tick", BAD_JSON),
-        (" ", BAD_JSON),
-        ("[]", NOT_BUILT),
-        ("{}", NOT_BUILT),
-        ("null", NOT_BUILT),
-        ("{\"tock\":1}", NOT_BUILT),
-        ("{\"tick\":\"1\"}", NOT_BUILT),
-        ("{\"tick\":-1}", NOT_BUILT),
-        ("{\"tick\":1000000000001}", NOT_BUILT),
-        ("{\"tick\":1,\"check\":{}}", NOT_BUILT),
-        ("{\"check\":{}}", NOT_BUILT),
-        ("{\"check\":{\"domain\":\"d\"}}", NOT_BUILT),
-        (
-            "{\"check\":{\"domain\":\"d\",\"descriptors\":[]}}",
-            NOT_BUILT,
-        ),
-        (
-            "{\"check\":{\"domain\":\"d\",\"descriptors\":[{\"entries\":[]}]}}",
-            NOT_BUILT,
-        ),
-        (
-            "{\"check\":{\"domain\":\"d\",\"descriptors\":[{\"entries\":[{\"key\":\"\",\"value\":\"a\"}]}]}}",
-            NOT_BUILT,
-        ),
-        (
-            "{\"check\":{\"domain\":\"\",\"descriptors\":[{\"entries\":[{\"key\":\"k\",\"value\":\"a\"}]}]}}",
-            NOT_BUILT,
-        ),
-        (
-            "{\"check\":{\"domain\":\"d\",\"descriptors\":[{\"entries\":[{\"key\":\"k\",\"value\":\"a\",\"x\":1}]}]}}",
-            NOT_BUILT,
-        ),
-    ];
-    for (line, want) in rows {
-        let answer = said(rt.alloc(), &["drive", "a"], &[A], line, NONE)?;
-        assert_eq!(rt; answer.as_str(), want, "at {line}");
+    let alloc = rt.alloc();
+    for row in REFUSED.lines() {
+        let (line, at) = row.split_once(" => ").ok_or("a row")?;
+        let answer = said(alloc, &["drive", "a"], &[A], line, NONE)?;
+        assert_eq!(rt; answer.as_str(), refused(alloc, at)?.as_str(), "at {line}");
     }
     Ok(())
 }
@@ -93,7 +78,8 @@ fn a_text_has_at_most_1024_bytes(rt: HostRuntime) -> Result<(), Fail> {
     assert!(rt; answer.starts_with("done\n{\"counts\":[{\"before\":0}],\"line\":1,"));
     let longer = check_of_length(alloc, 1025)?;
     let answer = said(alloc, &["drive", "a"], &[A], longer.as_str(), NONE)?;
-    assert_eq!(rt; answer.as_str(), NOT_BUILT);
+    let at = r#""at":"/check/descriptors/0/entries/0/value","number":26"#;
+    assert_eq!(rt; answer.as_str(), refused(alloc, at)?.as_str());
     Ok(())
 }
 

@@ -1,11 +1,12 @@
 use Rattle.std.proofs.Common.{◌≡◌, ◌≤◌, ◌++◌, map, length}
 use Rattle.rate_types.specs.declared.limits.TheConstants.{MOST_LINES}
 use Rattle.drive_run.specs.Script.{cut, line_of, script_of}
+use Rattle.drive_run.specs.Views.{line_view}
 use Rattle.drive_run.proofs.script.Script.read.Given as goal
 
 abbrev pub invariant-lines : goal.invariant-lines
 invariant-lines l = record {
-  read : l.lines.items ++ map line_of (cut l.rest) ≡ script_of l.bytes;
+  read : map line_view l.lines.items ++ map line_of (cut l.rest) ≡ script_of l.bytes;
   within : length l.lines.items ≤ MOST_LINES;
 }
 

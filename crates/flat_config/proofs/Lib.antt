@@ -1,2 +1,0 @@
-pub mod LevelWalk
-pub mod TreesWalk

@@ -1,0 +1,28 @@
+-- What `clap` finds in the words, and what is made of it.
+use Rattle.std.proofs.Common.{◌≡◌, List, [], ◌∷◌, ℕ, Bool, true, false, ◌&&◌, Option, Some, None, refl, sym, ap, subst, true≢false}
+use Rattle.clap.specs.Words.{App, is_simple, is_simple_and_free, fault_of}
+use Rattle.clap.specs.Kinds.{Kinds}
+use Rattle.ratelimit_cli.specs.Words.{drive_app, lookup_app, if_taken}
+
+pub drive_simple : is_simple_and_free drive_app ≡ true
+unfolding drive_app
+drive_simple = refl
+
+pub lookup_simple : is_simple_and_free lookup_app ≡ true
+unfolding lookup_app
+lookup_simple = refl
+
+pub first_holds : (a b : Bool) → (a && b) ≡ true → a ≡ true
+first_holds true b h = refl
+first_holds false b h = absurd (true≢false (sym h))
+
+pub refused : {X : Type 0} (kinds : Kinds) (made : Option X) → (kinds ≡ [] → ⊥) → if_taken kinds made ≡ None
+refused [] made some = absurd (some refl)
+refused (k ∷ ks) made some = refl
+
+-- faults of a command that is this one
+pub faults_of : {X : Type 0} (app other : App) (words others : List (List ℕ)) (made : Option X) → app ≡ other → words ≡ others
+    → (fault_of app words ≡ [] → ⊥) → if_taken (fault_of other others) made ≡ None
+faults_of app other words others made same as_words some =
+    refused (fault_of other others) made (subst (λ (a : App). fault_of a others ≡ [] → ⊥) same
+    (subst (λ (ws : List (List ℕ)). fault_of app ws ≡ [] → ⊥) as_words some))

@@ -1,0 +1,27 @@
+//! The texts of `--help` and `--version`.
+
+/// What `--help` prints: each command with its options and their defaults, and the exits.
+pub const HELP: &str = "\
+ratelimit: a rate limiter after Envoy's rate limit service, over recorded traffic
+
+  drive [--workers N] [--cells N] [--start T] [--global-shadow] CONFIG..
+      Reads configuration files and then a script from standard input, and prints a record for each line of the script
+      and a total for each counter whose window is open at its end.
+        --workers N        workers: 1 (default 1)
+        --cells N          cells for counters: 1 to 1048576 (default 262144)
+        --start T          the moment of the start, in seconds: 0 to 1000000000000 (default 0)
+        --global-shadow    no reply has the overall code OVER_LIMIT
+  lookup CONFIG..
+      Reads configuration files and then requests from standard input, one a line, and prints which rule each descriptor
+      of each request finds.
+  --help
+      Prints this text.
+  --version
+      Prints the version.
+
+Exits: 0 done, 1 usage, 2 a configuration file is refused, 3 a file or the input is too long, 4 reading the input failed,
+5 writing the output failed, 6 reading a file failed, 7 out of memory.
+";
+
+/// What `--version` prints.
+pub const VERSION: &str = "ratelimit 0.1.0\n";

@@ -1,0 +1,15 @@
+use rate_types::Seconds;
+
+/// What is done with a configuration and an input.
+#[derive(Clone, Copy)]
+pub enum Work {
+    /// Each line of the input is looked up.
+    Lookup,
+    /// The input is run as a script.
+    Drive {
+        workers: u32,
+        cells: u32,
+        start: Seconds,
+        global_shadow: bool,
+    },
+}
