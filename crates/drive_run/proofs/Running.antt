@@ -12,7 +12,7 @@ use Rattle.window_keys.specs.Counter.{window_end_of}
 use Rattle.descriptor_tree.specs.Trees.{DomainTree}
 use Rattle.rls_core.specs.declared.totals.Total.{Total}
 use Rattle.rls_core.specs.Totals.{AreTotals}
-use Rattle.rls_core.specs.Reply.{counters_named, charges_of, found_for}
+use Rattle.rls_core.specs.Reply.{counters_named, charges_of}
 use Rattle.rls_core.specs.Sums.{sum_on, has_sum}
 use Rattle.rls_core.specs.Plain.{PlainState, Drops}
 use Rattle.reply_text.specs.Answer.{Answer}
@@ -24,7 +24,7 @@ use Rattle.drive_run.specs.Totals.{tick_of, moment_after, charges_shown, sights_
 use Rattle.drive_run.specs.Refusals.{counters_bound, is_bound, HasRefusalCause}
 use Rattle.drive_run.specs.Lines.{EachLine}
 use Rattle.drive_run.specs.Versions.{is_installed, installs, version_in, IsAbove, AreNumbered}
-use Rattle.drive_run.specs.Run.{IsOfKind, IsByRule, IsInTurn, IsRecordOf, IsAtLeastEarlier, IsRunBy, IsRun}
+use Rattle.drive_run.specs.Run.{IsOfKind, IsByRule, IsInTurn, IsRecordOf, IsAtLeastEarlier, IsRunBy}
 use Rattle.drive_run.specs.Steps.{IsAnswered, IsRefused, IsReloaded, LacksVersions, Outcomes, Steps}
 use Rattle.drive_run.proofs.Admits.{limit_holds}
 use Rattle.drive_run.proofs.Ledgers.{Reaches, all_map, all_append, all_push}

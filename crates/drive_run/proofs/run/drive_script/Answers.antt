@@ -8,7 +8,7 @@ use Rattle.drive_run.specs.Views.{line_view, script_view}
 use Rattle.drive_run.specs.Run.{IsRun}
 use Rattle.drive_run.specs.Steps.{Steps}
 use Rattle.drive_run.specs.Totals.{AreTotalsOf}
-use Rattle.drive_run.proofs.Running.{Runs, goes_on, keeps, runs_by_own, totals_of}
+use Rattle.drive_run.proofs.Running.{goes_on, keeps, runs_by_own, totals_of}
 use Rattle.drive_run.proofs.Versions.{views_push, views_length}
 use Rattle.drive_run.proofs.run.drive_script.Goals as goal
 
