@@ -26,7 +26,11 @@ fn bytes_are_cut_at_each_line_feed(rt: HostRuntime) -> Result<(), Fail> {
         ("a\n\nbc\n", "1 0 2 "),
         ("a\r\nb", "2 1 "),
     ] {
-        assert_eq!(rt; lengths(rt.alloc(), text.as_bytes())?.as_str(), want, "at {text}");
+        assert_eq!(rt;
+            lengths(rt.alloc(), text.as_bytes())?.as_str(),
+            want,
+            "at {text}"
+        );
     }
     Ok(())
 }
