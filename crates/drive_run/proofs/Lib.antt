@@ -1,4 +1,3 @@
-pub mod Cutting
 pub mod Plain
 pub mod Reloads
 pub mod Versions

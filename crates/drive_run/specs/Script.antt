@@ -1,6 +1,6 @@
 -- The lines of a script, and what each of them reads as.
-use Rattle.std.specs.Prelude.{ℕ, ◌==◌, List, [], ◌∷◌, ◌++◌, map, Option, Some, None, Result, Ok, Err}
-use Rattle.std.specs.List.{slice_split}
+use Rattle.std.specs.Prelude.{ℕ, List, [], ◌∷◌, ◌++◌, map, Option, Some, None, Result, Ok, Err}
+use Rattle.text_lines.specs.Lines.{cut}
 use Rattle.serde_json.specs.Data.{Data}
 use Rattle.rate_types.specs.Places.{item}
 use Rattle.rate_types.specs.declared.refused.Refused.{Refused}
@@ -18,23 +18,6 @@ use Rattle.config_json.specs.Trees.{file_at}
 use Rattle.reply_text.specs.ReadRequest.{request}
 use Rattle.drive_run.specs.FieldNames as names
 use Rattle.drive_run.specs.ScriptLine.{ScriptLine, check, reload, tick, bad}
-
--- ---- cutting
-
--- a last part that is empty is no line
-abbrev pub unless_empty : List ℕ → List (List ℕ)
-unless_empty [] = []
-unless_empty (b ∷ bs) = (b ∷ bs) ∷ []
-
--- the parts between line feeds are the lines, but for an empty last part
-abbrev pub lines_of_parts : List (List ℕ) → List (List ℕ)
-lines_of_parts [] = []
-lines_of_parts (x ∷ []) = unless_empty x
-lines_of_parts (x ∷ y ∷ more) = x ∷ lines_of_parts (y ∷ more)
-
--- bytes are cut at each line feed
-abbrev pub cut : List ℕ → List (List ℕ)
-cut bytes = lines_of_parts (slice_split (λ b. b == 10) bytes)
 
 -- ---- the events
 

@@ -5,7 +5,6 @@
 //! and `drive_script` gives such records, with the totals of the windows that are open at the end.
 #![tactic(auto)]
 
-mod cut;
 mod field_names;
 mod line;
 mod reading;
@@ -14,7 +13,6 @@ mod run;
 mod script;
 mod within;
 
-pub use cut::cut_line;
 pub use line::Line;
 pub use run::{Driven, drive_script};
 pub use script::{Script, ScriptFault};

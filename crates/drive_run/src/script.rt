@@ -1,12 +1,13 @@
 ghost use Rattle.std.specs.Prelude.{◌≡◌, ◌<◌, ◌≤◌, ℕ, length, map, IfOk, Err};
 ghost use Rattle.rate_types.specs.declared.limits.TheConstants.{MOST_LINES};
+ghost use Rattle.text_lines.specs.Lines.{cut};
 ghost use Rattle.drive_run.specs.declared.script.ScriptFault.TheVariants.{TooManyLines};
 
 use crate::Line;
-use crate::cut::cut_line;
 use crate::reading::read_line;
 use rate_types::limits::MOST_LINES;
 use std::alloc::Global;
+use text_lines::cut_line;
 use thiserror::Error;
 
 /// Why a script isn't read.
@@ -37,7 +38,7 @@ impl Script {
         ensures script { IfOk result (λ s. script_view s ≡ scripts.script_of bytes.now) }
         ensures within { IfOk result (λ s. length (script_view s) ≤ MOST_LINES) }
         ensures many { (lines : ℕ) → result ≡ Err (TooManyLines lines) → MOST_LINES < lines }
-        ensures more { (lines : ℕ) → result ≡ Err (TooManyLines lines) → lines ≤ length (scripts.cut bytes.now) }
+        ensures more { (lines : ℕ) → result ≡ Err (TooManyLines lines) → lines ≤ length (cut bytes.now) }
     {
         let mut lines = Vec::new(alloc);
         let mut rest = bytes;

@@ -1,4 +1,3 @@
-pub mod Cutting
 pub mod Steps
 pub mod Tasking
 pub mod Working

@@ -5,12 +5,13 @@ use Rattle.std.proofs.lemmas.List.Folds.{concat-append}
 use Rattle.rate_types.specs.declared.limits.TheConstants.{MOST_BYTES, MOST_LINES}
 use Rattle.quota_buckets.specs.Streams.{Stream}
 use Rattle.quota_stream.specs.Outcomes.{outcome_of}
-use Rattle.quota_stream.specs.Output.{cut, outputs}
+use Rattle.text_lines.specs.Lines.{cut}
+use Rattle.quota_stream.specs.Output.{outputs}
 use Rattle.quota_stream.specs.Tasks.{Task, text_in_all, lines_in_all, IsOnWay, StandsBy, Stands, GoesOn, IsAnswer, IsFaultOf, IsShort, is_ended, IsTooLong}
 use Rattle.quota_stream.specs.declared.line_number.LineNumber.{LineNumber}
 use Rattle.quota_stream.specs.declared.replay_fault.ReplayFault.{ReplayFault}
 use Rattle.quota_stream.specs.declared.replay_fault.ReplayFault.TheVariants.{TooLong}
-use Rattle.quota_stream.proofs.Cutting.{cut_some}
+use Rattle.text_lines.proofs.Cutting.{cut_some}
 
 -- the number of the next line
 abbrev pub next_number : Task → LineNumber

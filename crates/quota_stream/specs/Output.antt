@@ -1,24 +1,9 @@
 -- The output of a whole stream.
-use Rattle.std.specs.Prelude.{ℕ, ◌+◌, ◌==◌, List, [], ◌∷◌, ◌++◌}
-use Rattle.std.specs.List.{slice_split}
+use Rattle.std.specs.Prelude.{ℕ, ◌+◌, List, [], ◌∷◌, ◌++◌}
+use Rattle.text_lines.specs.Lines.{cut}
 use Rattle.quota_settings.specs.Covering.{AllSettings}
 use Rattle.quota_buckets.specs.Streams.{Stream, new_stream}
 use Rattle.quota_stream.specs.Outcomes.{outcome_of}
-
--- a last part that is empty is no line
-abbrev pub unless_empty : List ℕ → List (List ℕ)
-unless_empty [] = []
-unless_empty (b ∷ bs) = (b ∷ bs) ∷ []
-
--- the parts between line feeds are the lines, but for an empty last part
-abbrev pub lines_of_parts : List (List ℕ) → List (List ℕ)
-lines_of_parts [] = []
-lines_of_parts (x ∷ []) = unless_empty x
-lines_of_parts (x ∷ y ∷ more) = x ∷ lines_of_parts (y ∷ more)
-
--- bytes are cut at each line feed
-abbrev pub cut : List ℕ → List (List ℕ)
-cut bytes = lines_of_parts (slice_split (λ b. b == 10) bytes)
 
 -- what is written for these lines of the stream of this index, after so many others
 abbrev pub outputs : ℕ → ℕ → Stream → List (List ℕ) → List (List ℕ)

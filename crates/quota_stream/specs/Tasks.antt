@@ -4,7 +4,8 @@ use Rattle.std.specs.List.{concat}
 use Rattle.rate_types.specs.declared.limits.TheConstants.{MOST_BYTES, MOST_LINES}
 use Rattle.quota_settings.specs.Covering.{AllSettings}
 use Rattle.quota_buckets.specs.Streams.{Stream}
-use Rattle.quota_stream.specs.Output.{cut, outputs, quota_output}
+use Rattle.text_lines.specs.Lines.{cut}
+use Rattle.quota_stream.specs.Output.{outputs, quota_output}
 use Rattle.quota_stream.specs.declared.replay_fault.ReplayFault.{ReplayFault}
 use Rattle.quota_stream.specs.declared.replay_fault.ReplayFault.TheVariants.{TooLong, OutOfMemory}
 

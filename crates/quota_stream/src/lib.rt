@@ -10,7 +10,6 @@
 #![tactic(auto)]
 
 mod action_answer;
-mod cut;
 mod line_number;
 mod line_parts;
 mod line_texts;

@@ -1,7 +1,6 @@
 ghost use Rattle.std.specs.Prelude.{◌≡◌, ℕ, List, ◌+◌, ◌≤◌, ◌++◌, map, true, false, length, OnOk, OnErr, IfErr, IfSome, IfNone, None, Some, string_bytes};
 ghost use Rattle.std.specs.List.{concat};
 
-use crate::cut::cut_line;
 use crate::line_number::LineNumber;
 use crate::replay_fault::ReplayFault;
 use crate::step::take_bytes;
@@ -12,6 +11,7 @@ use rate_types::{OutOfMemory, Word};
 use std::alloc::Global;
 use std::marker::Model;
 use std::mem;
+use text_lines::cut_line;
 
 /// The most lines of one turn.
 pub const LINES_A_TURN: u32 = 64;

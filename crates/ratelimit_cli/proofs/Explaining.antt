@@ -5,13 +5,11 @@ use Rattle.descriptor_tree.specs.Trees.{DomainTree}
 use Rattle.rate_io.specs.Events.{given}
 use Rattle.ratelimit_cli.specs.Words.{command_of}
 use Rattle.ratelimit_cli.specs.Jobs.{configs_of, command_with}
-use Rattle.ratelimit_cli.specs.Exits.{World, FilesSay, IsInput, IsMade, IsOutput, IsFixed, HasRead, NoFileAsked, NothingRead, NothingWritten, Explains}
+use Rattle.ratelimit_cli.specs.Exits.{World, FilesSay, IsInput, IsMade, IsOutput, HasRead, NothingRead, NothingWritten, Explains}
 use Rattle.ratelimit_cli.specs.Parts.{IsOfFiles, IsOfConfig, IsOfInput, IsOfOutput, IsOfWork, Sinks}
 use Rattle.ratelimit_cli.specs.declared.command.Command.{Command}
-use Rattle.ratelimit_cli.specs.declared.command.Command.TheVariants.{Help, Version}
 use Rattle.ratelimit_cli.specs.declared.work.Work.{Work}
 use Rattle.ratelimit_cli.specs.declared.work.Work.TheVariants.{Lookup, Drive}
-use Rattle.ratelimit_cli.specs.declared.help.TheConstants.{HELP, VERSION}
 use Rattle.ratelimit_cli.specs.declared.exit.Exit.{Exit}
 use Rattle.ratelimit_cli.specs.declared.exit.Exit.TheVariants.{Done, Usage, ConfigRefused, TooLong, ReadFault, WriteFault, FileFault, OutOfMemory}
 
@@ -24,7 +22,7 @@ pub explain_files : (w : World) (command : Command) → command_of w.words ≡ S
     → (e : Exit) → IsOfFiles w.content (configs_of command) w.file_faults e w.files → Explains e w
 explain_files w command is unread none TooLong h = (inl ((command, is, h), unread), none)
 explain_files w command is unread none (FileFault index) h = ((command, is, h.0), h.1, unread, none)
-explain_files w command is unread none OutOfMemory h = none
+explain_files w command is unread none OutOfMemory h = (inl (command, is), none)
 explain_files w command is unread none Done h = absurd h
 explain_files w command is unread none Usage h = absurd h
 explain_files w command is unread none (ConfigRefused at) h = absurd h
@@ -35,7 +33,7 @@ module _ (w : World) (command : Command) (config : List DomainTree) (say : Files
   pub explain_input : NothingWritten w → (e : Exit) → IsOfInput w.left w.source_faults e w.reads → Explains e w
   explain_input none TooLong h = (inr ((command, (config, say)), h.0, h.1), none)
   explain_input none ReadFault h = ((command, (config, say)), h.0, h.1, none)
-  explain_input none OutOfMemory h = none
+  explain_input none OutOfMemory h = (inl (command, say.named), none)
   explain_input none Done h = absurd h
   explain_input none Usage h = absurd h
   explain_input none (ConfigRefused at) h = absurd h
@@ -45,15 +43,16 @@ module _ (w : World) (command : Command) (config : List DomainTree) (say : Files
 abbrev pub sinks : World → Sinks
 sinks w = record { written = w.written; after = w.after; faults = w.sink_faults }
 
--- pieces of which this holds are the output of the command
-module _ (w : World) (command : Command) (Is : List (List ℕ) → Type 0) (output : (pieces : List (List ℕ)) → Is pieces → IsOutput w command pieces) where
+-- pieces of which this holds are the output of the command that the words name
+module _ (w : World) (command : Command) (named : command_of w.words ≡ Some command) (Is : List (List ℕ) → Type 0)
+    (output : (pieces : List (List ℕ)) → Is pieces → IsOutput w command pieces) where
   pub explain_output : (e : Exit) → IsOfOutput Is (sinks w) e w.writes → Explains e w
   explain_output Done h = record { command = command; pieces = h.pieces; output = output h.pieces h.are; each = h.each; bytes = h.bytes }
   explain_output WriteFault h = (
     record { command = command; pieces = h.0.pieces; output = output h.0.pieces h.0.are; each = h.0.each; bytes = h.0.bytes },
     h.1,
   )
-  explain_output OutOfMemory h = h
+  explain_output OutOfMemory h = (inl (command, named), h)
   explain_output Usage h = absurd h
   explain_output (ConfigRefused at) h = absurd h
   explain_output TooLong h = absurd h
@@ -74,11 +73,3 @@ made_output w configs (Drive workers cells start global_shadow) config bytes rea
   read = read;
   made = subst (λ (b : List ℕ). IsOfWork (Drive workers cells start global_shadow) config b pieces) (sym are) made;
 }
-
-pub help_output : (w : World) → command_of w.words ≡ Some Help → NoFileAsked w → NothingRead w
-    → (pieces : List (List ℕ)) → pieces ≡ HELP.now ∷ [] → IsOutput w Help pieces
-help_output w is unasked unread pieces alone = record { named = is; unasked = unasked; unread = unread; text_alone = alone }
-
-pub version_output : (w : World) → command_of w.words ≡ Some Version → NoFileAsked w → NothingRead w
-    → (pieces : List (List ℕ)) → pieces ≡ VERSION.now ∷ [] → IsOutput w Version pieces
-version_output w is unasked unread pieces alone = record { named = is; unasked = unasked; unread = unread; text_alone = alone }

@@ -1,7 +1,7 @@
 -- The lines of bytes that are at their end.
-use Rattle.std.proofs.Common.{◌≡◌, ℕ, ◌≤◌, List, [], ◌∷◌, length, refl, arith}
-use Rattle.drive_run.specs.Script.{cut}
+use Rattle.std.proofs.Common.{◌≡◌, ℕ, ◌≤◌, List, [], length}
+use Rattle.text_lines.specs.Lines.{cut}
+use Rattle.text_lines.proofs.Cutting.{cut_none}
 
 pub none_cut : (bytes : List ℕ) → length bytes ≤ 0 → cut bytes ≡ []
-none_cut [] none = refl
-none_cut (b ∷ bs) none = absurd (omega arith)
+none_cut bytes none = cut_none bytes none

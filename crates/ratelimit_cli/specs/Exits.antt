@@ -12,7 +12,8 @@ use Rattle.descriptor_tree.specs.Trees.{DomainTree}
 use Rattle.config_json.specs.Reading.{reading_of}
 use Rattle.rls_core.specs.declared.totals.Total.{Total}
 use Rattle.reply_text.specs.declared.record.Record.{Record}
-use Rattle.drive_run.specs.Script.{cut, script_of}
+use Rattle.text_lines.specs.Lines.{cut}
+use Rattle.drive_run.specs.Script.{script_of}
 use Rattle.drive_run.specs.Totals.{AreTotalsOf}
 use Rattle.drive_run.specs.Run.{IsRun}
 use Rattle.ratelimit_cli.specs.Output.{lines_of, AppendsFront}
@@ -132,6 +133,10 @@ NothingRead w = w.reads ≡ []
 abbrev pub NothingWritten : World → Type 0
 NothingWritten w = (w.writes ≡ []) × (w.after ≡ w.written)
 
+-- the words are a command
+abbrev pub IsCommand : World → Type 0
+IsCommand w = (command : Command) × (command_of w.words ≡ Some command)
+
 -- these are the texts of a lawful run of these bytes, as a script, by this configuration, and of its totals
 pub record IsRunText (config : List DomainTree) (cells start : ℕ) (global_shadow : Bool) (bytes : List ℕ)
     (pieces : List (List ℕ)) : Type 0 where
@@ -207,7 +212,8 @@ pub record HasNoCause (w : World) : Type 0 where
   pub written : has_write_failed w.writes ≡ false
 
 -- When each exit comes, and what stands then. An exit says that all steps before it succeeded and that none after it was
--- begun, so each comes exactly where its cause is the first; want of memory alone is free.
+-- begun, so each comes exactly where its cause is the first; want of memory alone is free. It comes in reading the words,
+-- before anything is asked for or read, or in the work of a command, before its first write.
 abbrev pub Explains : Exit → World → Type 0
 Explains Done w = Writes w
 Explains Usage w = (command_of w.words ≡ None) × NoFileAsked w × NothingRead w × NothingWritten w
@@ -217,7 +223,7 @@ Explains TooLong w =
 Explains ReadFault w = IsConfigured w × (has_failed w.reads ≡ true) × Rose w.source_faults.0 w.source_faults.1 × NothingWritten w
 Explains WriteFault w = WritesFront w × Rose w.sink_faults.0 w.sink_faults.1
 Explains (FileFault index) w = FileFails w index × Rose w.file_faults.0 w.file_faults.1 × NothingRead w × NothingWritten w
-Explains OutOfMemory w = NothingWritten w
+Explains OutOfMemory w = (IsCommand w ⊎ (NoFileAsked w × NothingRead w)) × NothingWritten w
 
 -- What the call answers: the exit's cause, and that it is Done, or want of memory, where there is no other cause.
 pub record IsExitOf (exit : Exit) (w : World) : Type 0 where

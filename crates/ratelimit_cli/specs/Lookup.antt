@@ -15,7 +15,7 @@ use Rattle.rule_lookup.specs.declared.found.Found.TheVariants.{NoRule, Unlimited
 use Rattle.rule_lookup.specs.Rule.{rule_of}
 use Rattle.reply_text.specs.Texts.{whole, unit_name, refused_data}
 use Rattle.reply_text.specs.ReadRequest.{request}
-use Rattle.drive_run.specs.Script.{cut}
+use Rattle.text_lines.specs.Lines.{cut}
 use Rattle.ratelimit_cli.specs.Output.{with_line_feed}
 
 -- the number of a rule, null for a limit of the descriptor's own

@@ -3,15 +3,15 @@ ghost use Rattle.std.specs.Prelude.{◌≡◌, ◌≤◌, ◌<◌, IfOk, IfErr, 
 ghost use Rattle.std.specs.Io.KnownBytes.{IsAtEnd};
 ghost use Rattle.rate_types.specs.declared.limits.TheConstants.{MOST_LINES};
 ghost use Rattle.rate_io.specs.Events.{Grew, given};
-ghost use Rattle.drive_run.specs.Script.{cut};
+ghost use Rattle.text_lines.specs.Lines.{cut};
 ghost use Rattle.ratelimit_cli.specs.Exits.{IsInput};
 ghost use Rattle.ratelimit_cli.specs.Parts.{IsOfInput};
 
 use crate::Exit;
-use drive_run::cut_line;
 use rate_io::{FileFault, Source, read_up_to};
 use rate_types::limits::{MOST_BYTES, MOST_LINES};
 use std::alloc::Global;
+use text_lines::cut_line;
 
 // Whether there are at most 1,048,576 lines.
 #[tactic(auto, using(crate::proofs::Lines::none_cut))]

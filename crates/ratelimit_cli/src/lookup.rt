@@ -1,7 +1,7 @@
 // From lines of the input to lines of the output of `lookup`.
 ghost use Rattle.std.specs.Prelude.{◌≡◌, ◌≤◌, false, IfOk, Some, map, length, string_bytes};
 ghost use Rattle.rate_types.specs.declared.limits.TheConstants.{MOST_LINES};
-ghost use Rattle.drive_run.specs.Script.{cut};
+ghost use Rattle.text_lines.specs.Lines.{cut};
 ghost use Rattle.ratelimit_cli.specs.Output.{with_line_feed};
 ghost use Rattle.serde_json.specs.View.{view};
 ghost use Rattle.serde_json.specs.Written.{has_float};
@@ -11,13 +11,13 @@ ghost use Rattle.ratelimit_cli.specs.Lookup as texts;
 ghost use Rattle.reply_text.specs.Texts.{refused_data};
 
 use crate::found_json::founds_value;
-use drive_run::cut_line;
 use proto_json::{FormFault, parse};
 use rate_types::{OutOfMemory, Place, Refused, Request};
 use reply_text::{read_request, refused_value};
 use rule_lookup::Index;
 use serde_json::{Value, json};
 use std::alloc::{AllocError, Global};
+use text_lines::cut_line;
 
 // The request that a line is.
 #[tactic(auto, using(proto_json::specs::Laws::reading_then), unfolding(crate::specs::Lookup::request_line))]

@@ -2,7 +2,7 @@ ghost use Rattle.std.specs.Prelude.{◌≡◌, ◌≤◌, ◌∷◌, [], List, �
 ghost use Rattle.rate_types.specs.declared.limits.TheConstants.{MOST_LINES};
 ghost use Rattle.rate_io.specs.Events.{Continues, Grew, since};
 ghost use Rattle.descriptor_tree.specs.Views.{config_view};
-ghost use Rattle.drive_run.specs.Script.{cut};
+ghost use Rattle.text_lines.specs.Lines.{cut};
 ghost use Rattle.ratelimit_cli.specs.Exits.{Explains, IsExitOf, exit_of};
 ghost use Rattle.ratelimit_cli.specs.Jobs.{command_with};
 ghost use Rattle.ratelimit_cli.specs.Words.{command_of};

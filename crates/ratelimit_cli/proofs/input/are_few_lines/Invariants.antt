@@ -1,6 +1,6 @@
 use Rattle.std.proofs.Common.{◌≡◌, ◌+◌, ◌≤◌, length}
 use Rattle.rate_types.specs.declared.limits.TheConstants.{MOST_LINES}
-use Rattle.drive_run.specs.Script.{cut}
+use Rattle.text_lines.specs.Lines.{cut}
 use Rattle.ratelimit_cli.proofs.input.are_few_lines.Given as goal
 
 abbrev pub invariant-lines : goal.invariant-lines

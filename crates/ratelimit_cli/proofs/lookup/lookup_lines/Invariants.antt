@@ -1,5 +1,5 @@
 use Rattle.std.proofs.Common.{◌≡◌, ◌+◌, ◌++◌, map, length, string_bytes}
-use Rattle.drive_run.specs.Script.{cut}
+use Rattle.text_lines.specs.Lines.{cut}
 use Rattle.ratelimit_cli.specs.Lookup.{lookup_from, lookup_output}
 use Rattle.ratelimit_cli.proofs.lookup.lookup_lines.Given as goal
 

@@ -97,7 +97,7 @@ returns-clause-exit g c = λ words is.
       rest = c.in-Ok-read_input.ensures.end;
     } in
     let bytes : given w.reads ≡ c.deref.result.now = input.1 ∙ sym c.deref.ensures.value in
-    explain_output w (command_with c.args.configs.now c.args.work) (IsOfWork c.args.work (config_view c.in-Ok-configuration.config) c.deref.result.now)
+    explain_output w (command_with c.args.configs.now c.args.work) is (IsOfWork c.args.work (config_view c.in-Ok-configuration.config) c.deref.result.now)
     (made_output w c.args.configs.now c.args.work (config_view c.in-Ok-configuration.config) c.deref.result.now read bytes) (exit_of c.make_and_write.result)
     (grew_since (g.K.Sink.history c.args.sink.now) (g.K.Sink.history c.make_and_write.new.sink)
     (IsOfOutput (IsOfWork c.args.work (config_view c.in-Ok-configuration.config) c.deref.result.now) (sinks w) (exit_of c.make_and_write.result)) c.make_and_write.ensures)

@@ -1,8 +1,9 @@
 use Rattle.std.proofs.Common.{◌≡◌, ◌+◌, ◌++◌, length, map, ap, sym, ◌∙◌, arith, append-nil, length-append}
 use Rattle.std.proofs.lemmas.List.{length-map}
-use Rattle.drive_run.specs.Script.{cut, line_of}
+use Rattle.text_lines.specs.Lines.{cut}
+use Rattle.drive_run.specs.Script.{line_of}
 use Rattle.drive_run.specs.Views.{line_view, script_view}
-use Rattle.drive_run.proofs.Cutting.{cut_some, cut_none}
+use Rattle.text_lines.proofs.Cutting.{cut_some, cut_none}
 use Rattle.drive_run.proofs.script.Script.read.Goals as goal
 
 pub returns-then-len-clause-more : goal.returns-then-len-clause-more

@@ -1,7 +1,7 @@
 use Rattle.std.proofs.Common.{◌≡◌, ◌+◌, ◌++◌, List, ℕ, String, None, map, string_bytes, sym, ap, ◌∙◌, arith}
 use Rattle.std.specs.List.{concat}
 use Rattle.quota_stream.specs.Outcomes.{outcome_of}
-use Rattle.quota_stream.specs.Output.{cut}
+use Rattle.text_lines.specs.Lines.{cut}
 use Rattle.quota_stream.specs.Tasks.{Task}
 use Rattle.quota_stream.proofs.Steps.{from_ok}
 use Rattle.quota_stream.proofs.Tasking.{next_number, too_many, task_goes_on, not_ended}

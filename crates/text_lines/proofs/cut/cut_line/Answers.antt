@@ -1,8 +1,8 @@
 use Rattle.std.proofs.Common.{◌≡◌, ◌+◌, ◌-◌, ◌==◌, take, drop, length, Some, sym, ◌∙◌, arith, length-drop}
 use Rattle.std.specs.List.{position}
 use Rattle.std.proofs.lemmas.List.{take_all}
-use Rattle.quota_stream.proofs.Cutting.{cut_at, cut_rest}
-use Rattle.quota_stream.proofs.cut.cut_line.Goals as goal
+use Rattle.text_lines.proofs.Cutting.{cut_at, cut_rest}
+use Rattle.text_lines.proofs.cut.cut_line.Goals as goal
 
 pub returns-in-Some-clause-cut : goal.returns-in-Some-clause-cut
 returns-in-Some-clause-cut c =

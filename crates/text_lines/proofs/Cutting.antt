@@ -1,9 +1,9 @@
--- How the bytes of a stream are cut into lines.
+-- How bytes are cut into lines.
 use Rattle.std.proofs.Common.{◌≡◌, ℕ, ◌+◌, ◌<◌, ◌≤◌, ◌==◌, Bool, true, false, List, [], ◌∷◌, length, take, drop, Option, Some, None, refl, arith}
 use Rattle.std.proofs.lemmas.Bool.Decides.{nat_tests}
 use Rattle.std.proofs.lemmas.List.Splits.{slice_split_first, length-slice_split}
 use Rattle.std.specs.List.{slice_split, position, position_or_len}
-use Rattle.quota_stream.specs.Output.{lines_of_parts, cut}
+use Rattle.text_lines.specs.Lines.{lines_of_parts, cut}
 
 lines_more : (x : List ℕ) (ps : List (List ℕ)) → 0 < length ps → lines_of_parts (x ∷ ps) ≡ x ∷ lines_of_parts ps
 lines_more x [] h = absurd (omega arith)

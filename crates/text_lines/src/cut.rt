@@ -1,6 +1,6 @@
-// Cutting bytes into lines.
+// The first line of bytes, and the rest.
 ghost use Rattle.std.specs.Prelude.{◌≡◌, ◌<◌, ◌∷◌, ◌==◌, length, position, IfSome};
-ghost use Rattle.drive_run.specs.Script as scripts;
+ghost use Rattle.text_lines.specs.Lines.{cut};
 
 fn line_feed(bytes: &[u8]) -> Option<usize>
     ensures at { result ≡ position (λ b. b == 10) bytes.now }
@@ -9,11 +9,10 @@ fn line_feed(bytes: &[u8]) -> Option<usize>
     bytes.iter().position(|b| *b == b'\n')
 }
 
-/// The first line, and the bytes after its line feed. Bytes are cut at each line feed; the rest behind the last one is a line
-/// where it isn't empty.
+/// The first line without its line feed, and the bytes after that line feed, which are none where the line has none.
 pub fn cut_line(bytes: &[u8]) -> (&[u8], &[u8])
     requires { 0 < length bytes.now }
-    ensures cut { scripts.cut bytes.now ≡ result.0.now ∷ scripts.cut result.1.now }
+    ensures cut { cut bytes.now ≡ result.0.now ∷ cut result.1.now }
     ensures less { length result.1.now < length bytes.now }
 {
     match line_feed(bytes) {
