@@ -47,7 +47,7 @@ halves-set (a ∷ b ∷ ms) (suc (suc p)) v lt =
 
 -- after a moment was set the rows are right but over it
 pub tower_set : (ms : List ℕ) (p v : ℕ) (above : List (List ℕ)) → p < length ms → IsTower ms above → IsTowerButOver p (set ms p v) above
-tower_set ms p v [] lt tower = tt
+tower_set ms p v [] lt tower = omega (arith, tower, length-set ms p v)
 tower_set ms p v (row ∷ above) lt tower = (rw tower.0 (halves-set ms p v lt), tower.1)
 
 -- the least of the pair of an index

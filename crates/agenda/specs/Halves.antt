@@ -1,5 +1,5 @@
 -- Inside: the rows over a list of moments.
-use Rattle.std.specs.Prelude.{◌≡◌, ℕ, ◌+◌, ◌*◌, ◌/◌, ⊤, List, [], ◌∷◌, ◌++◌, min, nat_le, slice_index_or, slice_set, if◌then◌else◌}
+use Rattle.std.specs.Prelude.{◌≡◌, ℕ, ◌+◌, ◌*◌, ◌/◌, ◌≤◌, List, [], ◌∷◌, ◌++◌, length, min, nat_le, slice_index_or, slice_set, if◌then◌else◌}
 
 -- the least of every two
 abbrev pub halves : List ℕ → List ℕ
@@ -7,14 +7,14 @@ halves [] = []
 halves (a ∷ []) = a ∷ []
 halves (a ∷ b ∷ moments) = min a b ∷ halves moments
 
--- each row has the least of every two below
+-- each row has the least of every two below, and the last one has at most one moment: no row is left out
 abbrev pub IsTower : List ℕ → List (List ℕ) → Type 0
-IsTower base [] = ⊤
+IsTower base [] = length base ≤ 1
 IsTower base (row ∷ above) = (row ≡ halves base) × IsTower row above
 
 -- the same, but for the index over one that was just set
 abbrev pub IsTowerButOver : ℕ → List ℕ → List (List ℕ) → Type 0
-IsTowerButOver index base [] = ⊤
+IsTowerButOver index base [] = length base ≤ 1
 IsTowerButOver index base (row ∷ above) =
     (halves base ≡ slice_set row (index / 2) (slice_index_or (halves base) (index / 2) 0)) × IsTower row above
 

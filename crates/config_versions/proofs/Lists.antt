@@ -1,7 +1,8 @@
 -- What holds of all items of a list, and of a part of each.
-use Rattle.std.proofs.Common.{◌≡◌, ℕ, zero, suc, ◌+◌, List, [], ◌∷◌, map, All, refl, ap, subst, arith}
+use Rattle.std.proofs.Common.{◌≡◌, ℕ, zero, suc, ◌+◌, ◌<◌, List, [], ◌∷◌, ◌++◌, length, map, All, refl, ap, subst, arith, length-append}
 use Rattle.std.proofs.lemmas.List.{length-map}
-use Rattle.std.specs.Prelude.{slice_index_or}
+use Rattle.std.specs.Prelude.{slice_index_or, slice_get, Some}
+use mathlib.Core.List.{IsPrefix}
 use Rattle.rate_types.specs.Sums.{total}
 use Rattle.told_list.specs.Lists.{IsOwnedOnce}
 
@@ -25,6 +26,18 @@ module _ {A B : Type 0} (f : A → B) where
   total_map g (x ∷ xs) = ap (λ n. g (f x) + n) (total_map g xs)
 
 module _ {A : Type 0} where
+  -- a place that has an item is below the length, also of a list that begins so
+  pub place_below : (xs : List A) (n : ℕ) (x : A) → slice_get xs n ≡ Some x → n < length xs
+  place_below [] n x e = cc
+  place_below (y ∷ ys) zero x e = omega arith
+  place_below (y ∷ ys) (suc n) x e = let r = place_below ys n x e in omega arith
+
+  pub below_prefix : (xs ys : List A) (n : ℕ) (x : A) → slice_get xs n ≡ Some x → IsPrefix xs ys → n < length ys
+  below_prefix xs ys n x e p =
+      let b = place_below xs n x e in
+      let l : length (xs ++ p.0) ≡ length ys = ap (λ (zs : List A). length zs) p.1 in
+      omega (arith, b, l, length-append xs p.0)
+
   pub all_rest : (P : A → Type 0) (x : A) (xs : List A) → All P (x ∷ xs) → All P xs
   all_rest P x xs all k d h = all (suc k) d (omega arith)
 

@@ -19,7 +19,7 @@ pub struct Install<I> {
 }
 
 impl<I: Drop> Act<VersionList<I>> for Install<I> {
-    ghost use Rattle.std.specs.Prelude.{◌≡◌, map};
+    ghost use Rattle.std.specs.Prelude.{◌≡◌};
     ghost use Rattle.std.specs.Arc.{arc_value};
     ghost use Rattle.config_versions.specs.Acts.{Installs};
 
@@ -28,7 +28,7 @@ impl<I: Drop> Act<VersionList<I>> for Install<I> {
     ghost ready = { λ _ _. Unit {0} };
 
     ghost did = { λ p b r q c. (arc_value q.next ≡ arc_value p.next)
-        × Installs (arc_value p.next) (map arc_value b.versions.items) r (map arc_value c.versions.items) };
+        × Installs (arc_value p.next) b.versions r c.versions };
 
     fn act(&mut self, kept: &mut VersionList<I>) -> Installed<I> {
         kept.install(&self.next)

@@ -9,8 +9,8 @@
 //! is, is the one of its number in that list; this number never falls; each version but the first was installed by
 //! exactly one pass.
 //!
-//! The limits: at most 1,048,576 versions, all of which are kept to the end; calls that take the lock may wait, and
-//! nothing is said of how long.
+//! The limits: at most 1,048,576 versions; calls that take the lock may wait, and nothing is said of how long. Only the
+//! newest version takes memory, and those at which a pass is: the list of all of them is there for contracts alone.
 #![tactic(auto)]
 
 mod fault;
@@ -19,11 +19,13 @@ mod pass;
 mod passes;
 mod refresh;
 mod version_list;
+mod version_log;
 mod versions;
 
 pub use fault::InstallFault;
 pub use pass::VersionPass;
-pub use versions::Versions;
+pub use version_log::VersionLog;
+pub use versions::{ClosedVersions, Versions};
 
 #[cfg(test)]
 mod tests;

@@ -19,15 +19,13 @@ pub struct Refresh {
 }
 
 impl<I: Drop> Act<VersionList<I>> for Refresh {
-    ghost use Rattle.std.specs.Prelude.{map};
-    ghost use Rattle.std.specs.Arc.{arc_value};
     ghost use Rattle.config_versions.specs.Acts.{Refreshes};
 
     type Out = Refreshed<I>;
 
     ghost ready = { λ _ _. Unit {0} };
 
-    ghost did = { λ p b r q c. Refreshes p.version (map arc_value b.versions.items) r (map arc_value c.versions.items) };
+    ghost did = { λ p b r q c. Refreshes p.version b.versions r c.versions };
 
     fn act(&mut self, kept: &mut VersionList<I>) -> Refreshed<I> {
         kept.newer_than(self.version)

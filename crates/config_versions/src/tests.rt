@@ -1,7 +1,7 @@
 ghost use Rattle.std.specs.Prelude.{◌≡◌, All, IfOk, IfSome, vec_len};
 ghost use Rattle.config_versions.specs.Passes.{IsPassOf, pass_count};
 
-use crate::{InstallFault, VersionPass, Versions};
+use crate::{ClosedVersions, InstallFault, VersionPass, Versions};
 use rate_types::OutOfMemory;
 use std::alloc::Global;
 use std::sync::{Arc, Wait};
@@ -13,7 +13,7 @@ fn close_two(
     versions: Versions<u8>,
     one: VersionPass<u8>,
     two: VersionPass<u8>,
-) -> Result<Vec<Arc<u8>>, OutOfMemory>
+) -> Result<ClosedVersions<u8>, OutOfMemory>
     requires every { pass_count versions ≡ 2 }
     requires passes { IsPassOf versions one × IsPassOf versions two }
 {
@@ -40,12 +40,12 @@ fn a_pass_is_told_of_a_version_that_another_installed(rt: HostRuntime) -> Result
     let after = versions.is_behind(&mut one);
     let new = (one.version(), *one.index());
     let installer = (zero.version(), *zero.index());
-    let all = close_two(alloc, versions, zero, one)?;
+    let closed = close_two(alloc, versions, zero, one)?;
     assert!(rt; before == None && installed == Ok(1));
     assert!(rt; behind == Some(1) && old == (0, 10));
     assert!(rt; refreshed == Ok(()) && after == None);
     assert!(rt; new == (1, 11) && installer == (1, 11));
-    assert!(rt; all.len() == 2 && *all[0] == 10 && *all[1] == 11);
+    assert!(rt; closed.last == 1 && *closed.newest == 11);
     Ok(())
 }
 

@@ -1,25 +1,29 @@
-ghost use Rattle.std.specs.Prelude.{◌≤◌, vec_len};
+ghost use Rattle.std.specs.Prelude.{◌≡◌, ◌+◌, ◌≤◌, length};
+ghost use Rattle.std.specs.Arc.{arc_value};
 ghost use Rattle.rate_types.specs.declared.limits.TheConstants.{MOST_VERSIONS};
+ghost use Rattle.config_versions.specs.PassState.{IsVersion};
 
 use crate::install::Installed;
 use crate::refresh::Refreshed;
+use crate::version_log::VersionLog;
 use rate_types::limits::MOST_VERSIONS;
-use std::alloc::{AllocError, Global};
 use std::sync::Arc;
 use told_list::Kept;
 
-/// The versions, in the order in which they were installed.
+/// The versions, in the order in which they were installed, of which only the newest takes memory.
 #[derive(Drop)]
 pub struct VersionList<I> {
-    pub versions: Vec<Arc<I>>,
-    ghost some: { 1 ≤ vec_len versions },
-    ghost few: { vec_len versions ≤ MOST_VERSIONS },
+    pub versions: VersionLog<I>,
+    /// The number of the newest.
+    pub last: u32,
+    pub newest: Arc<I>,
+    ghost count: { length versions ≡ last + 1 },
+    ghost few: { last + 1 ≤ MOST_VERSIONS },
+    ghost is_newest: { IsVersion versions last (arc_value newest) },
 }
 
 impl<I> Kept for VersionList<I> {
     ghost use Rattle.rate_types.specs.declared.limits.TheConstants.{MOST_VERSIONS};
-    ghost use Rattle.std.specs.Prelude.{map};
-    ghost use Rattle.std.specs.Arc.{arc_value};
 
     type Item = I;
 
@@ -31,44 +35,36 @@ impl<I> Kept for VersionList<I> {
 
     ghost fixed = { λ _. tt };
 
-    ghost items = { λ b. map arc_value b.versions.items };
+    ghost items = { λ b. b.versions };
 
     fn len(&self) -> u64 {
-        self.versions.len() as u64
+        u64::from(self.last) + 1
     }
 }
 
 impl<I: Drop> VersionList<I> {
-    ghost use Rattle.std.specs.Prelude.{◌≡◌, ◌<◌, [], ◌∷◌, IfOk, map};
-    ghost use Rattle.std.specs.Arc.{arc_value};
-    ghost use Rattle.config_versions.specs.PassState.{IsVersion};
+    ghost use Rattle.std.specs.Prelude.{[], ◌∷◌};
     ghost use Rattle.config_versions.specs.Acts.{Installs, Refreshes};
 
     /// Only the first version.
-    pub fn of(alloc: Global, first: Arc<I>) -> Result<VersionList<I>, AllocError>
-        ensures { IfOk result (λ b. map arc_value b.versions.items ≡ arc_value first ∷ []) }
+    pub fn of(first: Arc<I>) -> VersionList<I>
+        ensures { result.versions ≡ arc_value first ∷ [] }
     {
-        let mut versions = Vec::with_capacity(alloc, 1)?;
-        versions.push_reserved(first);
-        Ok(VersionList { versions })
-    }
-
-    /// The version with this number.
-    fn copy(&self, number: usize) -> Result<Arc<I>, AllocError>
-        requires { number < vec_len self.now.versions }
-        ensures { IfOk result (λ a. IsVersion (map arc_value self.now.versions.items) number (arc_value a)) }
-    {
-        let copy = Arc::try_clone(&self.versions[number])?;
-        Ok(copy)
+        let mut versions = VersionLog::new();
+        versions.add(&*first);
+        VersionList {
+            versions,
+            last: 0,
+            newest: first,
+        }
     }
 
     /// Adds a version, where there is room for one.
     pub fn install(&mut self, next: &Arc<I>) -> Installed<I>
-        ensures { Installs (arc_value next.now) (map arc_value self.old.versions.items) result (map arc_value self.new.versions.items) }
+        ensures { Installs (arc_value next.now) self.old.versions result self.new.versions }
     {
-        let number = self.versions.len();
-        if number >= MOST_VERSIONS as usize {
-            return match self.copy(number - 1) {
+        if self.last + 1 >= MOST_VERSIONS {
+            return match Arc::try_clone(&self.newest) {
                 Ok(newest) => Installed::Full(newest),
                 Err(_) => Installed::OutOfMemory,
             };
@@ -76,23 +72,21 @@ impl<I: Drop> VersionList<I> {
         let Ok(own) = Arc::try_clone(next) else {
             return Installed::OutOfMemory;
         };
-        if self.versions.reserve(1).is_err() {
-            return Installed::OutOfMemory;
-        }
-        self.versions.push_reserved(own);
-        Installed::Added(number as u32)
+        self.versions.add(&**next);
+        self.last += 1;
+        self.newest = own;
+        Installed::Added(self.last)
     }
 
     /// The newest version, where it has a greater number.
     pub fn newer_than(&self, version: u32) -> Refreshed<I>
-        ensures { Refreshes version (map arc_value self.now.versions.items) result (map arc_value self.now.versions.items) }
+        ensures { Refreshes version self.now.versions result self.now.versions }
     {
-        let newest = self.versions.len() - 1;
-        if newest <= version as usize {
+        if self.last <= version {
             return Refreshed::Newest;
         }
-        match self.copy(newest) {
-            Ok(index) => Refreshed::Newer(newest as u32, index),
+        match Arc::try_clone(&self.newest) {
+            Ok(newest) => Refreshed::Newer(self.last, newest),
             Err(_) => Refreshed::OutOfMemory,
         }
     }

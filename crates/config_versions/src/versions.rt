@@ -1,4 +1,4 @@
-ghost use Rattle.std.specs.Prelude.{◌≡◌, length, map};
+ghost use Rattle.std.specs.Prelude.{◌≡◌, length};
 ghost use Rattle.std.specs.Arc.{arc_value};
 ghost use Rattle.rate_types.specs.declared.limits.TheConstants.{MOST_PASSES};
 ghost use Rattle.told_list.specs.Tokens.{first_value};
@@ -9,6 +9,7 @@ use crate::pass::VersionPass;
 use crate::passes::{passes_of, tokens_of};
 use crate::refresh::{Refresh, Refreshed};
 use crate::version_list::VersionList;
+use crate::version_log::VersionLog;
 use rate_types::OutOfMemory;
 use rate_types::limits::MOST_VERSIONS;
 use std::alloc::Global;
@@ -19,7 +20,18 @@ use told_list::Told;
 #[derive(Drop)]
 pub struct Versions<I: Drop> {
     pub(crate) told: Told<VersionList<I>>,
-    ghost first: { length (map arc_value (first_value told).versions.items) ≡ 1 },
+    ghost first: { length (first_value told).versions ≡ 1 },
+}
+
+/// What is left of versions that are closed.
+#[derive(Drop)]
+pub struct ClosedVersions<I> {
+    /// All versions, for contracts alone.
+    pub versions: VersionLog<I>,
+    /// The number of the newest.
+    pub last: u32,
+    /// The newest.
+    pub newest: Arc<I>,
 }
 
 impl<I: Drop> Versions<I> {
@@ -27,7 +39,7 @@ impl<I: Drop> Versions<I> {
     ghost use mathlib.Core.List.{IsPrefix};
     ghost use Rattle.rate_types.specs.Sums.{total, times};
     ghost use Rattle.told_list.specs.Lists.{IsOwnedOnce};
-    ghost use Rattle.config_versions.specs.PassState.{IsFirst, HasLoaded};
+    ghost use Rattle.config_versions.specs.PassState.{IsFirst, IsVersion, HasLoaded};
     ghost use Rattle.config_versions.specs.Answers.{AnswersInstall, AnswersRefresh};
     ghost use Rattle.config_versions.specs.Passes.{IsPassOf, pass_count, pass_state};
 
@@ -42,7 +54,7 @@ impl<I: Drop> Versions<I> {
         ensures first { IfOk result (λ r. All (λ p. IsPassOf r.0 p × IsFirst (arc_value first) (pass_state p)) r.1.items) }
     {
         let own = Arc::try_clone(&first)?;
-        let version_list = VersionList::of(alloc, own)?;
+        let version_list = VersionList::of(own);
         let (told, seats) = Told::make(alloc, version_list, passes)?;
         let passes = passes_of(alloc, seats, &first)?;
         Ok((Versions { told }, passes))
@@ -128,16 +140,25 @@ impl<I: Drop> Versions<I> {
         self,
         alloc: Global,
         passes: Vec<VersionPass<I>>,
-    ) -> Result<Vec<Arc<I>>, OutOfMemory>
+    ) -> Result<ClosedVersions<I>, OutOfMemory>
         requires passes { All (λ p. IsPassOf self p) passes.items }
         requires every { vec_len passes ≡ pass_count self }
-        ensures prefixes { IfOk result (λ v. All (λ p. IsPrefix (pass_state p).view.known (map arc_value v.items)) passes.items) }
-        ensures owned { IfOk result (λ v. (n : ℕ) → IsOwnedOnce 1 (vec_len v) n
+        ensures newest { IfOk result (λ c. (length c.versions ≡ c.last + 1) × IsVersion c.versions c.last (arc_value c.newest)) }
+        ensures prefixes { IfOk result (λ c. All (λ p. IsPrefix (pass_state p).view.known c.versions) passes.items) }
+        ensures owned { IfOk result (λ c. (n : ℕ) → IsOwnedOnce 1 (length c.versions) n
             (total (λ p. times n (pass_state p).view.own) passes.items)) }
     {
         let Versions { told } = self;
         let seats = tokens_of(alloc, passes)?;
-        let VersionList { versions } = told.close(seats);
-        Ok(versions)
+        let VersionList {
+            versions,
+            last,
+            newest,
+        } = told.close(seats);
+        Ok(ClosedVersions {
+            versions,
+            last,
+            newest,
+        })
     }
 }

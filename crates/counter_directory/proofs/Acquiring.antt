@@ -1,9 +1,9 @@
 -- From the counters of a call to its names.
-use Rattle.std.proofs.Common.{◌≡◌, ◌⊎◌, ℕ, zero, suc, ◌+◌, ◌≤◌, ◌==◌, ◌&&◌, List, [], ◌∷◌, ◌++◌, length, true, false, refl, sym, ap, ◌∙◌, subst, arith, eq-eqb, append_assoc, length-append, inl, inr}
-use Rattle.std.specs.Prelude.{ltb, nat_lt, Ok, Err, None, Some, if◌then◌else◌}
+use Rattle.std.proofs.Common.{◌≡◌, ◌⊎◌, ℕ, zero, suc, ◌+◌, ◌≤◌, ◌==◌, ◌&&◌, List, [], ◌∷◌, ◌++◌, length, Bool, true, false, refl, sym, ap, ◌∙◌, subst, arith, eq-eqb, append_assoc, length-append, inl, inr}
+use Rattle.std.specs.Prelude.{ltb, nat_lt, max, Ok, Err, None, Some, if◌then◌else◌}
 use Rattle.std.specs.List.{AllByRecursion}
 use Rattle.std.proofs.lemmas.Bool.Decides.{nat_tests}
-use Rattle.std.proofs.lemmas.Bool.{le-ltb}
+use Rattle.std.proofs.lemmas.Bool.{le-ltb, ne_eqb}
 use Rattle.std.proofs.lemmas.List.{append-nil}
 use native.Mathlib.Decide.{ℕ_discrete}
 use mathlib.Core.Option.{some, some-ne-none, some-injective}
@@ -22,22 +22,21 @@ use Rattle.counter_cells.specs.declared.view.Tick.{Tick}
 use Rattle.counter_directory.specs.declared.acquired.Acquired.{Acquired}
 use Rattle.counter_directory.specs.declared.acquired.AcquireFault.{AcquireFault}
 use Rattle.counter_directory.specs.declared.acquired.AcquireFault.TheVariants.{OutOfMemory, ClaimsSpent, CountersFull}
+use Rattle.counter_directory.specs.declared.claim.Claim.{Claim}
 use Rattle.counter_directory.specs.Claims.{claims_of}
-use Rattle.counter_directory.specs.Keys.{keys_at, key_count}
+use Rattle.counter_directory.specs.Keys.{keys_at, key_count, IsMissing, AddsEach}
 use Rattle.counter_directory.specs.Acquiring.{AreOf, TicksSoFar, OnlyTicked, HasBeenTold}
 use Rattle.counter_directory.specs.Spots.{Bound, Agree, spots_on, pinned_on}
-use Rattle.counter_directory.specs.Acquired.{OffersNothing, HasTicked, PinsAfterMisses, Bounds, ClaimTableView, HasBound, AreFull, AreSpent, Acquires}
+use Rattle.counter_directory.specs.Acquired.{OffersNothing, HasTicked, PinsAfterMisses, Bounds, ClaimTableView, Grows, IsWanted, HasBound, AreFull, AreSpent, Acquires}
 use Rattle.counter_directory.specs.Acquiring.{Binds}
-use Rattle.counter_directory.proofs.Pinning.{pins_moment}
+use Rattle.counter_directory.proofs.KeyLists.{len_keys}
+use Rattle.counter_directory.proofs.Missing.{grows_none}
+use Rattle.counter_directory.proofs.Pinning.{pins_moment, all_claimed}
 
 pub are_of : (m : ℕ) (names : List CounterName) → AreOf m (keys_at m names)
 are_of m [] i k at = absurd (some-ne-none k (sym at))
 are_of m (n ∷ ns) zero k at = subst (λ (x : CounterKey). x.start ≡ window_start x.name.unit m) (some-injective _ _ at) refl
 are_of m (n ∷ ns) (suc i) k at = are_of m ns i k at
-
-pub len_keys : (m : ℕ) (names : List CounterName) → length (keys_at m names) ≡ length names
-len_keys m [] = refl
-len_keys m (n ∷ ns) = ap suc (len_keys m ns)
 
 -- nothing has ticked yet
 pub no_ticks : (v : CellView) → TicksSoFar v v
@@ -149,6 +148,26 @@ all_there b m keys found left did q h =
         omega arith
     pick (suc n) e is adds = omega arith
 
+-- all counters of the call have claims
+pub bound_none : (b : Bounds) (m : ℕ) (keys : List CounterKey) (spots : List Spot) (t : ClaimTableView) → length spots ≡ length keys → Bound t.claims keys spots
+    → length t.claims ≤ b.claims → length t.claims ≤ t.used → HasBound b m keys t t
+bound_none b m keys spots t len bound few used = record {
+  grows = grows_none m t.claims;
+  missing = [];
+  are = λ q. none (claims_of q t.claims) (key_count q keys) (all_claimed keys spots t.claims len bound q);
+  adds = λ q. omega arith;
+  room = omega arith;
+  used = omega arith;
+}
+  where
+    none : (n k : ℕ) → (1 ≤ k → 1 ≤ n) → 0 ≡ one_if ((n == 0) && nat_lt 0 k)
+    none n zero h = by (n == 0)
+      where
+        by : (t : Bool) → 0 ≡ one_if (t && false)
+        by true = refl
+        by false = refl
+    none n (suc k) h = let some_one = h (omega arith) in ap (λ t. one_if (t && nat_lt 0 (suc k))) (sym (ne_eqb n 0 (λ e. omega arith)))
+
 -- a refusal before the pins is one of the whole call
 pub refuses : (b : Bounds) (m : ℕ) (names : List CounterName) (keys : List CounterKey) (cell_pass mid cell_pass' : CellView) (found left : ClaimTableView) (f : AcquireFault)
     → keys ≡ keys_at m names → m ≡ mid.moment → OnlyTicked cell_pass mid → HasBeenTold mid cell_pass' → Binds b m keys found (Err f) left mid cell_pass'
@@ -213,3 +232,21 @@ acquires b m names keys cell_pass mid told cell_pass' found left a e same at tic
       },
       subst (λ t. HasBound b t (keys_at a.moment names) found left) (sym same) (subst (λ (l : List CounterKey). HasBound b m l found left) k did),
     )
+
+-- as many counters have no claim as names were found missing
+pub wanted_of : (m n : ℕ) (claims : List Claim) (keys : List CounterKey) (missing : List CounterName) → IsMissing claims keys (keys_at m missing) → n ≡ length missing
+    → IsWanted claims keys n
+wanted_of m n claims keys missing is e = (keys_at m missing, is, e ∙ sym (len_keys m missing))
+
+-- the counters of the missing names got claims
+pub bound_new : (b : Bounds) (m m' used used' : ℕ) (claims claims' after : List Claim) (keys : List CounterKey) (missing : List CounterName) → claims' ≡ claims → m' ≡ m
+    → Grows m' claims' after → AddsEach claims' (keys_at m' missing) after → IsMissing claims keys (keys_at m missing) → length claims + length missing ≤ b.claims
+    → used' ≡ max used (length after) → HasBound b m keys (record { used = used; claims = claims }) (record { used = used'; claims = after })
+bound_new b m m' used used' claims claims' after keys missing same at grows adds are room taken = record {
+  grows = subst (λ t. Grows t claims after) at (subst (λ l. Grows m' l after) same grows);
+  missing = keys_at m missing;
+  are = are;
+  adds = subst (λ t. AddsEach claims (keys_at t missing) after) at (subst (λ l. AddsEach l (keys_at m' missing) after) same adds);
+  room = omega (arith, len_keys m missing);
+  used = taken;
+}

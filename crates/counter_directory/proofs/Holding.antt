@@ -19,7 +19,7 @@ use Rattle.counter_directory.specs.Spots.{pinned_on, spots_on}
 use Rattle.counter_directory.specs.Acquired.{Bounds, ClaimTableView, HasTicked, Acquires}
 use Rattle.counter_directory.proofs.Lists.{at_read}
 use Rattle.counter_directory.proofs.Pinning.{cell_bound}
-use Rattle.counter_directory.proofs.Acquiring.{len_keys}
+use Rattle.counter_directory.proofs.KeyLists.{len_keys}
 
 good_pinned : (k : ℕ) (ss : List Spot) (v : CellView) → good_on k (pinned_on ss v) ≡ spots_on k ss + good_on k v
 good_pinned k [] v = omega arith

@@ -1,10 +1,11 @@
-mod CounterKeys
 mod Lists
+mod KeyLists
 mod Sums
 mod Moves
 mod Counting
 mod Opening
 mod Indexing
+mod Open
 mod Ringing
 mod Missing
 mod Pinning

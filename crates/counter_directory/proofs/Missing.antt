@@ -1,7 +1,8 @@
 -- The counters of a call that have no claim yet.
 use Rattle.std.proofs.Common.{◌≡◌, ℕ, zero, suc, ◌+◌, ◌≤◌, ◌<◌, ◌==◌, ◌&&◌, List, [], ◌∷◌, ◌++◌, length, take, get_or, Bool, true, false, cond, refl, sym, ap, ◌∙◌, subst, arith}
-use Rattle.std.proofs.Common.{⊎_elim, append_assoc}
-use Rattle.std.specs.Prelude.{ltb}
+use Rattle.std.proofs.Common.{⊎_elim, append_assoc, eq-eqb}
+use Rattle.std.specs.Prelude.{ltb, Option, Some, None, is_some, IfSome, IfNone}
+use Rattle.std.proofs.lemmas.Bool.{ne_eqb}
 use Rattle.std.proofs.lemmas.Bool.Decides.{nat_tests}
 use Rattle.std.proofs.lemmas.List.{take_more, append-nil}
 use mathlib.Core.Option.{some, some-ne-none, some-injective}
@@ -12,19 +13,21 @@ use Rattle.rate_types.specs.Counters.{same_counter}
 use Rattle.window_keys.specs.Window.{window_start}
 use Rattle.rate_types.specs.Sums.{one_if}
 use Rattle.counter_directory.specs.declared.claim.Claim.{Claim}
-use Rattle.counter_directory.specs.Claims.{claims_of}
+use Rattle.counter_directory.specs.Claims.{claims_of, bindings_of}
+use Rattle.counter_cells.specs.declared.answers.Spot.{Spot}
 use Rattle.counter_directory.specs.Keys.{key_count, IsMissing, AddsEach}
 use Rattle.counter_directory.specs.Acquiring.{AreOf, AddsMissing}
 use Rattle.counter_directory.specs.Acquired.{Grows}
-use Rattle.counter_directory.proofs.CounterKeys.{same_yes, same_no, key_discrete}
+use Rattle.window_keys.proofs.Counters.{is_same, not_same}
+use Rattle.counter_directory.proofs.KeyLists.{key_discrete}
 use Rattle.counter_directory.proofs.Lists.{at_snoc, at_read}
 use Rattle.rate_types.proofs.Sums.{total_push, total_append}
 
 cond_is : (a b : CounterKey) (x y : ℕ) → a ≡ b → cond (same_counter a b) x y ≡ x
-cond_is a b x y e = ap (λ t. cond t x y) (same_yes a b e)
+cond_is a b x y e = ap (λ t. cond t x y) (is_same a b e)
 
 cond_not : (a b : CounterKey) (x y : ℕ) → (a ≡ b → ⊥) → cond (same_counter a b) x y ≡ y
-cond_not a b x y ne = ap (λ t. cond t x y) (same_no a b ne)
+cond_not a b x y ne = ap (λ t. cond t x y) (not_same a b ne)
 
 pub key_count_more : (q : CounterKey) (keys : List CounterKey) (i : ℕ) (d : CounterKey) → i < length keys
     → key_count q (take (i + 1) keys) ≡ key_count q (take i keys) + one_if (same_counter (get_or keys i d) q)
@@ -73,10 +76,10 @@ adds_missing_new claims k missing new none gone e q =
         let z : (key_count q missing == 0) ≡ true = grind (arith, nat_tests) in
         let a : cond (same_counter k q) (one_if ((claims_of q claims == 0) && (key_count q missing == 0))) 0 ≡ 1 =
         cond_is k q _ 0 s ∙ ap (λ b. one_if (b && (key_count q missing == 0))) h ∙ ap one_if z in
-        let o : one_if (same_counter k q) ≡ 1 = ap one_if (same_yes k q s) in
+        let o : one_if (same_counter k q) ≡ 1 = ap one_if (is_same k q s) in
         omega arith
     pick p (no n) = let a = cond_not k q (one_if ((claims_of q claims == 0) && (key_count q missing == 0))) 0 n in
-        let o : one_if (same_counter k q) ≡ 0 = ap one_if (same_no k q n) in omega arith
+        let o : one_if (same_counter k q) ≡ 0 = ap one_if (not_same k q n) in omega arith
 
 -- the next counter keeps the list of the missing
 pub missing_more : (claims : List Claim) (keys missing new : List CounterKey) (i : ℕ) (d : CounterKey) → i < length keys → AddsMissing claims (get_or keys i d) missing new
@@ -96,14 +99,14 @@ missing_more claims keys missing new i d lt adds is q =
         → key_count q missing ≡ one_if ((claims_of q claims == 0) && ltb 0 (key_count q (take i keys))) → Dec (k ≡ q)
         → key_count q new ≡ one_if ((claims_of q claims == 0) && ltb 0 (key_count q (take (i + 1) keys)))
     pick k n t m (yes e) =
-        let o : one_if (same_counter k q) ≡ 1 = ap one_if (same_yes k q e) in
+        let o : one_if (same_counter k q) ≡ 1 = ap one_if (is_same k q e) in
         let c = cond_is k q (one_if ((claims_of q claims == 0) && (key_count q missing == 0))) 0 e in
         let b = both (claims_of q claims == 0) (key_count q (take i keys)) (key_count q missing) m in
         let u : key_count q (take (i + 1) keys) ≡ key_count q (take i keys) + 1 = omega arith in
         let v : key_count q new ≡ key_count q missing + one_if ((claims_of q claims == 0) && (key_count q missing == 0)) = omega arith in
         v ∙ b ∙ ap (λ z. one_if ((claims_of q claims == 0) && ltb 0 z)) (sym u)
     pick k n t m (no ne) =
-        let o : one_if (same_counter k q) ≡ 0 = ap one_if (same_no k q ne) in
+        let o : one_if (same_counter k q) ≡ 0 = ap one_if (not_same k q ne) in
         let c = cond_not k q (one_if ((claims_of q claims == 0) && (key_count q missing == 0))) 0 ne in
         let u : key_count q (take (i + 1) keys) ≡ key_count q (take i keys) = omega arith in
         let v : key_count q new ≡ key_count q missing = omega arith in
@@ -160,7 +163,7 @@ fresh_counter found claims before rest keys k e new adds =
     let n = new k in
     let a = adds k in
     let m = key_count_mid k before rest keys k e in
-    let o : one_if (same_counter k k) ≡ 1 = ap one_if (same_yes k k refl) in
+    let o : one_if (same_counter k k) ≡ 1 = ap one_if (is_same k k refl) in
     let z = n.1 (omega arith) in
     omega arith
 
@@ -189,3 +192,22 @@ grows_none m claims = ([], nil, λ i y at. absurd (some-ne-none y (sym at)))
 
 pub grows_prefix : (m : ℕ) (found after : List Claim) → Grows m found after → IsPrefix found after
 grows_prefix m found after p = (p.0, sym p.1)
+
+pub bindings_few : (q : CounterKey) (k c : ℕ) (claims : List Claim) → bindings_of q k c claims ≤ claims_of q claims
+bindings_few q k c [] = omega arith
+bindings_few q k c (x ∷ xs) = let r = bindings_few q k c xs in let o = each (same_counter x.key q) ((x.cell == k) && (x.claim == c)) in omega arith
+  where
+    each : (a b : Bool) → one_if (a && b) ≤ one_if a
+    each true true = omega arith
+    each true false = omega arith
+    each false b = omega arith
+
+-- a counter that is found has a claim, and one that isn't has none
+pub claimed_some : (q : CounterKey) (claims : List Claim) (o : Option Spot) → is_some o ≡ true → IfSome o (λ s. 1 ≤ bindings_of q s.cell s.claim claims)
+    → (claims_of q claims == 0) ≡ false
+claimed_some q claims (Some s) e bound = let f = bindings_few q s.cell s.claim claims in ne_eqb (claims_of q claims) 0 (λ z. omega arith)
+claimed_some q claims None e bound = cc
+
+pub claimed_none : (q : CounterKey) (claims : List Claim) (o : Option Spot) → is_some o ≡ false → IfNone o (claims_of q claims ≡ 0) → (claims_of q claims == 0) ≡ true
+claimed_none q claims (Some s) e none = cc
+claimed_none q claims None e none = eq-eqb (claims_of q claims) 0 none

@@ -4,6 +4,7 @@ use Rattle.std.proofs.Common.{inl, inr, append_assoc}
 use Rattle.std.proofs.lemmas.Bool.Decides.{nat_tests}
 use Rattle.std.proofs.lemmas.Grind.{common_steps}
 use Rattle.std.proofs.lemmas.List.{take_more, append-nil}
+use Rattle.std.specs.Prelude.{All}
 use mathlib.Core.Option.{some}
 use lib.ListN.{get_elem?}
 use Rattle.rate_types.specs.declared.counter_key.CounterKey.{CounterKey}
@@ -16,14 +17,16 @@ use Rattle.counter_cells.specs.declared.view.CellView.{CellView}
 use Rattle.counter_cells.specs.declared.view.OtherGate.{OtherGate}
 use Rattle.counter_cells.specs.declared.answers.Spot.{Spot}
 use Rattle.counter_directory.specs.declared.claim.Claim.{Claim}
-use Rattle.counter_directory.specs.Claims.{bindings_of, IsLawfulClaims}
+use Rattle.counter_directory.specs.Claims.{claims_of, bindings_of, IsLawfulClaims}
+use Rattle.counter_directory.specs.Keys.{key_count}
 use Rattle.counter_directory.specs.TableFits.{GatesFit}
 use Rattle.counter_directory.specs.Acquiring.{AreOf, AreShown}
 use Rattle.counter_directory.specs.Spots.{Bound, Agree, pinned_on}
 use Rattle.counter_directory.specs.Acquired.{PinsAfterMisses}
-use Rattle.counter_directory.proofs.CounterKeys.{same_is}
-use Rattle.counter_directory.proofs.Lists.{at_cut, at_within}
+use Rattle.window_keys.proofs.Counters.{same_is}
+use Rattle.counter_directory.proofs.Lists.{at_cut, at_within, at_read}
 use Rattle.counter_directory.proofs.Counting.{total_some}
+use Rattle.counter_directory.proofs.Missing.{bindings_few}
 use Rattle.counter_directory.proofs.Ringing.{end_later}
 
 parts : (a b d : Bool) → 1 ≤ one_if (a && (b && d)) → (a ≡ true) × (b ≡ true) × (d ≡ true)
@@ -135,17 +138,52 @@ pub shown_more : (v : CellView) (last : ℕ) (keys : List CounterKey) (spots new
     → AreShown v last (take (i + 1) keys) new
 shown_more v last keys spots new i d s = each_more (λ k t. last < window_end_of k → (cell_or v.cells t.cell).claim ≡ t.claim) keys spots new i d s
 
+some_at : (l : List CounterKey) (i : ℕ) → i < length l → (k : CounterKey) × (get_elem? l i ≡ some k)
+some_at [] i h = absurd (omega arith)
+some_at (x ∷ xs) zero h = (x, refl)
+some_at (x ∷ xs) (suc i) h = some_at xs i (omega arith)
+
 -- spots of one cell have one number
 pub agrees : (v : CellView) (last : ℕ) (keys : List CounterKey) (spots : List Spot) → length spots ≡ length keys → AreOf last keys → AreShown v last keys spots → Agree spots
 agrees v last keys spots len all shown i j s t at there same =
     sym (one i s at) ∙ ap (λ k. (cell_or v.cells k).claim) same ∙ one j t there
   where
-    some_at : (l : List CounterKey) (i : ℕ) → i < length l → (k : CounterKey) × (get_elem? l i ≡ some k)
-    some_at [] i h = absurd (omega arith)
-    some_at (x ∷ xs) zero h = (x, refl)
-    some_at (x ∷ xs) (suc i) h = some_at xs i (omega arith)
-
     one : (i : ℕ) (s : Spot) → get_elem? spots i ≡ some s → (cell_or v.cells s.cell).claim ≡ s.claim
     one i s at =
         let k = some_at keys i (let a = at_within spots i s at in omega arith) in
         shown i k.0 s k.1 at (end_later last k.0 (all i k.0 k.1))
+
+-- the claimer's view shows each spot's number where a claim binds the counter there
+pub all_shown : (v : CellView) (cells last next_claim : ℕ) (keys : List CounterKey) (spots : List Spot) (claims : List Claim) (waiting : List Spot)
+    → GatesFit v cells last next_claim claims waiting → Bound claims keys spots → AreShown v last keys spots
+all_shown v cells last next_claim keys spots claims waiting g bound i k s at there lt =
+    shown_by v cells last next_claim k s.cell s.claim claims waiting g (bound i k s at there) lt
+
+-- each spot is on a cell that there is
+pub all_within : (cells most : ℕ) (keys : List CounterKey) (spots : List Spot) (claims : List Claim) → IsLawfulClaims cells most claims → length spots ≡ length keys
+    → Bound claims keys spots → All (λ s. s.cell < cells) spots
+all_within cells most keys spots claims law len bound i d lt =
+    let k = some_at keys i (omega arith) in
+    let s = get_or spots i d in
+    cell_bound cells most k.0 s.cell s.claim claims law (bound i k.0 s k.1 (at_read spots i d lt))
+
+-- each counter that is bound at a spot has a claim
+pub all_claimed : (keys : List CounterKey) (spots : List Spot) (claims : List Claim) → length spots ≡ length keys → Bound claims keys spots → (q : CounterKey)
+    → 1 ≤ key_count q keys → 1 ≤ claims_of q claims
+all_claimed keys spots claims len bound q h =
+    let t = total_some (λ (k : CounterKey). one_if (same_counter k q)) keys h in
+    let w = at_within keys t.0 t.1 t.2 in
+    let s = some_spot spots t.0 (omega arith) in
+    let b = bound t.0 t.1 s.0 t.2 s.1 in
+    let f = bindings_few t.1 s.0.cell s.0.claim claims in
+    let e : t.1 ≡ q = same_is t.1 q (one_is (same_counter t.1 q) t.3) in
+    subst (λ (k : CounterKey). 1 ≤ claims_of k claims) e (omega arith)
+  where
+    one_is : (b : Bool) → 1 ≤ one_if b → b ≡ true
+    one_is true h = refl
+    one_is false h = absurd (omega arith)
+
+    some_spot : (l : List Spot) (i : ℕ) → i < length l → (s : Spot) × (get_elem? l i ≡ some s)
+    some_spot [] i h = absurd (omega arith)
+    some_spot (x ∷ xs) zero h = (x, refl)
+    some_spot (x ∷ xs) (suc i) h = some_spot xs i (omega arith)

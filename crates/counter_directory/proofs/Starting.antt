@@ -1,19 +1,18 @@
 -- The start.
 use Rattle.std.proofs.Common.{◌≡◌, ℕ, zero, suc, ◌%◌, ◌≤◌, List, [], ◌∷◌, ◌++◌, length, refl, sym, ap, ◌∙◌, subst, arith, ⊎_elim}
-use Rattle.std.specs.Prelude.{ltb, vec_capacity, Option, Some, None}
+use Rattle.std.specs.Prelude.{ltb, vec_capacity}
 use Rattle.std.proofs.lemmas.Bool.{le-ltb}
 use mathlib.Core.Option.{some, some-ne-none}
 use lib.ListN.{get_elem?}
 use Rattle.counter_directory.proofs.Lists.{at_snoc}
 use Rattle.rate_types.specs.Sums.{one_if, times}
-use Rattle.rate_types.specs.declared.counter_key.CounterKey.{CounterKey}
 use Rattle.counter_cells.specs.declared.view.CellView.{CellView}
 use Rattle.counter_directory.specs.declared.claim.Claim.{Claim}
 use Rattle.counter_directory.specs.declared.ring.Ring.{Ring}
 use Rattle.counter_cells.specs.declared.answers.Spot.{Spot}
 use Rattle.counter_directory.specs.Claims.{IsLawfulClaims}
 use Rattle.counter_directory.specs.Pool.{IsLawfulPool, ring_times}
-use Rattle.counter_directory.specs.TableFits.{GatesFit, Indexed}
+use Rattle.counter_directory.specs.TableFits.{GatesFit}
 use Rattle.counter_directory.specs.Windows.{RingWindows, AreEmpty, AreRoomy, len_of}
 
 none_in : (k : ℕ) (rings : List Ring) → AreEmpty rings → ring_times k rings ≡ 0
@@ -60,12 +59,6 @@ gates_start v cells n last next_claim claims waiting long size none none_used c 
   shut = λ i p at. absurd (some-ne-none p (sym (subst (λ (l : List Spot). get_elem? l i ≡ some p) w at)));
   opened = λ i x at l. absurd (some-ne-none x (sym (subst (λ (l : List Claim). get_elem? l i ≡ some x) c at)));
 }
-
-pub indexed_start : (look : CounterKey → Option Spot) (claims : List Claim) → ((q : CounterKey) → look q ≡ None) → claims ≡ [] → Indexed look claims
-indexed_start look claims none c = subst (λ (l : List Claim). Indexed look l) (sym c) (record { there = λ q s e. clash q s e (none q); none = λ q e. refl })
-  where
-    clash : {P : Type 0} → (q : CounterKey) (s : Spot) → look q ≡ Some s → look q ≡ None → P
-    clash q s a b = cc
 
 pub roomy_more : (n : ℕ) (rings new : List Ring) (r : Ring) → new ≡ rings ++ r ∷ [] → n ≤ vec_capacity r.cells → AreRoomy n rings → AreRoomy n new
 roomy_more n rings new r e room all u s at =

@@ -5,6 +5,8 @@ pub mod Keeps
 pub mod Gates
 pub mod TableFits
 pub mod Keys
+pub mod Index
+pub mod Open
 pub mod Acquiring
 pub mod Spots
 pub mod Acquired

@@ -1,5 +1,5 @@
 // The claims, and the pool of cells.
-ghost use Rattle.std.specs.Prelude.{◌≡◌, ℕ, ◌+◌, ◌-◌, ◌≤◌, ◌<◌, ◌^◌, ◌++◌, ◌∷◌, [], vec_len, vec_capacity, OnOk, IfOk};
+ghost use Rattle.std.specs.Prelude.{◌≡◌, ℕ, ◌+◌, ◌-◌, ◌≤◌, ◌<◌, ◌^◌, ◌++◌, ◌∷◌, [], length, vec_len, vec_capacity, OnOk, IfOk};
 ghost use Rattle.rate_types.specs.declared.limits.TheConstants.{MOST_CELLS, MOST_CLAIM_NUMBERS, MOST_PINS};
 ghost use Rattle.rate_types.specs.Units.{unit_rank};
 ghost use Rattle.window_keys.specs.Window.{window_start};
@@ -9,19 +9,19 @@ ghost use Rattle.counter_directory.specs.Pool.{IsLawfulPool, BindsLast, spot};
 ghost use Rattle.counter_directory.specs.Claims.{live_below};
 ghost use Rattle.counter_directory.specs.Windows.{RingWindows, ExpiredBelow, FitsRing, KeepsFits, AreRoomy};
 
-use crate::claim::Claim;
-use crate::counter::SharedCounter;
+use crate::claim::{Claim, Claims};
+use crate::keys::place_of;
 use crate::ring::{Ring, rings};
 use counter_cells::Spot;
 use rate_types::limits::MOST_PINS;
-use rate_types::{OutOfMemory, Seconds};
+use rate_types::{CounterKey, CounterName, OutOfMemory, Seconds};
 use std::alloc::Global;
 
 /// The claims, and the pool of cells. Each cell that was ever taken is in exactly one list: in a ring, or expired, held or
 /// reserved.
 #[derive(Drop)]
 pub(crate) struct CellPool {
-    pub claims: Vec<Claim>,
+    pub claims: Claims,
     /// One for each unit: the cells of the newest window in which one was bound.
     pub rings: Vec<Ring>,
     /// The cells whose windows have ended.
@@ -40,10 +40,10 @@ pub(crate) struct CellPool {
     pub cells: u32,
     /// How many claims there may be at most.
     pub most: u64,
-    pub ghost cells_lawful: { IsLawfulPool cells last fresh next_claim claims.items rings.items expired.items held.items reserved.items },
-    pub ghost lawful: { IsLawfulClaims cells most claims.items },
+    pub ghost cells_lawful: { IsLawfulPool cells last fresh next_claim claims rings.items expired.items held.items reserved.items },
+    pub ghost lawful: { IsLawfulClaims cells most claims },
     pub ghost four: { vec_len rings ≡ 4 },
-    pub ghost next_claim_is: { next_claim ≡ vec_len claims + vec_len reserved },
+    pub ghost next_claim_is: { next_claim ≡ length claims + vec_len reserved },
     pub ghost few: { next_claim ≤ most },
     pub ghost room: { (cells ≤ vec_capacity expired) × (cells ≤ vec_capacity held) × (MOST_PINS ≤ vec_capacity reserved)
         × AreRoomy cells rings.items },
@@ -57,7 +57,7 @@ impl CellPool {
     /// No claim, and no cell taken.
     pub fn make(alloc: Global, cells: u32, most: u64) -> Result<CellPool, OutOfMemory>
         requires { (cells ≤ MOST_CELLS) × (most ≤ MOST_CLAIM_NUMBERS) }
-        ensures { IfOk result (λ s. (s.cells ≡ cells) × (s.most ≡ most) × (s.next_claim ≡ 0) × (s.claims.items ≡ [])
+        ensures { IfOk result (λ s. (s.cells ≡ cells) × (s.most ≡ most) × (s.next_claim ≡ 0) × (s.claims ≡ [])
             × (s.reserved.items ≡ []) × (s.last ≡ 0)) }
     {
         let rings = rings(alloc, cells)?;
@@ -65,7 +65,7 @@ impl CellPool {
         let held = Vec::with_capacity(alloc, cells as usize)?;
         let reserved = Vec::with_capacity(alloc, MOST_PINS as usize)?;
         Ok(CellPool {
-            claims: Vec::new(alloc),
+            claims: Claims::new(),
             rings,
             expired,
             held,
@@ -167,52 +167,54 @@ impl CellPool {
         Ok(())
     }
 
-    /// Room for as many new claims.
-    pub fn make_room(&mut self, wanted: usize) -> Result<(), OutOfMemory>
-        ensures numbers { KeepsNumbers self.old self.new }
-        ensures lists { (self.new.claims.items ≡ self.old.claims.items) × (self.new.rings ≡ self.old.rings)
-            × (self.new.last ≡ self.old.last) }
-        ensures same { (self.new.reserved ≡ self.old.reserved) × (self.new.expired ≡ self.old.expired) × (self.new.held ≡ self.old.held) }
-        ensures room { OnOk result (vec_len self.new.claims + wanted ≤ vec_capacity self.new.claims) }
+    /// How many claims there are.
+    pub fn claims_made(&self) -> u64
+        ensures { result ≡ length self.now.claims }
     {
-        self.claims.reserve(wanted)?;
-        Ok(())
+        self.next_claim - self.reserved.len() as u64
     }
 
-    /// Binds the counter to the cell that was reserved last.
-    pub fn bind_reserved(&mut self, key: SharedCounter)
+    /// Binds the counter to the cell that was reserved last, and gives its name back.
+    pub fn bind_reserved(&mut self, key: CounterKey) -> CounterName
         requires reserved { 0 < vec_len self.old.reserved }
-        requires room { vec_len self.old.claims < vec_capacity self.old.claims }
-        requires counter { claims_of key self.old.claims.items ≡ 0 }
+        requires counter { claims_of key self.old.claims ≡ 0 }
         requires window { key.start ≡ window_start key.name.unit self.old.last }
         requires ring { FitsRing (unit_rank key.name.unit) (window_end_of key) self.old.rings.items }
-        ensures claims { BindsLast self.old.reserved.items self.new.reserved.items self.old.claims.items self.new.claims.items key
+        ensures name { result ≡ key.name }
+        ensures claims { BindsLast self.old.reserved.items self.new.reserved.items self.old.claims self.new.claims key
             self.old.last }
         ensures rings { KeepsFits (unit_rank key.name.unit) (window_end_of key) self.old.rings.items self.new.rings.items }
-        ensures lens { (vec_len self.new.reserved + 1 ≡ vec_len self.old.reserved) × (vec_len self.new.claims ≡ vec_len self.old.claims + 1)
-            × (vec_capacity self.new.claims ≡ vec_capacity self.old.claims) }
+        ensures lens { (vec_len self.new.reserved + 1 ≡ vec_len self.old.reserved) × (length self.new.claims ≡ length self.old.claims + 1) }
         ensures numbers { KeepsNumbers self.old self.new }
         ensures same { (self.new.expired ≡ self.old.expired) × (self.new.held ≡ self.old.held) × (self.new.last ≡ self.old.last) }
     {
-        if let Some(spot) = self.reserved.pop() {
-            let end = key.end();
-            let unit = key.ring();
-            self.claims.push_reserved(Claim {
-                key,
-                cell: spot.cell,
-                claim: spot.claim,
-                moment: self.last,
-            });
-            let ring = &mut self.rings[unit];
-            ring.end = end;
-            ring.cells.push_reserved(spot.cell);
-        }
+        let Some(spot) = self.reserved.pop() else {
+            unreachable!()
+        };
+        let ring = &mut self.rings[place_of(&key)];
+        ring.end = window_keys::end_of(&key);
+        ring.cells.push_reserved(spot.cell);
+        let claim = Claim {
+            key,
+            cell: spot.cell,
+            claim: spot.claim,
+            moment: self.last,
+        };
+        self.claims.add(&claim);
+        let Claim {
+            key,
+            cell: _,
+            claim: _,
+            moment: _,
+        } = claim;
+        let CounterKey { name, start: _ } = key;
+        name
     }
 
     /// How many cells have windows that haven't ended.
     pub fn live(&self) -> u32
         requires expired { ExpiredBelow 4 self.now.last self.now.rings.items }
-        ensures live { result ≡ live_below self.now.cells self.now.last self.now.claims.items }
+        ensures live { result ≡ live_below self.now.cells self.now.last self.now.claims }
         ensures all { result + vec_len self.now.expired + vec_len self.now.held + vec_len self.now.reserved ≡ self.now.fresh }
     {
         let rest = self.expired.len() + self.held.len() + self.reserved.len();

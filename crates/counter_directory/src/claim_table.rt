@@ -1,38 +1,43 @@
 // What lies behind the lock: the claims, where they are found, and the claimer.
 ghost use Rattle.std.specs.Prelude.{◌≡◌, ℕ, ◌-◌, ◌≤◌, ◌<◌};
-ghost use Rattle.std.specs.HashMap.{get};
-ghost use Rattle.rate_types.specs.Counters.{same_counter};
-ghost use Rattle.counter_directory.specs.TableFits.{GatesFit, Indexed};
+ghost use Rattle.counter_directory.specs.TableFits.{GatesFit};
+ghost use Rattle.counter_directory.specs.Index.{IndexFits};
 
 use crate::cell_pool::CellPool;
 use crate::claim::Claim;
-use crate::counter::SharedCounter;
-use counter_cells::{CellClaimer, CellNaming, Spot};
+use crate::unit_index::UnitIndex;
+use counter_cells::{CellClaimer, CellNaming};
 use rate_types::limits::MOST_CLAIM_NUMBERS;
-use std::collections::HashMap;
-use std::hash::RandomState;
+use std::boxed::Box;
 use told_list::Kept;
 
 mod acquire;
 mod bind;
+mod find;
 mod make;
 mod missing;
-mod pin;
 mod reserve;
 
-/// The claims, the index of them, and the claimer of the cells with the name `N`.
+/// The claims, where those of the present windows are found, and the claimer of the cells with the name `N`.
 #[derive(Drop)]
 pub struct ClaimTable<N: CellNaming> {
     pub(crate) pool: CellPool,
-    pub(crate) index: HashMap<SharedCounter, Spot, RandomState>,
+    /// One for each unit, in the order of the units.
+    pub(crate) index: Vec<UnitIndex>,
     pub(crate) claimer: CellClaimer<N>,
     ghost size: { pool.cells ≡ N.setup.cells },
     ghost heard: { pool.last ≤ claimer.heard },
-    ghost gates: { GatesFit claimer pool.cells pool.last pool.next_claim pool.claims.items pool.reserved.items },
-    ghost found: { Indexed (get same_counter index) pool.claims.items },
+    ghost gates: { GatesFit claimer pool.cells pool.last pool.next_claim pool.claims pool.reserved.items },
+    ghost found: { IndexFits pool.last pool.claims index.items },
 }
 
-impl<N: CellNaming> Kept for ClaimTable<N> {
+/// The table as it lies behind the lock: on the heap, so that a turn moves a pointer alone.
+#[derive(Drop)]
+pub struct KeptTable<N: CellNaming> {
+    pub(crate) table: Box<ClaimTable<N>>,
+}
+
+impl<N: CellNaming> Kept for KeptTable<N> {
     ghost use Rattle.rate_types.specs.declared.limits.TheConstants.{MOST_CLAIM_NUMBERS};
 
     type Item = Claim;
@@ -43,11 +48,11 @@ impl<N: CellNaming> Kept for ClaimTable<N> {
 
     ghost Fixed = { ℕ };
 
-    ghost fixed = { λ b. b.pool.most };
+    ghost fixed = { λ b. b.table.value.pool.most };
 
-    ghost items = { λ b. b.pool.claims.items };
+    ghost items = { λ b. b.table.value.pool.claims };
 
     fn len(&self) -> u64 {
-        self.pool.claims.len() as u64
+        self.table.pool.claims_made()
     }
 }

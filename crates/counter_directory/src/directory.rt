@@ -4,12 +4,15 @@ ghost use Rattle.told_list.specs.Tokens.{list_of, list_id, first_value, tokens, 
 
 use crate::acquire::Acquire;
 use crate::acquired::{AcquireFault, Acquired};
-use crate::claim::{Claim, Claims};
-use crate::claim_table::ClaimTable;
+use crate::claim::Claim;
+use crate::claim_table::{ClaimTable, KeptTable};
+use crate::closed::ClosedDirectory;
+use arrayvec::ArrayVec;
 use counter_cells::{CellClaimer, CellNaming, CellPass, Cells};
 use rate_types::limits::MOST_PINS;
 use rate_types::{CounterName, OutOfMemory, Seconds};
 use std::alloc::Global;
+use std::boxed::Box;
 use std::hash::RandomState;
 use std::marker::Model;
 use std::sync::Wait;
@@ -17,12 +20,12 @@ use told_list::{Seen, Told};
 
 /// What one thread has of a directory: it knows a prefix of the list of claims. It goes with the [`Directory`] that it
 /// was made with.
-pub type DirectoryPass<N: CellNaming> = Seen<ClaimTable<N>, Claim>;
+pub type DirectoryPass<N: CellNaming> = Seen<KeptTable<N>, Claim>;
 
 /// The claims on the cells with the name `N`, behind their lock. Contracts see it as a `DirectoryView`.
 #[derive(Drop)]
 pub struct Directory<N: CellNaming> {
-    told: Told<ClaimTable<N>>,
+    told: Told<KeptTable<N>>,
     passes: u32,
 }
 
@@ -34,19 +37,10 @@ impl<N: CellNaming> Model for Directory<N> {
 
     ghost Value = { DirectoryView };
 
-    ghost view = { λ d. record { list_id = list_id d.told; passes = tokens d.told; claims_max = (first_value d.told).pool.most } };
+    ghost view = { λ d. record { list_id = list_id d.told; passes = tokens d.told; claims_max = (first_value d.told).table.value.pool.most } };
 
     ghost invariant = { λ d. (d.passes ≡ tokens d.told) × (1 ≤ d.passes) × (d.passes ≤ MOST_PASSES)
-        × ((first_value d.told).pool.claims.items ≡ []) };
-}
-
-/// What is left of a directory that is closed.
-#[derive(Drop)]
-pub struct ClosedDirectory<N: CellNaming> {
-    pub claims: Claims,
-    pub claimer: CellClaimer<N>,
-    /// The moment of the last turn, or 0. The claimer has heard it of the clock.
-    pub last: Seconds,
+        × ((first_value d.told).table.value.pool.claims ≡ []) };
 }
 
 /// How many claims the pass knows.
@@ -85,7 +79,10 @@ impl<N: CellNaming> Directory<N> {
         ensures passes { IfOk result (λ r. All (λ p. (list_of p ≡ r.0.list_id) × IsFresh [] (view p)) r.1.items) }
     {
         let table = ClaimTable::make(alloc, claimer, claims_max, seed)?;
-        let (told, seats) = Told::make(alloc, table, passes)?;
+        let kept = KeptTable {
+            table: Box::new(alloc, table)?,
+        };
+        let (told, seats) = Told::make(alloc, kept, passes)?;
         Ok((Directory { told, passes }, seats))
     }
 
@@ -111,14 +108,22 @@ impl<N: CellNaming> Directory<N> {
             names.now cell_pass.old result cell_pass.new (view pass.old) (view pass.new) }
     {
         let most_held = MOST_PINS as usize * (self.passes as usize - 1);
+        let mut acquired = Acquired {
+            moment: Seconds::capped(0),
+            spots: ArrayVec::new(),
+        };
         let mut act = Acquire {
             rt,
             cells,
             cell_pass,
             names,
             most_held,
+            acquired: &mut acquired,
         };
-        self.told.with(rt, pass, &mut act)
+        match self.told.with(rt, pass, &mut act) {
+            Ok(()) => Ok(acquired),
+            Err(fault) => Err(fault),
+        }
     }
 
     /// The claims and the claimer, for which all passes are given back. What each pass knew is a prefix of the claims,
@@ -133,15 +138,17 @@ impl<N: CellNaming> Directory<N> {
         ensures owned { (n : ℕ) → IsOwnedOnce 0 (length result.claims) n (total (λ p. times n (view p).own) passes.items) }
     {
         let Directory { told, passes: _ } = self;
+        let KeptTable { table } = told.close(passes);
         let ClaimTable {
             pool,
-            index: _,
+            index,
             claimer,
-        } = told.close(passes);
+        } = Box::into_inner(table);
         ClosedDirectory {
-            claims: Claims::of(pool.claims),
+            claims: pool.claims,
             claimer,
             last: pool.last,
+            index,
         }
     }
 }

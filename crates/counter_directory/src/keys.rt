@@ -1,22 +1,21 @@
-ghost use Rattle.std.specs.Prelude.{◌≡◌, ◌<◌, IfOk};
-ghost use Rattle.counter_directory.specs.Keys.{keys_at};
+ghost use Rattle.std.specs.Prelude.{◌≡◌, ◌<◌};
+ghost use Rattle.rate_types.specs.Units.{unit_rank};
+ghost use Rattle.counter_directory.specs.Keys.{key_at};
 
-use crate::counter::SharedCounter;
-use rate_types::{CounterName, OutOfMemory, Seconds};
-use std::alloc::Global;
+use rate_types::{CounterKey, CounterName, Seconds};
 
-/// The counters of the names at a moment, in order.
-pub(crate) fn keys_at(
-    alloc: Global,
-    names: &[CounterName],
-    moment: Seconds,
-) -> Result<Vec<SharedCounter>, OutOfMemory>
-    ensures { IfOk result (λ v. v.items ≡ keys_at moment names.now) }
+/// The counter of the name in the window of a moment.
+pub(crate) fn key_at(name: CounterName, moment: Seconds) -> CounterKey
+    ensures { result ≡ key_at moment name }
 {
-    let mut keys = Vec::with_capacity(alloc, names.len())?;
-    for name in names {
-        let key = SharedCounter::of(alloc, name, moment)?;
-        keys.push_reserved(key);
-    }
-    Ok(keys)
+    let start = Seconds::capped(window_keys::start(name.unit, moment));
+    CounterKey { name, start }
+}
+
+/// The place of the counter's unit in the order of units: 0 to 3.
+pub(crate) fn place_of(key: &CounterKey) -> usize
+    ensures rank { result ≡ unit_rank key.now.name.unit }
+    ensures bound { result < 4 }
+{
+    usize::from(key.name.unit.rank())
 }

@@ -17,18 +17,18 @@ mod acquired;
 mod cell_pool;
 mod claim;
 mod claim_table;
-mod counter;
+mod closed;
 mod directory;
 mod keys;
-mod new_counter;
 mod pins;
 mod ring;
 mod ticks;
+mod unit_index;
 
 pub use acquired::{AcquireFault, Acquired};
 pub use claim::{Claim, Claims};
-pub use counter::SharedCounter;
-pub use directory::{ClosedDirectory, Directory, DirectoryPass, claims};
+pub use closed::{ClosedDirectory, OpenClaim};
+pub use directory::{Directory, DirectoryPass, claims};
 pub use pins::give_back;
 
 #[cfg(test)]

@@ -3,11 +3,11 @@ ghost use Rattle.std.specs.Prelude.{◌≡◌, ◌≤◌, [], length};
 ghost use Rattle.rate_types.specs.declared.limits.TheConstants.{MOST_PINS};
 ghost use Rattle.counter_directory.specs.Claims.{last_of};
 ghost use Rattle.counter_directory.specs.Acquired.{Acquires};
-ghost use Rattle.counter_directory.specs.Acquiring.{OnlyTicked};
+ghost use Rattle.counter_directory.specs.Acquiring.{OnlyTicked, answered};
 
 use crate::acquired::{AcquireFault, Acquired};
 use crate::claim_table::ClaimTable;
-use crate::keys::keys_at;
+use crate::pins::pin_all;
 use crate::ticks::tick_up;
 use counter_cells::{CellNaming, CellPass, Cells};
 use rate_types::{CounterName, Seconds};
@@ -25,7 +25,8 @@ impl<N: CellNaming> ClaimTable<N> {
         tick_up(rt, cells, cell_pass, &mut self.claimer, self.pool.last)
     }
 
-    // Ticks the cell pass, binds the counters of the names at its moment and pins their cells, or says why not.
+    // Ticks the cell pass, binds the counters of the names at its moment and pins their cells, or says why not. The
+    // moment and the spots of the pins are written to `acquired`.
     pub(crate) fn acquire<R: Wait>(
         &mut self,
         rt: &R,
@@ -33,32 +34,23 @@ impl<N: CellNaming> ClaimTable<N> {
         cell_pass: &mut CellPass<N>,
         names: &[CounterName],
         most_held: usize,
-    ) -> Result<Acquired, AcquireFault>
+        acquired: &mut Acquired,
+    ) -> Result<(), AcquireFault>
         requires cell_pass { cell_pass.old.good ≡ [] }
         requires names { length names.now ≤ MOST_PINS }
         ensures most { self.new.pool.most ≡ self.old.pool.most }
-        ensures later { last_of 0 self.old.pool.claims.items ≤ cell_pass.new.moment }
+        ensures later { last_of 0 self.old.pool.claims ≤ cell_pass.new.moment }
         ensures did { Acquires (record { cells = N.setup.cells; claims = self.old.pool.most; held = most_held }) names.now cell_pass.old
-            (record { used = length self.old.claimer.used_claims; claims = self.old.pool.claims.items }) result cell_pass.new
-            (record { used = length self.new.claimer.used_claims; claims = self.new.pool.claims.items }) }
+            (record { used = length self.old.claimer.used_claims; claims = self.old.pool.claims }) (answered result acquired.new)
+            cell_pass.new (record { used = length self.new.claimer.used_claims; claims = self.new.pool.claims }) }
     {
-        let alloc = *self.pool.claims.allocator();
         let moment = self.tick(rt, cells, cell_pass);
-        let Ok(keys) = keys_at(alloc, names, moment) else {
+        if self.expire(moment).is_err() {
             return Err(AcquireFault::OutOfMemory);
-        };
-        if let Err(fault) = self.bind_missing(
-            rt,
-            alloc,
-            cells,
-            cell_pass,
-            moment,
-            keys.as_slice(),
-            most_held,
-        ) {
-            return Err(fault);
         }
-        let spots = self.pin_all(rt, cells, cell_pass, keys.as_slice());
-        Ok(Acquired { moment, spots })
+        self.bind(rt, cells, cell_pass, names, most_held, &mut acquired.spots)?;
+        pin_all(rt, cells, cell_pass, acquired.spots.as_slice());
+        acquired.moment = moment;
+        Ok(())
     }
 }

@@ -3,10 +3,10 @@ ghost use Rattle.rate_types.specs.declared.limits.TheConstants.{MOST_CLAIM_NUMBE
 
 use crate::cell_pool::CellPool;
 use crate::claim_table::ClaimTable;
+use crate::unit_index::unit_indexes;
 use counter_cells::{CellClaimer, CellNaming};
 use rate_types::OutOfMemory;
 use std::alloc::Global;
-use std::collections::HashMap;
 use std::hash::RandomState;
 
 impl<N: CellNaming> ClaimTable<N> {
@@ -19,12 +19,13 @@ impl<N: CellNaming> ClaimTable<N> {
     ) -> Result<ClaimTable<N>, OutOfMemory>
         requires most { most ≤ MOST_CLAIM_NUMBERS }
         requires claimer { claimer.used_claims ≡ [] }
-        ensures { IfOk result (λ b. (b.pool.claims.items ≡ []) × (b.pool.most ≡ most)) }
+        ensures { IfOk result (λ b. (b.pool.claims ≡ []) × (b.pool.most ≡ most)) }
     {
         let pool = CellPool::make(alloc, claimer.cells(), most)?;
+        let index = unit_indexes(alloc, seed)?;
         Ok(ClaimTable {
             pool,
-            index: HashMap::with_hasher(alloc, seed),
+            index,
             claimer,
         })
     }

@@ -1,5 +1,5 @@
 // How cells are reserved for new claims.
-ghost use Rattle.std.specs.Prelude.{◌≡◌, ◌+◌, ◌-◌, ◌≤◌, ◌<◌, [], max, false, vec_len, MatchBool};
+ghost use Rattle.std.specs.Prelude.{◌≡◌, ◌+◌, ◌-◌, ◌≤◌, ◌<◌, [], max, false, length, vec_len, MatchBool};
 ghost use Rattle.rate_types.specs.declared.limits.TheConstants.{MOST_PINS};
 ghost use Rattle.counter_directory.specs.Keeps.{KeepsClaims};
 ghost use Rattle.counter_directory.specs.Gates.{HeldSince};
@@ -67,7 +67,7 @@ impl<N: CellNaming> ClaimTable<N> {
         most_held: usize,
     ) -> bool
         requires few { wanted ≤ MOST_PINS }
-        requires claims { vec_len self.old.pool.claims + wanted ≤ self.old.pool.most }
+        requires claims { length self.old.pool.claims + wanted ≤ self.old.pool.most }
         ensures keeps { KeepsClaims self.old.pool self.new.pool }
         ensures same { self.new.index ≡ self.old.index }
         ensures reserved { MatchBool result ((wanted ≤ vec_len self.new.pool.reserved)

@@ -3,9 +3,9 @@ ghost use Rattle.rate_types.specs.declared.limits.TheConstants.{MOST_PINS};
 ghost use Rattle.counter_cells.specs.Opened.{table_of, setup_of};
 ghost use Rattle.told_list.specs.Tokens.{list_of};
 
-use super::lists::is_lawful;
+use super::lists::may_be_open;
 use super::{Worker, name, open, take};
-use crate::{Directory, DirectoryPass};
+use crate::{Directory, DirectoryPass, claims};
 use counter_cells::{CellNaming, Cells, OpenedCells};
 use rate_types::{CounterName, Seconds};
 use std::alloc::Global;
@@ -148,13 +148,22 @@ fn take_in_four_threads<N: CellNaming + Send + Sync, R: Threads + Wait + Sync>(
     Some(passes)
 }
 
-#[test]
-fn four_threads_make_a_lawful_list(rt: HostRuntime) -> Result<(), Fail> {
-    let opened = OpenedCells::make(rt.alloc(), 64, 4, Seconds::capped(0))?;
-    list_of_four_threads::<Brand, _>(&rt, rt.alloc(), opened)
+// The greatest number of claims that one of the passes knows.
+fn most_known<N: CellNaming>(passes: &[DirectoryPass<N>]) -> u64 {
+    let mut most = 0;
+    for pass in passes {
+        most = most.max(claims(pass));
+    }
+    most
 }
 
-fn list_of_four_threads<
+#[test]
+fn four_threads_make_claims_that_can_stand_together(rt: HostRuntime) -> Result<(), Fail> {
+    let opened = OpenedCells::make(rt.alloc(), 64, 4, Seconds::capped(0))?;
+    claims_of_four_threads::<Brand, _>(&rt, rt.alloc(), opened)
+}
+
+fn claims_of_four_threads<
     N: CellNaming + Send + Sync,
     R: Threads + Abort + RandomSource + Wait + Sync,
 >(rt: &R, alloc: Global, opened: OpenedCells) -> Result<(), Fail>
@@ -165,10 +174,13 @@ fn list_of_four_threads<
     let passes = take_in_four_threads(rt, alloc, &directory, &cells, workers).ok_or(
         "each thread ends",
     )?;
+    let made = most_known(passes.as_slice());
     let closed = directory.close(passes);
-    let claims = closed.claims.items();
-    assert_eq!(rt; is_lawful(alloc, claims, 64, 100_000), Some(true));
-    assert!(rt; claims.len() > 10_000, "{} claims", claims.len());
-    assert!(rt; closed.last.get() >= 60 * 156);
+    let last = closed.last.get();
+    let open = closed.open_claims(alloc)?;
+    assert_eq!(rt; may_be_open(alloc, open.items(), last, 64), Some(true));
+    assert!(rt; !open.items().is_empty());
+    assert!(rt; made > 10_000, "{made} claims");
+    assert!(rt; last >= 60 * 156);
     Ok(())
 }

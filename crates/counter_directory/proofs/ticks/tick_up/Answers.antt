@@ -1,5 +1,4 @@
-use Rattle.std.proofs.Common.{refl, ap, ◌∙◌}
-use Rattle.counter_cells.specs.Steps.{has_heard}
+use Rattle.std.proofs.Common.{refl}
 use Rattle.counter_directory.proofs.Acquiring.{no_ticks, ticks_more, heard_again}
 use Rattle.counter_directory.proofs.ticks.tick_up.Goals as goal
 

@@ -1,6 +1,4 @@
-use Rattle.std.proofs.Common.{◌≡◌, ◌∙◌, All, map, subst, sym, ap, arith}
-use Rattle.std.proofs.lemmas.List.{length-map}
-use Rattle.std.specs.Arc.{arc_value}
+use Rattle.std.proofs.Common.{◌≡◌, ◌∙◌, All, refl, subst, sym, ap}
 use mathlib.Core.List.{IsPrefix}
 use Rattle.rate_types.specs.Sums.{total, times}
 use Rattle.told_list.specs.Tokens.{list_of, list_id, view, known}
@@ -14,13 +12,11 @@ close-versions-requires-clause-seats g c =
 
 pub returns-clause-prefixes : goal.returns-clause-prefixes
 returns-clause-prefixes g c =
-    all_parts (λ p. p.seen) (λ s. IsPrefix (known s) (map arc_value c.close-versions.result.versions.items)) c.args.passes.items
-    (subst (All (λ s. IsPrefix (known s) (map arc_value c.close-versions.result.versions.items))) c.in_ok-seats.ensures c.close-versions.ensures.prefixes)
+    all_parts (λ p. p.seen) (λ s. IsPrefix (known s) c.close-versions.result.versions) c.args.passes.items
+    (subst (All (λ s. IsPrefix (known s) c.close-versions.result.versions)) c.in_ok-seats.ensures c.close-versions.ensures.prefixes)
 
 pub returns-clause-owned : goal.returns-clause-owned
 returns-clause-owned g c = λ n.
-    let versions = c.close-versions.result.versions in
-    let count = length-map versions.items arc_value in
-    owned_as _ _ _ _ n _ _ c.args.self.first (omega (arith, count, versions.ok.0))
+    owned_as _ _ _ _ n _ _ c.args.self.first refl
     (ap (total (λ s. times n (view s).own)) c.in_ok-seats.ensures ∙ total_map (λ p. p.seen) (λ s. times n (view s).own) c.args.passes.items)
     (c.close-versions.ensures.owned n)

@@ -1,4 +1,4 @@
-use Rattle.std.proofs.Common.{◌≡◌, ℕ, ◌≤◌, ◌<◌, refl, sym, ap, ◌∙◌, subst, arith}
+use Rattle.std.proofs.Common.{◌≡◌, ℕ, ◌≤◌, ◌<◌, List, [], ◌∷◌, refl, sym, ap, ◌∙◌, subst, arith, length-append}
 use Rattle.std.specs.Prelude.{length, vec_capacity}
 use mathlib.Core.Option.{some}
 use lib.ListN.{get_elem?}
@@ -23,40 +23,40 @@ room_of s u r at some_reserved =
     let c = s.room.3 u r at in
     omega arith
 
-pub push_reserved-requires-in-Some : goal.push_reserved-requires-in-Some
-push_reserved-requires-in-Some c =
+pub push_reserved-requires : goal.push_reserved-requires
+push_reserved-requires c =
     let s = c.args.self.now in
     let r = c.index_mut-ring.result.now in
-    let u = c.ring-unit.result in
-    let at : get_elem? s.rings.items u ≡ some r = at_index s.rings.items u r (omega (arith, s.rings.ok.0, s.four, c.ring-unit.ensures.bound)) c.index_mut-ring.ensures.value in
+    let u = c.place_of.result in
+    let at : get_elem? s.rings.items u ≡ some r = at_index s.rings.items u r (omega (arith, s.rings.ok.0, s.four, c.place_of.ensures.bound)) c.index_mut-ring.ensures.value in
     omega (arith, room_of s u r at (omega (arith, s.reserved.ok.0, c.requires.reserved)), r.cells.ok.0)
 
 pub invariant_of-self : goal.invariant_of-self
 invariant_of-self c =
     let s = c.args.self.now in
     let r = c.index_mut-ring.result.now in
-    let u = c.ring-unit.result in
-    let rank = c.ring-unit.ensures.rank in
-    let at : get_elem? s.rings.items u ≡ some r = at_index s.rings.items u r (omega (arith, s.rings.ok.0, s.four, c.ring-unit.ensures.bound)) c.index_mut-ring.ensures.value in
+    let u = c.place_of.result in
+    let rank = c.place_of.ensures.rank in
+    let at : get_elem? s.rings.items u ≡ some r = at_index s.rings.items u r (omega (arith, s.rings.ok.0, s.four, c.place_of.ensures.bound)) c.index_mut-ring.ensures.value in
     let here : get_elem? s.rings.items (unit_rank c.args.key.name.unit) ≡ some r = subst (λ n. get_elem? s.rings.items n ≡ some r) rank at in
     let x : Claim = record { key = c.args.key; cell = c.in-Some.spot.cell; claim = c.in-Some.spot.claim; moment = s.last } in
     record {
-      cells_lawful = pool_more _ s.last _ _ _ r _ x s.claims.items _ s.rings.items _ _ s.reserved.items _ c.in-Some.ensures.items c.push_reserved.ensures.items (omega arith) at
-          (c.requires.ring r here) c.end-end.ensures c.push_reserved-in-Some.ensures.items s.cells_lawful;
-      lawful = lawful_bound _ s.last _ _ _ x s.claims.items _ s.rings.items _ _ s.reserved.items _ c.in-Some.ensures.items c.push_reserved.ensures.items refl s.few
+      cells_lawful = pool_more _ s.last _ _ _ r _ x s.claims _ s.rings.items _ _ s.reserved.items _ c.in-Some.ensures.items c.add.ensures (omega arith) at
+          (c.requires.ring r here) c.end_of-ring.ensures c.push_reserved.ensures.items s.cells_lawful;
+      lawful = lawful_bound _ s.last _ _ _ x s.claims _ s.rings.items _ _ s.reserved.items _ c.in-Some.ensures.items c.add.ensures refl s.few
           c.requires.counter (start_before s.last c.args.key c.requires.window) (end_later s.last c.args.key c.requires.window) s.cells_lawful s.lawful;
       four = s.four;
-      next_claim_is = omega (arith, s.next_claim_is, c.push_reserved.ensures.len, c.in-Some.ensures.cases);
+      next_claim_is = omega (arith, s.next_claim_is, ap (λ (l : List Claim). length l) c.add.ensures, length-append s.claims (x ∷ []), c.in-Some.ensures.cases);
       few = s.few;
       room = (
         s.room.0,
         s.room.1,
         omega (arith, s.room.2, c.in-Some.ensures.capacity),
-        roomy_set s.cells u _ s.rings.items (omega (arith, s.room.3 u r at, c.push_reserved-in-Some.ensures.capacity)) s.room.3,
+        roomy_set s.cells u _ s.rings.items (omega (arith, s.room.3 u r at, c.push_reserved.ensures.capacity)) s.room.3,
       );
-      windows = windows_new s.last u _ s.rings.items (c.end-end.ensures ∙ end_rank s.last c.args.key c.requires.window ∙ ap (λ n. end_at n s.last) (sym rank)) s.windows;
+      windows = windows_new s.last u _ s.rings.items (c.end_of-ring.ensures ∙ end_rank s.last c.args.key c.requires.window ∙ ap (λ n. end_at n s.last) (sym rank)) s.windows;
       sizes = s.sizes;
     }
 
-pub returns-in-Some-clause-rings : goal.returns-in-Some-clause-rings
-returns-in-Some-clause-rings c = λ v e h. fits_kept c.ring-unit.result _ _ c.args.self.now.rings.items c.end-end.ensures v e (λ q. h (q ∙ c.ring-unit.ensures.rank))
+pub returns-clause-rings : goal.returns-clause-rings
+returns-clause-rings c = λ v e h. fits_kept c.place_of.result _ _ c.args.self.now.rings.items c.end_of-ring.ensures v e (λ q. h (q ∙ c.place_of.ensures.rank))

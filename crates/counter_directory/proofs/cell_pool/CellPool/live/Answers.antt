@@ -9,7 +9,7 @@ use Rattle.counter_directory.proofs.cell_pool.CellPool.live.Goals as goal
 all_of : (s : CellPool) → ring_lens s.rings.items + vec_len s.expired + vec_len s.held + vec_len s.reserved ≡ s.fresh
 all_of s = let c = counted _ _ _ _ _ _ _ _ _ s.cells_lawful in omega (arith, s.expired.ok.0, s.held.ok.0, s.reserved.ok.0)
 
-live_of : (s : CellPool) → ExpiredBelow 4 s.last s.rings.items → live_below s.cells s.last s.claims.items ≡ ring_lens s.rings.items
+live_of : (s : CellPool) → ExpiredBelow 4 s.last s.rings.items → live_below s.cells s.last s.claims ≡ ring_lens s.rings.items
 live_of s e = live_is _ _ _ _ _ _ _ _ _ s.cells_lawful (omega (arith, s.rings.ok.0, s.four)) e
 
 pub overflow_add-rest-2 : goal.overflow_add-rest-2

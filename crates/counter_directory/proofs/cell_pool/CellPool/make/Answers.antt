@@ -7,9 +7,9 @@ pub invariant_of-result : goal.invariant_of-result
 invariant_of-result c =
     let e = c.in_ok-rings.ensures in
     record {
-      cells_lawful = pool_start c.args.cells c.capped.result _ _ _ _ _ c.new.ensures.items c.in_ok-expired.ensures.items c.in_ok-held.ensures.items c.in_ok-reserved.ensures.items
+      cells_lawful = pool_start c.args.cells c.capped.result _ _ _ _ _ c.new.ensures c.in_ok-expired.ensures.items c.in_ok-held.ensures.items c.in_ok-reserved.ensures.items
           e.1;
-      lawful = lawful_start c.args.cells c.args.most _ c.new.ensures.items;
+      lawful = lawful_start c.args.cells c.args.most _ c.new.ensures;
       four = e.0;
       next_claim_is = grind (arith, common_steps);
       few = omega arith;

@@ -10,7 +10,7 @@ invariant_of-self g c =
     record {
       size = b.size;
       heard = omega (arith, e.moment.1, e.heard);
-      gates = gates_heard b.claimer _ b.pool.cells b.pool.last b.pool.next_claim b.pool.claims.items b.pool.reserved.items e.claimer b.gates;
+      gates = gates_heard b.claimer _ b.pool.cells b.pool.last b.pool.next_claim b.pool.claims b.pool.reserved.items e.claimer b.gates;
       found = b.found;
     }
 

@@ -7,14 +7,14 @@ use Rattle.counter_directory.proofs.Lists.{last_expired}
 use Rattle.counter_directory.proofs.Opening.{expired_cell, gates_to, gates_claimed, gates_same, held_since_held, held_since_same}
 use Rattle.counter_cells.specs.declared.view.CellView.{CellView}
 use Rattle.counter_directory.proofs.Acquiring.{told_none, told_one}
-use Rattle.counter_directory.proofs.Indexing.{indexed_to}
+use Rattle.counter_directory.proofs.Indexing.{index_to}
 use Rattle.counter_directory.proofs.claim_table.ClaimTable.try_expired.Goals as goal
 
 -- the cell read may be taken
 may : (s : CellPool) (n cell : ℕ) → n ≡ vec_len s.expired → 0 < vec_len s.expired → cell ≡ get_or s.expired.items (n - 1) cell → (cell < s.cells)
-    × (reserved_on cell s.reserved.items ≡ 0) × (last_end 0 cell s.claims.items ≤ s.last)
+    × (reserved_on cell s.reserved.items ≡ 0) × (last_end 0 cell s.claims ≤ s.last)
 may s n cell len some is =
-    expired_cell s.cells s.last _ _ n cell cell s.claims.items _ s.expired.items _ s.reserved.items (omega (arith, s.expired.ok.0)) (omega arith) is s.cells_lawful
+    expired_cell s.cells s.last _ _ n cell cell s.claims _ s.expired.items _ s.reserved.items (omega (arith, s.expired.ok.0)) (omega arith) is s.cells_lawful
 
 pub reclaim_for-requires-clause-cell : goal.reclaim_for-requires-clause-cell
 reclaim_for-requires-clause-cell g c =
@@ -32,11 +32,11 @@ invariant_of-self g c =
     record {
       size = e.keeps.cells ∙ b.size;
       heard = omega (arith, e.keeps.last, b.heard, ap (λ (v : CellView). v.heard) c.in-Claimed.ensures.reclaim.0);
-      gates = gates_to _ _ _ _ _ _ _ _ _ _ _ e.keeps.cells e.keeps.last e.next_claim (ap (λ z. z.items) e.keeps.claims)
+      gates = gates_to _ _ _ _ _ _ _ _ _ _ _ e.keeps.cells e.keeps.last e.next_claim e.keeps.claims
           (e.reserved.2 ∙ ap (λ z. b.pool.reserved.items ++ spot z b.pool.next_claim ∷ []) (sym k))
-          (gates_claimed b.claimer _ b.pool.cells b.pool.most b.pool.last b.pool.next_claim c.index-cell.result.now b.pool.claims.items b.pool.reserved.items m.0 m.1 m.2
+          (gates_claimed b.claimer _ b.pool.cells b.pool.most b.pool.last b.pool.next_claim c.index-cell.result.now b.pool.claims b.pool.reserved.items m.0 m.1 m.2
           b.pool.lawful c.in-Claimed.ensures.reclaim.0 b.gates);
-      found = indexed_to _ _ _ (ap (λ z. z.items) e.keeps.claims) b.found;
+      found = index_to _ _ _ _ _ e.keeps.last e.keeps.claims b.found;
     }
 
 pub invariant_of-self-in-Held : goal.invariant_of-self-in-Held
@@ -46,9 +46,9 @@ invariant_of-self-in-Held g c =
     record {
       size = e.keeps.cells ∙ b.size;
       heard = omega (arith, e.keeps.last, b.heard, ap (λ (v : CellView). v.heard) c.in-Held.ensures.reclaim.0);
-      gates = gates_to _ _ _ _ _ _ _ _ _ _ _ e.keeps.cells e.keeps.last e.numbers.next_claim (ap (λ z. z.items) e.keeps.claims) (ap (λ z. z.items) e.same)
-          (gates_same b.claimer _ b.pool.cells b.pool.last b.pool.next_claim b.pool.claims.items b.pool.reserved.items c.in-Held.ensures.reclaim.0 b.gates);
-      found = indexed_to _ _ _ (ap (λ z. z.items) e.keeps.claims) b.found;
+      gates = gates_to _ _ _ _ _ _ _ _ _ _ _ e.keeps.cells e.keeps.last e.numbers.next_claim e.keeps.claims (ap (λ z. z.items) e.same)
+          (gates_same b.claimer _ b.pool.cells b.pool.last b.pool.next_claim b.pool.claims b.pool.reserved.items c.in-Held.ensures.reclaim.0 b.gates);
+      found = index_to _ _ _ _ _ e.keeps.last e.keeps.claims b.found;
     }
 
 pub returns-in-Held-clause-held : goal.returns-in-Held-clause-held

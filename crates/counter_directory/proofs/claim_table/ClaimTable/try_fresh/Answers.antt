@@ -2,21 +2,21 @@ use Rattle.std.proofs.Common.{ap, ◌∙◌, arith}
 use Rattle.counter_cells.specs.declared.view.CellView.{CellView}
 use Rattle.counter_directory.proofs.Acquiring.{told_none, told_one}
 use Rattle.counter_directory.proofs.Opening.{fresh_cell, gates_to, gates_claimed, gates_same, held_since_reserved, held_since_same}
-use Rattle.counter_directory.proofs.Indexing.{indexed_to}
+use Rattle.counter_directory.proofs.Indexing.{index_to}
 use Rattle.counter_directory.proofs.claim_table.ClaimTable.try_fresh.Goals as goal
 
 pub invariant_of-self : goal.invariant_of-self
 invariant_of-self g c =
     let b = c.args.self.now in
-    let m = fresh_cell b.pool.cells b.pool.last b.pool.fresh _ b.pool.claims.items _ _ _ b.pool.reserved.items b.pool.cells_lawful in
+    let m = fresh_cell b.pool.cells b.pool.last b.pool.fresh _ b.pool.claims _ _ _ b.pool.reserved.items b.pool.cells_lawful in
     let e = c.reserve_fresh.ensures in
     record {
       size = e.keeps.cells ∙ b.size;
       heard = omega (arith, e.keeps.last, b.heard, ap (λ (v : CellView). v.heard) c.in-Claimed.ensures.reclaim.0);
-      gates = gates_to _ _ _ _ _ _ _ _ _ _ _ e.keeps.cells e.keeps.last e.next_claim (ap (λ z. z.items) e.keeps.claims) e.reserved
-          (gates_claimed b.claimer _ b.pool.cells b.pool.most b.pool.last b.pool.next_claim b.pool.fresh b.pool.claims.items b.pool.reserved.items c.requires.some m.0 m.1
+      gates = gates_to _ _ _ _ _ _ _ _ _ _ _ e.keeps.cells e.keeps.last e.next_claim e.keeps.claims e.reserved
+          (gates_claimed b.claimer _ b.pool.cells b.pool.most b.pool.last b.pool.next_claim b.pool.fresh b.pool.claims b.pool.reserved.items c.requires.some m.0 m.1
           b.pool.lawful c.in-Claimed.ensures.reclaim.0 b.gates);
-      found = indexed_to _ _ _ (ap (λ z. z.items) e.keeps.claims) b.found;
+      found = index_to _ _ _ _ _ e.keeps.last e.keeps.claims b.found;
     }
 
 pub invariant_of-self-in-Held : goal.invariant_of-self-in-Held
@@ -25,7 +25,7 @@ invariant_of-self-in-Held g c =
     record {
       size = b.size;
       heard = omega (arith, b.heard, ap (λ (v : CellView). v.heard) c.in-Held.ensures.reclaim.0);
-      gates = gates_same b.claimer _ b.pool.cells b.pool.last b.pool.next_claim b.pool.claims.items b.pool.reserved.items c.in-Held.ensures.reclaim.0 b.gates;
+      gates = gates_same b.claimer _ b.pool.cells b.pool.last b.pool.next_claim b.pool.claims b.pool.reserved.items c.in-Held.ensures.reclaim.0 b.gates;
       found = b.found;
     }
 

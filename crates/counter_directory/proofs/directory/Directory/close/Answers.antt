@@ -11,16 +11,17 @@ use Rattle.counter_directory.proofs.directory.Directory.close.Goals as goal
 
 pub returns-clause-lawful : goal.returns-clause-lawful
 returns-clause-lawful g c =
-    let b = c.close-pool.result in
-    let most : b.pool.most ≡ c.args.self.claims_max = c.close-pool.ensures.fixed ∙ ap (λ (o : DirectoryView). o.claims_max) c.self.view_is in
-    subst (λ (l : List Claim). IsLawfulClaims g.N.CellNaming.setup.cells c.args.self.claims_max l) (sym c.of.ensures)
-    (subst (λ n. IsLawfulClaims g.N.CellNaming.setup.cells n b.pool.claims.items) most (subst (λ n. IsLawfulClaims n b.pool.most b.pool.claims.items) b.size b.pool.lawful))
+    let b = c.into_inner-pool.result in
+    let most : b.pool.most ≡ c.args.self.claims_max = ap (λ t. t.pool.most) c.into_inner-pool.ensures ∙ c.close-table.ensures.fixed
+    ∙ ap (λ (o : DirectoryView). o.claims_max) c.self.view_is in
+    subst (λ n. IsLawfulClaims g.N.CellNaming.setup.cells n b.pool.claims) most (subst (λ n. IsLawfulClaims n b.pool.most b.pool.claims) b.size b.pool.lawful)
 
 pub returns-clause-prefixes : goal.returns-clause-prefixes
-returns-clause-prefixes g c = subst (λ (l : List Claim). All (λ p. IsPrefix (known p) l) c.args.passes.items) (sym c.of.ensures) c.close-pool.ensures.prefixes
+returns-clause-prefixes g c =
+    subst (λ (l : List Claim). All (λ p. IsPrefix (known p) l) c.args.passes.items) (ap (λ t. t.pool.claims) (sym c.into_inner-pool.ensures)) c.close-table.ensures.prefixes
 
 pub returns-clause-owned : goal.returns-clause-owned
 returns-clause-owned g c = λ n.
     let own = total (λ p. times n (view p).own) c.args.passes.items in
-    subst (λ (l : List Claim). IsOwnedOnce 0 (length l) n own) (sym c.of.ensures)
-    (subst (λ (l : List Claim). IsOwnedOnce (length l) (length c.close-pool.result.pool.claims.items) n own) c.self.invariant.3 (c.close-pool.ensures.owned n))
+    subst (λ (l : List Claim). IsOwnedOnce 0 (length l) n own) (ap (λ t. t.pool.claims) (sym c.into_inner-pool.ensures))
+    (subst (λ (l : List Claim). IsOwnedOnce (length l) (length c.close-table.result.table.value.pool.claims) n own) c.self.invariant.3 (c.close-table.ensures.owned n))

@@ -1,6 +1,0 @@
-use Rattle.std.proofs.Common.{[]}
-use Rattle.counter_directory.specs.Acquired.{PinsAfterMisses}
-use Rattle.counter_directory.proofs.claim_table.ClaimTable.pin_one.Given as goal
-
-abbrev pub invariant-loop-round : goal.invariant-loop-round
-invariant-loop-round g l = PinsAfterMisses [] l.initial.cell_pass l.cell_pass

@@ -1,0 +1,41 @@
+// Where the counters of a call are found.
+ghost use Rattle.std.specs.Prelude.{◌≡◌, ◌≤◌, ℕ, length, true, IfSome, IfNone};
+ghost use Rattle.rate_types.specs.declared.limits.TheConstants.{MOST_PINS};
+ghost use Rattle.rate_types.specs.declared.counter_key.CounterKey.{CounterKey};
+ghost use Rattle.counter_directory.specs.Claims.{claims_of, bindings_of};
+ghost use Rattle.counter_directory.specs.Keys.{key_at, keys_at, key_count};
+ghost use Rattle.counter_directory.specs.Spots.{Bound};
+
+use crate::claim_table::ClaimTable;
+use arrayvec::ArrayVec;
+use counter_cells::{CellNaming, Spot};
+use rate_types::CounterName;
+
+impl<N: CellNaming> ClaimTable<N> {
+    /// Where a claim binds the counter of the name, in the window of the last moment. None exactly where it has no claim.
+    pub(crate) fn find(&self, name: &CounterName) -> Option<Spot>
+        ensures bound { IfSome result (λ s. 1 ≤ bindings_of (key_at self.now.pool.last name.now) s.cell s.claim self.now.pool.claims) }
+        ensures none { IfNone result (claims_of (key_at self.now.pool.last name.now) self.now.pool.claims ≡ 0) }
+    {
+        let unit = usize::from(name.unit.rank());
+        self.index[unit].spots.get(name).copied()
+    }
+
+    /// Where claims bind the counters of the names, in order. False where one of them has no claim.
+    pub(crate) fn find_all(&self, names: &[CounterName], spots: &mut ArrayVec<Spot, 32>) -> bool
+        requires names { length names.now ≤ MOST_PINS }
+        ensures bound { result ≡ true → (length spots.new.items ≡ length names.now)
+            × Bound self.now.pool.claims (keys_at self.now.pool.last names.now) spots.new.items }
+        ensures found { ((q : CounterKey) → 1 ≤ key_count q (keys_at self.now.pool.last names.now) → 1 ≤ claims_of q self.now.pool.claims)
+            → result ≡ true }
+    {
+        spots.clear();
+        for name in names {
+            let Some(spot) = self.find(name) else {
+                return false;
+            };
+            spots.push(spot);
+        }
+        true
+    }
+}

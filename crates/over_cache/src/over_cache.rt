@@ -1,0 +1,97 @@
+ghost use Rattle.std.specs.Prelude.{◌≡◌, List, [], ◌∷◌, false, length, None, IfOk, IsSome, IsOk, OnOk, OnErr};
+ghost use Rattle.std.specs.Bool.{IsTrue};
+ghost use Rattle.over_cache.specs.Entries.{known_of, asked, noted, AreEntries};
+ghost use Rattle.over_cache.specs.Uses.{Use, Asked, Noted, Remembers};
+
+use crate::Known;
+use counter_cells::Spot;
+use lru::LruCache;
+use rate_types::OutOfMemory;
+use std::alloc::Global;
+use std::hash::RandomState;
+use std::marker::Model;
+use std::num::NonZeroUsize;
+
+/// How many keys are known at most.
+pub const MOST_KNOWN: usize = 1_024;
+
+/// What a pass knows of the counters that it used last. Contracts see it as `Entries`: the keys with what is known of them,
+/// the key used last first.
+#[derive(Drop)]
+pub struct OverCache {
+    alloc: Global,
+    keys: LruCache<Vec<u8>, Known, RandomState>,
+}
+
+impl Model for OverCache {
+    ghost use Rattle.std.specs.Prelude.{◌≡◌, map};
+    ghost use Rattle.over_cache.specs.Entries.{Entries};
+    ghost use Rattle.over_cache.specs.declared.over_cache.TheConstants.{MOST_KNOWN};
+
+    ghost Value = { Entries };
+
+    ghost view = { λ c. map (λ e. (e.0.items, e.1)) c.keys.entries };
+
+    ghost invariant = { λ c. c.keys.cap ≡ MOST_KNOWN };
+}
+
+impl OverCache {
+    /// Nothing is known. The hashes of the keys go by `seed`, so that nobody can choose keys that collide.
+    pub fn make(alloc: Global, seed: RandomState) -> Result<OverCache, OutOfMemory>
+        ensures none { IfOk result (λ c. c ≡ []) }
+        ensures remembers { IfOk result (λ c. Remembers [] c) }
+    {
+        let most = NonZeroUsize::new(MOST_KNOWN).unwrap();
+        let keys = LruCache::with_hasher(alloc, most, seed)?;
+        Ok(OverCache { alloc, keys })
+    }
+
+    /// How many keys are known: at most 1,024, which differ.
+    pub fn len(&self) -> usize
+        ensures len { result ≡ length self.now }
+        ensures entries { AreEntries self.now }
+    {
+        self.keys.len()
+    }
+
+    /// What is known of the key, which is then the one used last. It takes no memory.
+    pub fn known(&mut self, key: &[u8]) -> Option<Known>
+        ensures known { result ≡ known_of key.now self.old }
+        ensures order { self.new ≡ asked key.now self.old }
+        ensures remembers { (uses : List Use) → Remembers uses self.old → Remembers (Asked key.now ∷ uses) self.new }
+    {
+        self.keys.get(key).copied()
+    }
+
+    // Notes a spot and a value of a key that is known. It takes no memory.
+    fn note_known(&mut self, key: &[u8], spot: Spot, seen: u64) -> bool
+        ensures noted { IsTrue result → self.new ≡ noted key.now spot seen self.old }
+        ensures other { result ≡ false → (self.new ≡ self.old) × (known_of key.now self.old ≡ None) }
+    {
+        let _number = self.keys.len();
+        let Some(known) = self.keys.get_mut(key) else {
+            return false;
+        };
+        *known = known.noted_over(spot, seen);
+        true
+    }
+
+    /// Notes the spot of the key's counter and a value that was seen there: the greater value is known for an equal claim,
+    /// else the new pair. The key is then the one used last, and of more than 1,024 the one used first goes.
+    ///
+    /// It takes no memory where the key is known. A refused note changes nothing.
+    pub fn note(&mut self, key: &[u8], spot: Spot, seen: u64) -> Result<(), OutOfMemory>
+        ensures noted { OnOk result (self.new ≡ noted key.now spot seen self.old) }
+        ensures remembers { OnOk result
+            ((uses : List Use) → Remembers uses self.old → Remembers (Noted key.now spot seen ∷ uses) self.new) }
+        ensures refused { OnErr result (self.new ≡ self.old) }
+        ensures known { IsSome (known_of key.now self.old) → IsOk result }
+    {
+        if self.note_known(key, spot, seen) {
+            return Ok(());
+        }
+        let key = key.to_vec(self.alloc)?;
+        self.keys.put(key, Known { spot, seen })?;
+        Ok(())
+    }
+}
