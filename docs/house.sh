@@ -1,6 +1,6 @@
 #!/usr/bin/env bash
 # Draws docs/house.png from crates.txt: the crates in five groups, and an arrow from each to those that stand on it (but
-# for arrows that follow from others). It needs graphviz. usage: docs/house.sh
+# for arrows that follow from others, and the crates of tests). It needs graphviz. usage: docs/house.sh
 set -eu
 here=$(cd "$(dirname "${BASH_SOURCE[0]}")" && pwd)
 declare -A group_of=()
@@ -8,7 +8,7 @@ while read -r group crates; do
     for crate in $crates; do group_of[$crate]=$group; done
 done <<'GROUPS'
 base rate_types rate_io text_lines proto_json
-counters window_keys told_list config_versions counter_cells counter_directory
+counters window_keys told_list config_versions counter_cells counter_directory over_cache
 checks descriptor_tree config_json rule_lookup rls_core reply_text drive_run
 quota agenda quota_bucket quota_settings quota_settings_json quota_buckets quota_lines quota_stream
 faces ratelimit_cli ratelimit
@@ -27,6 +27,7 @@ graph() {
     done
     while IFS=: read -r head words; do
         crate=${head%% *}
+        case $crate in *_tests) continue ;; esac
         [ -n "${group_of[$crate]:-}" ] || { printf '%s has no group\n' "$crate" >&2; exit 1; }
         for low in $words; do
             [ -z "${group_of[$low]:-}" ] || printf ' %s -> %s;\n' "$low" "$crate"

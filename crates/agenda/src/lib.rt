@@ -9,7 +9,5 @@
 
 mod agenda;
 mod row;
-#[cfg(test)]
-mod tests;
 
 pub use agenda::Agenda;

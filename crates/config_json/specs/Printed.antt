@@ -2,7 +2,7 @@
 -- and in byte order.
 use Rattle.std.specs.Prelude.{ℕ, zero, suc, List, [], ◌∷◌, Bool, true, false, Option, Some, None, option_map, codes}
 use Rattle.rate_types.specs.declared.unit.Unit.{Unit}
-use Rattle.rate_types.specs.declared.unit.Unit.TheVariants.{Second, Minute, Hour, Day}
+use Rattle.rate_types.specs.UnitNames.{unit_name}
 use Rattle.serde_json.specs.Data.{Data, boolean, number, string, array, object, unsigned, Items, no_items, item}
 use Rattle.serde_json.specs.Data.{Members, no_members, member}
 use Rattle.descriptor_tree.specs.declared.policy.Policy.{Policy}
@@ -39,11 +39,9 @@ list_there (item d ds) = Some (array (item d ds))
 
 -- ---- a rule
 
+-- the name of a unit
 abbrev pub unit_json : Unit → Data
-unit_json Second = string (codes "SECOND")
-unit_json Minute = string (codes "MINUTE")
-unit_json Hour = string (codes "HOUR")
-unit_json Day = string (codes "DAY")
+unit_json unit = string (unit_name unit)
 
 -- names, each as an object `{"name":n}`
 abbrev pub names_json : List (List ℕ) → Items

@@ -24,6 +24,3 @@ pub use file::tree_of;
 pub use print_tree::print_config;
 pub use read::read_config;
 use rule::Rule;
-
-#[cfg(test)]
-mod tests;

@@ -99,12 +99,7 @@ pub fn list_there(items: Vec<Value>) -> Option<Value>
 fn unit_text(alloc: Global, unit: Unit) -> Result<Value, OutOfMemory>
     ensures { IfOk result (λ v. view v ≡ printed.unit_json unit) }
 {
-    match unit {
-        Unit::Second => text(alloc, "SECOND"),
-        Unit::Minute => text(alloc, "MINUTE"),
-        Unit::Hour => text(alloc, "HOUR"),
-        Unit::Day => text(alloc, "DAY"),
-    }
+    text(alloc, unit.name())
 }
 
 // An object `{"name":n}`.

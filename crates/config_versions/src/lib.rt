@@ -26,6 +26,3 @@ pub use fault::InstallFault;
 pub use pass::VersionPass;
 pub use version_log::VersionLog;
 pub use versions::{ClosedVersions, Versions};
-
-#[cfg(test)]
-mod tests;

@@ -38,20 +38,6 @@ get_mid (y ∷ ys) x zs = get_mid ys x zs
 pub at_mid : {A : Type 0} (P : A → Type 0) (ys : List A) (x : A) (zs l : List A) → ys ++ x ∷ zs ≡ l → All P l → P x
 at_mid P ys x zs l e h = subst P (ap (λ m. get_or m (length ys) x) (sym e) ∙ get_mid ys x zs) (h (length ys) x (let n = ap length e in omega (arith, length-append ys (x ∷ zs))))
 
--- what holds of all items holds of the parts, and of one more
-pub all_push : {A : Type 0} (P : A → Type 0) (xs : List A) (y : A) → All P xs → P y → All P (xs ++ y ∷ [])
-all_push P [] y h p zero d l = p
-all_push P [] y h p (suc k) d l = absurd (omega arith)
-all_push P (x ∷ xs) y h p zero d l = h 0 d (omega arith)
-all_push P (x ∷ xs) y h p (suc k) d l = all_push P xs y (λ j e m. h (suc j) e (omega arith)) p k d (omega arith)
-
-pub all_maybe : {A : Type 0} (P : A → Type 0) (xs : List A) (y : A) (b : Bool) → All P xs → P y → All P (cond b (xs ++ y ∷ []) xs)
-all_maybe P xs y true h p = all_push P xs y h p
-all_maybe P xs y false h p = h
-
-pub all_tail : {A : Type 0} (P : A → Type 0) (x : A) (xs : List A) → All P (x ∷ xs) → P x × All P xs
-all_tail P x xs h = (h 0 x (omega arith), λ k d l. h (suc k) d (omega arith))
-
 pub at_within : {A : Type 0} (l : List A) (i : ℕ) (x : A) → get_elem? l i ≡ some x → i < length l
 at_within [] i x e = absurd (some-ne-none x (sym e))
 at_within (y ∷ ys) zero x e = omega arith

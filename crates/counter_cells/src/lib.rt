@@ -44,6 +44,3 @@ pub use opened::OpenedCells;
 pub use pass::CellPass;
 pub use setup::Setup;
 pub use view::{Cell, CellView, Charge, OtherGate, Tick};
-
-#[cfg(test)]
-mod tests;

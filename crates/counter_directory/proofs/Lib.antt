@@ -14,4 +14,3 @@ mod Starting
 mod Holding
 mod Turning
 mod Unpinning
-mod Elements

@@ -30,6 +30,3 @@ pub use claim::{Claim, Claims};
 pub use closed::{ClosedDirectory, OpenClaim};
 pub use directory::{Directory, DirectoryPass, claims};
 pub use pins::give_back;
-
-#[cfg(test)]
-mod tests;

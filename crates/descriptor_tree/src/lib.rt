@@ -23,6 +23,3 @@ pub use node::{Forest, Node};
 pub use policy::Policy;
 pub use texts::Texts;
 pub use tree::Tree;
-
-#[cfg(test)]
-mod tests;

@@ -16,6 +16,3 @@ mod within;
 pub use line::Line;
 pub use run::{Driven, drive_script};
 pub use script::{Script, ScriptFault};
-
-#[cfg(test)]
-mod tests;

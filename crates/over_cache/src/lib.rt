@@ -16,6 +16,3 @@ mod over_cache;
 
 pub use known::Known;
 pub use over_cache::{MOST_KNOWN, OverCache};
-
-#[cfg(test)]
-mod tests;

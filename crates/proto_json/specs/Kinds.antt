@@ -4,6 +4,7 @@ use Rattle.std.specs.Str.{str_eq_ignore_ascii_case}
 use Rattle.std.specs.Str.Parse.{digits_value}
 use Rattle.rate_types.specs.declared.unit.Unit.{Unit}
 use Rattle.rate_types.specs.declared.unit.Unit.TheVariants.{Second, Minute, Hour, Day}
+use Rattle.rate_types.specs.UnitNames.{unit_name}
 use Rattle.rate_types.specs.Durations as durations
 use Rattle.rate_types.specs.declared.duration.DurationFault.{DurationFault}
 use Rattle.rate_types.specs.declared.duration.DurationFault.TheVariants.{Bad, TooLong, TooFine}
@@ -90,10 +91,10 @@ uint64 = whole 18446744073709551615
 
 -- the unit of a name in either ASCII case, none for UNKNOWN, or 8 UnknownName
 abbrev pub unit_named : List ℕ → Result (Option Unit) ℕ
-unit_named name = if str_eq_ignore_ascii_case name (codes "SECOND") then Ok (Some Second)
-    else (if str_eq_ignore_ascii_case name (codes "MINUTE") then Ok (Some Minute)
-    else (if str_eq_ignore_ascii_case name (codes "HOUR") then Ok (Some Hour)
-    else (if str_eq_ignore_ascii_case name (codes "DAY") then Ok (Some Day)
+unit_named name = if str_eq_ignore_ascii_case name (unit_name Second) then Ok (Some Second)
+    else (if str_eq_ignore_ascii_case name (unit_name Minute) then Ok (Some Minute)
+    else (if str_eq_ignore_ascii_case name (unit_name Hour) then Ok (Some Hour)
+    else (if str_eq_ignore_ascii_case name (unit_name Day) then Ok (Some Day)
     else (if str_eq_ignore_ascii_case name (codes "UNKNOWN") then Ok None else Err UNKNOWN_NAME))))
 
 abbrev pub placed_unit : List ℕ → Result (Option Unit) ℕ → Said (Option Unit)

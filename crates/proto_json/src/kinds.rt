@@ -99,13 +99,13 @@ fn is_named(text: &str, name: &str) -> bool
 pub fn unit_named(name: &str) -> Result<Option<Unit>, u32>
     ensures { result ≡ kinds.unit_named name.now }
 {
-    if is_named(name, "SECOND") {
+    if is_named(name, Unit::Second.name()) {
         Ok(Some(Unit::Second))
-    } else if is_named(name, "MINUTE") {
+    } else if is_named(name, Unit::Minute.name()) {
         Ok(Some(Unit::Minute))
-    } else if is_named(name, "HOUR") {
+    } else if is_named(name, Unit::Hour.name()) {
         Ok(Some(Unit::Hour))
-    } else if is_named(name, "DAY") {
+    } else if is_named(name, Unit::Day.name()) {
         Ok(Some(Unit::Day))
     } else if is_named(name, "UNKNOWN") {
         Ok(None)

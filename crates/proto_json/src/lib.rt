@@ -41,6 +41,3 @@ pub use named_members::{NamedMember, read_members};
 pub use numbers::read_whole;
 pub use placed::{List, Placed};
 pub use texts::{ShortText, read_text};
-
-#[cfg(test)]
-mod tests;

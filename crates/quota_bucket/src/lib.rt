@@ -14,8 +14,6 @@ mod meter;
 mod moments;
 mod rules;
 mod strategy;
-#[cfg(test)]
-mod tests;
 mod timed_phase;
 
 pub use bucket_state::{Advance, Asked, BucketState, Usage};

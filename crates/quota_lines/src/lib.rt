@@ -22,6 +22,3 @@ pub use bucket_action::{BucketAction, BucketActions};
 pub use quota_action::QuotaAction;
 pub use read_line::read_stream_line;
 pub use stream_line::{Connection, StreamEvent, StreamLine};
-
-#[cfg(test)]
-mod tests;

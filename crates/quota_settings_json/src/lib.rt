@@ -21,6 +21,3 @@ pub use attributes::{read_attributes, take_attributes};
 pub use behaviors::take_empty;
 pub use settings_file::read_settings;
 pub use strategies::{read_strategy, take_strategy};
-
-#[cfg(test)]
-mod tests;

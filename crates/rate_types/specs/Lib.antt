@@ -1,4 +1,5 @@
 pub mod Units
+pub mod UnitNames
 pub mod Places
 pub mod Durations
 pub mod Counters

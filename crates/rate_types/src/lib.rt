@@ -42,6 +42,3 @@ pub use seconds::Seconds;
 pub use text::{Text, TextFault};
 pub use unit::Unit;
 pub use word::{Names, Word};
-
-#[cfg(test)]
-mod tests;

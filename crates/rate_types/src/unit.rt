@@ -1,5 +1,6 @@
 ghost use Rattle.std.specs.Prelude.{◌≡◌};
 ghost use Rattle.rate_types.specs.Units.{seconds_of, unit_rank};
+ghost use Rattle.rate_types.specs.UnitNames.{unit_name};
 
 /// The length of a window: Envoy's `RateLimitUnit` without WEEK, MONTH and YEAR. Second is the least.
 #[derive(Clone, Copy, Debug, PartialEq, Eq, PartialOrd, Ord, Hash)]
@@ -24,6 +25,18 @@ impl Unit {
             Unit::Minute => 60,
             Unit::Hour => 3600,
             Unit::Day => 86400,
+        }
+    }
+
+    /// The name that Envoy's API gives it, in upper case.
+    pub fn name(self) -> &'static str
+        ensures { result.now ≡ unit_name self }
+    {
+        match self {
+            Unit::Second => "SECOND",
+            Unit::Minute => "MINUTE",
+            Unit::Hour => "HOUR",
+            Unit::Day => "DAY",
         }
     }
 

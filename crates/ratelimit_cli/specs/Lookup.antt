@@ -13,7 +13,8 @@ use Rattle.descriptor_tree.specs.Trees.{DomainTree}
 use Rattle.rule_lookup.specs.declared.found.Found.{Found}
 use Rattle.rule_lookup.specs.declared.found.Found.TheVariants.{NoRule, Unlimited, Limited}
 use Rattle.rule_lookup.specs.Rule.{rule_of}
-use Rattle.reply_text.specs.Texts.{whole, unit_name, refused_data}
+use Rattle.rate_types.specs.UnitNames.{unit_name}
+use Rattle.reply_text.specs.Texts.{whole, refused_data}
 use Rattle.reply_text.specs.ReadRequest.{request}
 use Rattle.text_lines.specs.Lines.{cut}
 use Rattle.ratelimit_cli.specs.Output.{with_line_feed}

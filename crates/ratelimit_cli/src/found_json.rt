@@ -8,7 +8,7 @@ ghost use Rattle.ratelimit_cli.specs.Lookup as texts;
 ghost use Rattle.reply_text.specs.Texts as names;
 
 use rate_types::{Request, RuleId};
-use reply_text::{array_value, unit_name};
+use reply_text::array_value;
 use rule_lookup::{Found, Index, lookup};
 use serde_json::{Number, Value, json};
 use std::alloc::{AllocError, Global};
@@ -58,7 +58,7 @@ fn found_value(alloc: Global, found: Found) -> Result<Value, AllocError>
             unit,
             shadow,
             rule,
-        } => limited_value(alloc, limit, rule_value(rule), shadow, unit_name(unit)),
+        } => limited_value(alloc, limit, rule_value(rule), shadow, unit.name()),
     }
 }
 

@@ -8,7 +8,8 @@ use Rattle.rate_types.specs.declared.request.OwnLimit.{OwnLimit}
 use Rattle.rls_core.specs.declared.status.Count.{Count}
 use Rattle.rls_core.specs.declared.status.Count.TheVariants.{NoCount, Before, Seen}
 use Rattle.rls_core.specs.declared.status.Status.{Status}
-use Rattle.reply_text.specs.Texts.{whole, member_unless, unit_name, limit_data, limit_members, status_data, count_data, entry_data}
+use Rattle.rate_types.specs.UnitNames.{unit_name}
+use Rattle.reply_text.specs.Texts.{whole, member_unless, limit_data, limit_members, status_data, count_data, entry_data}
 
 pub items_whole : {X : Type 0} (f : X → Data) → ((x : X) → has_float (f x) ≡ false) → (xs : List X) → items_have_float (items_of (map f xs)) ≡ false
 items_whole f each [] = refl

@@ -3,8 +3,7 @@ use Rattle.std.specs.Prelude.{ℕ, ◌==◌, List, ◌++◌, map, Bool, if◌the
 use Rattle.serde_json.specs.Data.{Data, null, number, unsigned, string, array, object, Members, no_members, member}
 use Rattle.serde_json.specs.View.{items_of}
 use Rattle.serde_json.specs.Written.{compact_text}
-use Rattle.rate_types.specs.declared.unit.Unit.{Unit}
-use Rattle.rate_types.specs.declared.unit.Unit.TheVariants.{Second, Minute, Hour, Day}
+use Rattle.rate_types.specs.UnitNames.{unit_name}
 use Rattle.rate_types.specs.declared.entries.Entry.{Entry}
 use Rattle.rate_types.specs.declared.request.OwnLimit.{OwnLimit}
 use Rattle.rate_types.specs.declared.refused.Refused.{Refused}
@@ -28,13 +27,6 @@ whole n = number (unsigned n)
 -- a member that is left out under a condition
 abbrev pub member_unless : Bool → List ℕ → Data → Members → Members
 member_unless b name value ms = if b then ms else member name value ms
-
--- the name of a unit
-abbrev pub unit_name : Unit → List ℕ
-unit_name Second = codes "SECOND"
-unit_name Minute = codes "MINUTE"
-unit_name Hour = codes "HOUR"
-unit_name Day = codes "DAY"
 
 -- the name of a code
 abbrev pub code_name : Code → List ℕ

@@ -21,13 +21,9 @@ mod statuses;
 mod total_json;
 
 pub use array::array_value;
-pub use names::unit_name;
 pub use record::{Outcome, Record, Records};
 pub use record_json::{record_text, record_value, refused_value};
 pub use reply::{reply_body, reply_value};
 pub use request::read_request;
 pub use statuses::Statuses;
 pub use total_json::{total_text, total_value};
-
-#[cfg(test)]
-mod tests;

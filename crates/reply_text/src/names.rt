@@ -1,21 +1,8 @@
-// The names of units and codes.
+// The names of codes.
 ghost use Rattle.std.specs.Prelude.{◌≡◌};
 ghost use Rattle.reply_text.specs.Texts as texts;
 
-use rate_types::Unit;
 use rls_core::Code;
-
-/// The name of a unit in JSON.
-pub fn unit_name(unit: Unit) -> &'static str
-    ensures { result.now ≡ texts.unit_name unit }
-{
-    match unit {
-        Unit::Second => "SECOND",
-        Unit::Minute => "MINUTE",
-        Unit::Hour => "HOUR",
-        Unit::Day => "DAY",
-    }
-}
 
 /// The name of a code in JSON.
 pub fn code_name(code: Code) -> &'static str

@@ -6,7 +6,7 @@ ghost use Rattle.reply_text.specs.Texts as texts;
 
 use crate::Statuses;
 use crate::array::array_value;
-use crate::names::{code_name, overall_code, unit_name};
+use crate::names::{code_name, overall_code};
 use rate_types::{OutOfMemory, OwnLimit};
 use rls_core::{Count, Status};
 use serde_json::{Value, json};
@@ -16,7 +16,7 @@ fn limit_value(alloc: Global, own: OwnLimit) -> Result<Value, AllocError>
     ensures value { IfOk result (λ v. view v ≡ texts.limit_data own) }
     ensures whole { IfOk result (λ v. has_float (view v) ≡ false) }
 {
-    let unit = unit_name(own.unit);
+    let unit = own.unit.name();
     if own.limit == 0 {
         json!(in alloc; {"unit": unit})
     } else {

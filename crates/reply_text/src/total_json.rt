@@ -5,7 +5,6 @@ ghost use Rattle.serde_json.specs.Written.{has_float};
 ghost use Rattle.reply_text.specs.Texts as texts;
 
 use crate::array::array_value;
-use crate::names::unit_name;
 use rate_types::{CounterKey, Entry, OutOfMemory};
 use rls_core::Total;
 use serde_json::{Value, json};
@@ -40,7 +39,7 @@ fn counter_value(alloc: Global, counter: &CounterKey) -> Result<Value, AllocErro
 {
     let entries = entries_value(alloc, counter.name.entries.items())?;
     let domain = counter.name.domain.as_str();
-    let unit = unit_name(counter.name.unit);
+    let unit = counter.name.unit.name();
     let start = counter.start.get();
     json!(in alloc; {"domain": domain, "entries": entries, "start": start, "unit": unit})
 }

@@ -22,6 +22,3 @@ pub use plain::Plain;
 pub use reply::Reply;
 pub use status::{Code, Count, Status, status_for};
 pub use totals::{Total, Totals};
-
-#[cfg(test)]
-mod tests;

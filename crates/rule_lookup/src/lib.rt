@@ -24,6 +24,3 @@ mod rules;
 pub use found::Found;
 pub use index::{Index, lookup};
 pub use rules::{Rules, find_rules};
-
-#[cfg(test)]
-mod tests;

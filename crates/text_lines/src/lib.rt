@@ -6,7 +6,5 @@
 #![tactic(auto)]
 
 mod cut;
-#[cfg(test)]
-mod tests;
 
 pub use cut::cut_line;

@@ -27,6 +27,3 @@ pub use act::Act;
 pub use kept::Kept;
 pub use seen::Seen;
 pub use told::Told;
-
-#[cfg(test)]
-mod tests;

@@ -12,6 +12,3 @@ mod window;
 pub use counter::{counter_at, end_of};
 pub use key::{KeyBuffer, write_key};
 pub use window::{end, reset, start};
-
-#[cfg(test)]
-mod tests;

@@ -1,5 +1,0 @@
-use Rattle.config_versions.specs.Passes.{IsPassOf}
-use Rattle.config_versions.proofs.tests.fill.Given as goal
-
-abbrev pub invariant-loop : goal.invariant-loop
-invariant-loop g l = IsPassOf l.versions l.pass

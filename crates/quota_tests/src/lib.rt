@@ -1,0 +1,11 @@
+//! Tests of quota buckets, their settings and the lines of recorded streams. They stand in a crate of their own, since a crate with tests is proved twice.
+#![tactic(auto)]
+
+#[cfg(test)]
+mod bucket;
+#[cfg(test)]
+mod events;
+#[cfg(test)]
+mod moments;
+#[cfg(test)]
+mod settings;

@@ -1,0 +1,48 @@
+use agenda::Agenda;
+use std::alloc::Global;
+use std::test::Fail;
+
+// The indices that a moment reaches, each with a space after it.
+fn reached(alloc: Global, agenda: &Agenda, at: u64) -> Result<String, Fail> {
+    let mut told = String::new(alloc);
+    for index in agenda.reached(alloc, at)? {
+        told.push_str(&format!(in alloc; "{index} ")?)?;
+    }
+    Ok(told)
+}
+
+#[test]
+fn an_agenda_tells_what_a_moment_reaches(rt: HostRuntime) -> Result<(), Fail> {
+    let alloc = rt.alloc();
+    let mut moments = Vec::new(alloc);
+    for moment in [50, 10, 90, 30, 70] {
+        moments.push(moment)?;
+    }
+    let mut agenda = Agenda::of(alloc, moments)?;
+    let rows = [
+        (9, ""),
+        (10, "1 "),
+        (49, "1 3 "),
+        (50, "0 1 3 "),
+        (90, "0 1 2 3 4 "),
+    ];
+    for (at, want) in rows {
+        assert_eq!(rt; reached(alloc, &agenda, at)?.as_str(), want, "at {at}");
+    }
+    assert_eq!(rt; agenda.len(), 5);
+    agenda.set(4, 5);
+    agenda.set(1, 91);
+    let rows = [(4, ""), (30, "3 4 "), (90, "0 2 3 4 "), (91, "0 1 2 3 4 ")];
+    for (at, want) in rows {
+        assert_eq!(rt; reached(alloc, &agenda, at)?.as_str(), want, "at {at}");
+    }
+    Ok(())
+}
+
+#[test]
+fn an_empty_agenda_has_no_index(rt: HostRuntime) -> Result<(), Fail> {
+    let agenda = Agenda::empty(rt.alloc());
+    assert_eq!(rt; agenda.len(), 0);
+    assert_eq!(rt; reached(rt.alloc(), &agenda, u64::MAX)?.as_str(), "");
+    Ok(())
+}
