@@ -1,0 +1,9 @@
+//! What a line of a script says, and which records are a lawful run of a script by any number of workers.
+//!
+//! A [`Line`] is an event or a refusal. `specs/Run.antt` relates the lines of a script to the records of a run: each clause
+//! stands in a file of its own. No word of it speaks of threads, cells or locks: it is said of lines and of records alone.
+#![tactic(auto)]
+
+mod line;
+
+pub use line::Line;
