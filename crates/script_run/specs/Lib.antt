@@ -12,3 +12,5 @@ pub mod Refusals
 pub mod Sequential
 pub mod Totals
 pub mod Run
+pub mod Merged
+pub mod Places

@@ -1,5 +1,5 @@
 -- Which counters the checks of a run name, and which of them were given cells.
-use Rattle.std.specs.Prelude.{◌≡◌, ℕ, ◌≤◌, ◌==◌, ◌&&◌, ◌||◌, not, List, [], ◌∷◌, ◌++◌, length, Bool, true, nat_lt, count_by, if◌then◌else◌}
+use Rattle.std.specs.Prelude.{◌≡◌, ℕ, ◌≤◌, List, [], ◌∷◌, ◌++◌, length, Bool, true, nat_lt, count_by, if◌then◌else◌}
 use Rattle.std.specs.List.{AllByRecursion, list_any}
 use Rattle.rate_types.specs.Counters.{same_counter}
 use Rattle.rate_types.specs.declared.counter_key.CounterKey.{CounterKey}
