@@ -1,0 +1,9 @@
+use Rattle.std.proofs.Common.{◌≡◌, ◌+◌, ◌≤◌, vec_len, vec_capacity}
+use Rattle.line_numbers.specs.Drawers.{numbers_of}
+use Rattle.line_numbers.proofs.tests.draw_all.Given as goal
+
+abbrev pub invariant-loop : goal.invariant-loop
+invariant-loop l = record {
+  here : numbers_of l.drawer ≡ numbers_of l.initial.drawer;
+  room : vec_len l.drawn + 10000 ≤ vec_capacity l.drawn + l.counter;
+}

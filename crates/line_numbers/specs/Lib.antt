@@ -1,0 +1,4 @@
+pub mod Rising
+pub mod Rule
+pub mod Drawers
+pub mod Joins

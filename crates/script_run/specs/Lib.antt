@@ -1,0 +1,16 @@
+pub mod ScriptLine
+pub mod Lines
+pub mod Views
+pub mod Kinds
+pub mod Versions
+pub mod Replies
+pub mod Moments
+pub mod Charges
+pub mod Values
+pub mod Named
+pub mod Refusals
+pub mod Sequential
+pub mod Totals
+pub mod Run
+pub mod Merged
+pub mod Places

@@ -1,0 +1,16 @@
+//! What a line of a script says, and which records are a lawful run of a script by any number of workers.
+//!
+//! A [`Line`] is an event or a refusal. `specs/Run.antt` relates the lines of a script to the records of a run: each clause
+//! stands in a file of its own. No word of it speaks of threads, cells or locks: it is said of lines and of records alone.
+//!
+//! Each worker writes the records of its lines into a journal of its own. [`merge`] puts the records of all journals in the
+//! order of their lines.
+#![tactic(auto)]
+
+mod line;
+mod merging;
+#[cfg(test)]
+mod tests;
+
+pub use line::Line;
+pub use merging::merge;

@@ -1,0 +1,44 @@
+ghost use Rattle.std.specs.Prelude.{◌≡◌};
+
+use crate::merge;
+use rate_types::{OutOfMemory, Seconds};
+use reply_text::{Outcome, Record, Records};
+use std::alloc::Global;
+use std::test::Fail;
+
+fn record(line: u32, worker: u32) -> Record
+    ensures { result.line ≡ line }
+{
+    Record {
+        line,
+        worker,
+        version: 0,
+        moment: Seconds::capped(7),
+        outcome: Outcome::Installed,
+    }
+}
+
+// A journal of one record for each of two lines, the second line's first.
+fn merge_two(alloc: Global, first: Record, second: Record) -> Result<Records, OutOfMemory>
+    requires { (first.line ≡ 1) × (second.line ≡ 2) }
+{
+    let mut one = Vec::with_capacity(alloc, 1)?;
+    one.push_reserved(second);
+    let mut two = Vec::with_capacity(alloc, 1)?;
+    two.push_reserved(first);
+    let mut journals = Vec::with_capacity(alloc, 2)?;
+    journals.push_reserved(Records::of(one));
+    journals.push_reserved(Records::of(two));
+    merge(alloc, 2, journals)
+}
+
+#[test]
+fn records_come_in_the_order_of_their_lines(rt: HostRuntime) -> Result<(), Fail> {
+    let records = merge_two(rt.alloc(), record(1, 5), record(2, 3))?;
+    let [first, second] = records.items() else {
+        return Err("two records".into());
+    };
+    assert_eq!(rt; (first.line, first.worker), (1, 5));
+    assert_eq!(rt; (second.line, second.worker), (2, 3));
+    Ok(())
+}
