@@ -3,3 +3,4 @@ pub mod Content
 pub mod Events
 pub mod Stored
 pub mod Calls
+pub mod Links

@@ -1,6 +1,7 @@
 use crate::{
-    Failed, FileFault, Files, HostFiles, MemFile, MemFiles, MemSink, MemSource, ReaderSource, Sink,
-    Source, SureSink, SureSource, WriterSink, read_up_to,
+    Clock, Failed, FileFault, Files, FixedClock, HostClock, HostFiles, Link, MemFile, MemFiles,
+    MemLink, MemSink, MemSource, ReaderSource, Sink, Source, StreamLink, SureSink, SureSource,
+    WriterSink, read_up_to,
 };
 use rate_types::{Blob, Word};
 use std::alloc::Global;
@@ -130,4 +131,62 @@ fn sure_objects_and_adapters_pass_the_bytes_on(rt: HostRuntime) -> Result<(), Fa
     let mut writer = WriterSink::new(Vec::new(alloc));
     assert_eq!(rt; writer.write(b"ab"), Ok(()));
     Ok(())
+}
+
+// The answers of three calls of a link: a read of at most 4 bytes, a write and a read.
+fn ask_and_answer<L: Link>(link: &mut L) -> [Option<usize>; 3] {
+    let mut buf = [0u8; 4];
+    let first = link.read(&mut buf).ok();
+    let second = link.write(b"xy").map(|()| 2).ok();
+    let third = link.read(&mut buf).ok();
+    [first, second, third]
+}
+
+// These bytes were written.
+fn has_written(link: &MemLink, want: &str) -> bool {
+    match link.written() {
+        Some(bytes) => bytes == want.as_bytes(),
+        None => false,
+    }
+}
+
+#[test]
+fn a_link_in_memory_fails_where_it_is_told_to(rt: HostRuntime) -> Result<(), Fail> {
+    let alloc = rt.alloc();
+    for (failing, most, want, out) in [
+        (0, 9, [Some(4), Some(2), Some(2)], "xy"),
+        (0, 1, [Some(1), Some(2), Some(1)], "xy"),
+        (1, 9, [None, Some(2), Some(4)], "xy"),
+        (2, 9, [Some(4), None, Some(2)], ""),
+        (3, 3, [Some(3), Some(2), None], "xy"),
+    ] {
+        let bytes = Vec::from_slice(alloc, b"abcdef")?;
+        let failing = Vec::from_slice(alloc, &[failing])?;
+        let mut link = MemLink::new(alloc, bytes, failing).in_pieces(most);
+        assert_eq!(rt; ask_and_answer(&mut link), want);
+        assert!(rt; has_written(&link, out));
+        assert!(rt; !link.is_shut());
+        link.shut();
+        assert!(rt; link.is_shut());
+    }
+    Ok(())
+}
+
+#[test]
+fn a_stream_is_a_link_until_it_is_shut(rt: HostRuntime) -> Result<(), Fail> {
+    let alloc = rt.alloc();
+    let mut link = StreamLink::new(Cursor::new(Vec::from_slice(alloc, b"abcdefgh")?));
+    assert_eq!(rt; ask_and_answer(&mut link), [Some(4), Some(2), Some(2)]);
+    link.shut();
+    assert_eq!(rt; ask_and_answer(&mut link), [None, None, None]);
+    Ok(())
+}
+
+#[test]
+fn clocks_tell_the_time(rt: HostRuntime) {
+    assert_eq!(rt; FixedClock { seconds: 65 }.now(), 65);
+    let clock = HostClock::new(rt);
+    let now = clock.now();
+    let later = clock.now();
+    assert!(rt; 1_700_000_000 < now && now <= later);
 }
