@@ -12,7 +12,8 @@ one_more count left digit few below small =
 -- it fits 64 bits
 pub below_most : (count left : ℕ) → count < 10 ^ (10 - left) → count < 10 ^ 10
 below_most count left below =
-    let base : 0 < 10 = omega arith in let less : 10 - left ≤ 10 = omega arith in let most : 10 ^ (10 - left) ≤ 10 ^ 10 = pow-le-pow_right {n = 10} base {i = 10 - left} {j = 10} less in omega arith
+    let base : 0 < 10 = omega arith in let less : 10 - left ≤ 10 = omega arith in
+    let most : 10 ^ (10 - left) ≤ 10 ^ 10 = pow-le-pow_right {n = 10} base {i = 10 - left} {j = 10} less in omega arith
 
 pub some_power : (left : ℕ) → 0 < 10 ^ left
 some_power left =

@@ -1,6 +1,7 @@
 -- A front that waits for no byte stands, whatever follows.
 use Rattle.std.specs.Prelude.{MatchOption, MatchBool, Result, Ok, Err}
-use Rattle.std.proofs.Common.{◌≡◌, ℕ, ◌+◌, ◌≤◌, ◌==◌, Bool, true, false, List, ◌++◌, length, take, drop, Option, Some, None, option_map, nat_lt, nat_le, refl, arith, if◌then◌else◌, length-take, length-drop}
+use Rattle.std.proofs.Common.{◌≡◌, ℕ, ◌+◌, ◌≤◌, ◌==◌, Bool, true, false, List, ◌++◌, length, take, drop, Option, Some, None, option_map, nat_lt, nat_le, refl, arith, if◌then◌else◌}
+use Rattle.std.proofs.Common.{length-take, length-drop}
 use Rattle.std.proofs.lemmas.Bool.Decides.{nat_tests}
 use Rattle.httparse.specs.Grammar.{RequestHead}
 use Rattle.rate_types.specs.Requests.{RequestParts}
@@ -62,7 +63,8 @@ front_within bytes front is = by (head_length (take head_max bytes)) refl is
     full false big = rw big (either (λ f. used_of f ≤ length bytes) (length (after_blank bytes) == 0) Ended CutShort (omega arith) (omega arith))
 
     after : (t : Bool) (head rest : List ℕ) → length head + length rest ≤ length bytes
-        → MatchBool t (front ≡ Fixed (plain 431 None true true) (length head)) ((read : Option RequestHead) × HeadReads head read × (front ≡ after_head (option_map asks_of read) (length head) rest))
+        → MatchBool t (front ≡ Fixed (plain 431 None true true) (length head)) ((read : Option RequestHead) × HeadReads head read × (front ≡ after_head
+        (option_map asks_of read) (length head) rest))
         → used_of front ≤ length bytes
     after true head rest room x = rw x (omega arith)
     after false head rest room x = rw x.2 (omega (arith, after_head-within (option_map asks_of x.0) (length head) rest))

@@ -31,7 +31,8 @@ head_length_is (b ∷ bytes) = by (head_length_is bytes) (is_line_end b bytes) r
     plain (Some n) k = ap Some (omega arith)
 
     by : head_length bytes ≡ option_map (λ n. length bytes - length (after_blank bytes) + n) (empty_line_end (after_blank bytes))
-        → (t : Bool) → is_line_end b bytes ≡ t → head_length (b ∷ bytes) ≡ option_map (λ n. length (b ∷ bytes) - length (after_blank (b ∷ bytes)) + n) (empty_line_end (after_blank (b ∷ bytes)))
+        → (t : Bool) → is_line_end b bytes ≡ t
+        → head_length (b ∷ bytes) ≡ option_map (λ n. length (b ∷ bytes) - length (after_blank (b ∷ bytes)) + n) (empty_line_end (after_blank (b ∷ bytes)))
     by h true is = rw is (more (empty_line_end (after_blank bytes)) h)
     by h false is = rw is (plain (empty_line_end (b ∷ bytes)) (length (b ∷ bytes)))
 

@@ -1,7 +1,8 @@
 -- What is known of a front while its request is still coming.
 use Rattle.std.specs.Prelude.{Result, Ok, Err, IfOk, OnErr}
 use Rattle.rate_types.specs.declared.memory.OutOfMemory.{OutOfMemory}
-use Rattle.std.proofs.Common.{◌≡◌, ℕ, ◌+◌, ◌<◌, ◌≤◌, true, false, List, ◌++◌, length, take, drop, Option, Some, None, option_map, refl, sym, ap, ◌∙◌, arith, length-take, length-drop, length-append}
+use Rattle.std.proofs.Common.{◌≡◌, ℕ, ◌+◌, ◌<◌, ◌≤◌, true, false, List, ◌++◌, length, take, drop, Option, Some, None, option_map, refl, sym, ap, ◌∙◌, arith, length-take}
+use Rattle.std.proofs.Common.{length-drop, length-append}
 use Rattle.std.proofs.lemmas.List.{take-append-le, drop-append-le}
 use Rattle.httparse.specs.Grammar.{RequestHead}
 use Rattle.http_front.specs.declared.asks.Asks.{Asks}

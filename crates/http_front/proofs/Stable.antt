@@ -7,7 +7,8 @@ use Rattle.http_front.specs.declared.asks.Asks.{Asks}
 use Rattle.http_front.specs.declared.asks.BodyLength.{BodyLength}
 use Rattle.http_front.specs.declared.asks.BodyLength.TheVariants.{Absent, Unclear, Given}
 use Rattle.http_front.specs.declared.front.Front.TheVariants.{Fixed, Ended, CutShort}
-use Rattle.std.proofs.Common.{length-append, length-take, zero, if◌then◌else◌, ◌≡◌, ℕ, suc, ◌+◌, ◌<◌, ◌≤◌, ◌==◌, ◌&&◌, Bool, true, false, List, [], ◌∷◌, ◌++◌, length, take, drop, Option, Some, None, option_map, nat_lt, nat_le, refl, sym, ap, ◌∙◌, arith}
+use Rattle.std.proofs.Common.{length-append, length-take, zero, if◌then◌else◌, ◌≡◌, ℕ, suc, ◌+◌, ◌<◌, ◌≤◌, ◌==◌, ◌&&◌, Bool, true, false, List, [], ◌∷◌, ◌++◌, length, take, drop}
+use Rattle.std.proofs.Common.{Option, Some, None, option_map, nat_lt, nat_le, refl, sym, ap, ◌∙◌, arith}
 use Rattle.std.proofs.lemmas.Bool.Decides.{nat_tests}
 use Rattle.http_front.specs.declared.front.Front.{Front}
 use Rattle.httparse.proofs.GrammarLemmas.{request_unique}

@@ -1,5 +1,6 @@
 -- What stands at the front of a connection's bytes.
-use Rattle.std.specs.Prelude.{◌≡◌, ℕ, ◌+◌, Bool, true, false, ◌==◌, nat_lt, nat_le, List, length, take, drop, Option, Some, None, if◌then◌else◌, MatchOption, MatchBool, option_map, Result, Ok, Err}
+use Rattle.std.specs.Prelude.{◌≡◌, ℕ, ◌+◌, Bool, true, false, ◌==◌, nat_lt, nat_le, List, length, take, drop, Option, Some, None}
+use Rattle.std.specs.Prelude.{if◌then◌else◌, MatchOption, MatchBool, option_map, Result, Ok, Err}
 use Rattle.serde_json.specs.Data.{null}
 use Rattle.httparse.specs.Grammar.{RequestHead}
 use Rattle.rate_types.specs.Requests.{RequestParts}

@@ -1,5 +1,6 @@
 -- Where the head of a request ends, and what it is by the grammar of HTTP/1.x.
-use Rattle.std.specs.Prelude.{ℕ, ◌+◌, ◌<◌, ◌≤◌, Bool, false, ◌&&◌, ◌||◌, ◌==◌, nat_lt, List, [], ◌∷◌, length, count_by, Option, Some, None, option_map, if◌then◌else◌}
+use Rattle.std.specs.Prelude.{ℕ, ◌+◌, ◌<◌, ◌≤◌, Bool, false, ◌&&◌, ◌||◌, ◌==◌, nat_lt, List, [], ◌∷◌, length, count_by, Option, Some, None}
+use Rattle.std.specs.Prelude.{option_map, if◌then◌else◌}
 use Rattle.httparse.specs.Grammar.{RequestHead, ReadsRequest}
 
 -- the most bytes of a head, its line ends before the request line included
@@ -32,7 +33,8 @@ line_end_length (b ∷ bytes) = if b == 10 then 1 else (if b == 13 && starts_lin
 -- the length up to the first line feed that a line end follows, with that line end
 abbrev pub empty_line_end : List ℕ → Option ℕ
 empty_line_end [] = None
-empty_line_end (b ∷ bytes) = if b == 10 && nat_lt 0 (line_end_length bytes) then Some (1 + line_end_length bytes) else option_map (λ n. n + 1) (empty_line_end bytes)
+empty_line_end (b ∷ bytes) = if b == 10 && nat_lt 0 (line_end_length bytes) then Some (1 + line_end_length bytes) else option_map
+    (λ n. n + 1) (empty_line_end bytes)
 
 -- the length of the head at the front: line ends, and then all up to its empty line
 abbrev pub head_length : List ℕ → Option ℕ

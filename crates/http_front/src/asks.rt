@@ -1,10 +1,12 @@
 //! What the head of a request asks for.
-ghost use Rattle.std.specs.Prelude.{◌≡◌, ◌≤◌, ◌<◌, ◌+◌, ◌*◌, ◌^◌, true, ◌∷◌, ◌==◌, ◌||◌, [], All, map, length, take, codes, IfSome, position, MatchOption};
+ghost use Rattle.std.specs.Prelude.{◌≡◌, ◌≤◌, ◌<◌, ◌+◌, ◌*◌, ◌^◌, true, ◌∷◌, ◌==◌, ◌||◌, [], All, map, length, take, codes, IfSome};
+ghost use Rattle.std.specs.Prelude.{position, MatchOption};
 ghost use Rattle.std.specs.List.{before_first, slice_split};
 ghost use Rattle.std.specs.Char.{is_ascii_digit, digit_value};
 ghost use Rattle.httparse.specs.Grammar.{RequestHead, is_ows, skip_ows, trim_ows};
 ghost use Rattle.httparse.specs.Spans.{header_bytes, IsHeaderWithin, IsRequestWithin, IsRequestAt};
-ghost use Rattle.http_front.specs.Asks.{asks_of, method_of, target_of, body_length, length_of, is_name, is_there, values_of, has_close, says_close};
+ghost use Rattle.http_front.specs.Asks.{asks_of, method_of, target_of, body_length, length_of, is_name, is_there, values_of, has_close};
+ghost use Rattle.http_front.specs.Asks.{says_close};
 
 use httparse::spans::{HeaderSpan, RequestSpans};
 

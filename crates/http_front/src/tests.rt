@@ -51,11 +51,13 @@ fn each_request_has_its_answer(rt: HostRuntime) -> Result<(), Fail> {
         ),
         (
             "POST /json HTTP/1.1\r\nContent-Length: 14\r\n\r\n{\"domain\":\"d\"}",
-            "57: HTTP/1.1 400 Bad Request\r\nContent-Type: application/json\r\nContent-Length: 33\r\n\r\n{\"refused\":{\"at\":\"\",\"number\":21}}",
+            "57: HTTP/1.1 400 Bad Request\r\nContent-Type: application/json\r\nContent-Length: 33\r\n\r\n\
+            {\"refused\":{\"at\":\"\",\"number\":21}}",
         ),
         (
             "POST /json HTTP/1.1\r\nContent-Length: 0\r\n\r\n",
-            "42: HTTP/1.1 400 Bad Request\r\nContent-Type: application/json\r\nContent-Length: 32\r\n\r\n{\"refused\":{\"at\":\"\",\"number\":1}}",
+            "42: HTTP/1.1 400 Bad Request\r\nContent-Type: application/json\r\nContent-Length: 32\r\n\r\n\
+            {\"refused\":{\"at\":\"\",\"number\":1}}",
         ),
         (
             "GET / HTTP/1.1\r\nConnection: keep-alive , CLOSE\r\n\r\nGET /",
@@ -63,7 +65,8 @@ fn each_request_has_its_answer(rt: HostRuntime) -> Result<(), Fail> {
         ),
         (
             "GET /json HTTP/1.1\r\n\r\n",
-            "22: HTTP/1.1 405 Method Not Allowed\r\nContent-Type: text/plain\r\nContent-Length: 18\r\nAllow: POST\r\n\r\nMethod Not Allowed",
+            "22: HTTP/1.1 405 Method Not Allowed\r\nContent-Type: text/plain\r\nContent-Length: 18\r\nAllow: POST\r\n\r\n\
+            Method Not Allowed",
         ),
         (
             "HEAD /json HTTP/1.1\r\n\r\n",
@@ -71,18 +74,22 @@ fn each_request_has_its_answer(rt: HostRuntime) -> Result<(), Fail> {
         ),
         (
             "PUT /healthcheck HTTP/1.0\r\n\r\n",
-            "29: HTTP/1.1 405 Method Not Allowed\r\nContent-Type: text/plain\r\nContent-Length: 18\r\nAllow: GET\r\nConnection: close\r\n\r\nMethod Not Allowed",
+            "29: HTTP/1.1 405 Method Not Allowed\r\nContent-Type: text/plain\r\nContent-Length: 18\r\nAllow: GET\r\n\
+            Connection: close\r\n\r\nMethod Not Allowed",
         ),
         (
             "POST /json HTTP/1.1\r\nTransfer-Encoding: chunked\r\n\r\n",
-            "51: HTTP/1.1 411 Length Required\r\nContent-Type: text/plain\r\nContent-Length: 15\r\nConnection: close\r\n\r\nLength Required",
+            "51: HTTP/1.1 411 Length Required\r\nContent-Type: text/plain\r\nContent-Length: 15\r\nConnection: close\r\n\r\n\
+            Length Required",
         ),
         (
             "POST /json HTTP/1.1\r\nContent-Length: 1048577\r\n\r\n",
-            "48: HTTP/1.1 413 Payload Too Large\r\nContent-Type: text/plain\r\nContent-Length: 17\r\nConnection: close\r\n\r\nPayload Too Large",
+            "48: HTTP/1.1 413 Payload Too Large\r\nContent-Type: text/plain\r\nContent-Length: 17\r\nConnection: close\r\n\r\n\
+            Payload Too Large",
         ),
         (
-            "POST /json HTTP/1.0\r\ncontent-length: 68\r\n\r\n{\"domain\":\"d\",\"descriptors\":[{\"entries\":[{\"key\":\"k\",\"value\":\"a\"}]}]}",
+            "POST /json HTTP/1.0\r\ncontent-length: 68\r\n\r\n\
+            {\"domain\":\"d\",\"descriptors\":[{\"entries\":[{\"key\":\"k\",\"value\":\"a\"}]}]}",
             "111: check of 1 closes true",
         ),
         (
