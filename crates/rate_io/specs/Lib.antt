@@ -4,3 +4,6 @@ pub mod Events
 pub mod Stored
 pub mod Calls
 pub mod Links
+pub mod Listeners
+pub mod StoredListens
+pub mod ListenCalls

@@ -1,4 +1,5 @@
-//! What reaches outside, as traits: a source and a sink of bytes, files by name, a link to a peer, and the clock.
+//! What reaches outside, as traits: a source and a sink of bytes, files by name, a link to a peer,
+//! a listener for links, and the clock.
 //!
 //! Each object keeps a history of its calls (`specs/Events.antt`), which takes no memory: what each read handed out or that it
 //! answered the end, which pieces were written, which files were asked for with the reads of their content. The real ones keep
@@ -17,14 +18,18 @@ mod clock;
 mod files;
 mod history;
 mod link;
+mod listen;
+mod listen_history;
 mod mem_files;
 mod mem_link;
+mod mem_listen;
 mod mem_sink;
 mod mem_source;
 mod real;
 mod sink;
 mod source;
 mod stream_link;
+mod stream_listen;
 mod sure;
 mod whole;
 
@@ -32,14 +37,18 @@ pub use clock::{Clock, FixedClock, HostClock};
 pub use files::{FileFault, Files};
 pub use history::{Call, FileCall, FileHistory, History};
 pub use link::Link;
+pub use listen::Listen;
+pub use listen_history::{ListenCall, ListenHistory};
 pub use mem_files::{MemFile, MemFiles};
 pub use mem_link::MemLink;
+pub use mem_listen::MemListen;
 pub use mem_sink::MemSink;
 pub use mem_source::MemSource;
 pub use real::{HostFiles, ReaderSource, WriterSink};
 pub use sink::Sink;
 pub use source::{Failed, Source};
 pub use stream_link::StreamLink;
+pub use stream_listen::StreamListen;
 pub use sure::{SureSink, SureSource};
 pub use whole::read_up_to;
 

@@ -13,8 +13,8 @@ pub struct MemLink {
     most: usize,
     out: Vec<u8>,
     is_whole: bool,
-    is_shut: bool,
-    history: History,
+    pub(crate) is_shut: bool,
+    pub(crate) history: History,
     calls: u64,
     failing: Vec<u64>,
     faults: u64,
@@ -47,32 +47,22 @@ impl MemLink {
     }
 
     /// The same, but each read hands out at most so many bytes.
-    pub fn in_pieces(self, most: usize) -> MemLink
+    pub fn in_pieces(mut self, most: usize) -> MemLink
         requires { 0 < most }
         ensures { ⟦<MemLink as Link>⟧.state result ≡ ⟦<MemLink as Link>⟧.state self }
     {
-        let MemLink {
-            bytes,
-            most: _,
-            out,
-            is_whole,
-            is_shut,
-            history,
-            calls,
-            failing,
-            faults,
-        } = self;
-        MemLink {
-            bytes,
-            most,
-            out,
-            is_whole,
-            is_shut,
-            history,
-            calls,
-            failing,
-            faults,
-        }
+        self.most = most;
+        self
+    }
+
+    // The same with no call so far.
+    pub(crate) fn unused(mut self) -> MemLink
+        ensures { let s = ⟦<MemLink as Link>⟧.state self in
+            ⟦<MemLink as Link>⟧.state result ≡ record s { history = []; is_shut = false } }
+    {
+        self.history = History::new();
+        self.is_shut = false;
+        self
     }
 
     /// The bytes that were written, unless a piece found no memory.

@@ -10,8 +10,8 @@ use std::io::{Read, Write};
 /// and so is each read and each write after it was shut.
 #[derive(Drop)]
 pub struct StreamLink<S: Read + Write + Drop> {
-    stream: Option<S>,
-    history: History,
+    pub(crate) stream: Option<S>,
+    pub(crate) history: History,
     faults: u64,
 }
 

@@ -1,11 +1,14 @@
+ghost use Rattle.std.specs.Prelude.{◌≡◌, []};
+
 use crate::{
-    Clock, Failed, FileFault, Files, FixedClock, HostClock, HostFiles, Link, MemFile, MemFiles,
-    MemLink, MemSink, MemSource, ReaderSource, Sink, Source, StreamLink, SureSink, SureSource,
-    WriterSink, read_up_to,
+    Clock, Failed, FileFault, Files, FixedClock, HostClock, HostFiles, Link, Listen, MemFile,
+    MemFiles, MemLink, MemListen, MemSink, MemSource, ReaderSource, Sink, Source, StreamLink,
+    StreamListen, SureSink, SureSource, WriterSink, read_up_to,
 };
 use rate_types::{Blob, Word};
 use std::alloc::Global;
-use std::io::Cursor;
+use std::io::{Cursor, Read, Write};
+use std::net::{Ipv4Addr, TcpStream};
 use std::test::Fail;
 
 // The answers of four reads of at most 4 bytes.
@@ -189,4 +192,48 @@ fn clocks_tell_the_time(rt: HostRuntime) {
     let now = clock.now();
     let later = clock.now();
     assert!(rt; 1_700_000_000 < now && now <= later);
+}
+
+// Binds a port, takes one link, answers it, shuts it and gives it back.
+fn serve_one<L: Listen>(listen: &mut L) -> Result<u16, Failed>
+    requires { L.history listen.old ≡ [] }
+{
+    let port = listen.bind(0)?;
+    let mut link = listen.accept()?;
+    link.write(b"pong")?;
+    link.shut();
+    listen.give_back(0, link);
+    Ok(port)
+}
+
+#[test]
+fn a_listener_in_memory_keeps_what_is_given_back(rt: HostRuntime) -> Result<(), Fail> {
+    let alloc = rt.alloc();
+    for (failing, want) in [(0, Ok(1)), (1, Err(Failed)), (2, Err(Failed))] {
+        let mut links = Vec::new(alloc);
+        links.push(MemLink::new(alloc, Vec::new(alloc), Vec::new(alloc)))?;
+        let mut listen = MemListen::new(alloc, links, Vec::from_slice(alloc, &[failing])?)?;
+        assert_eq!(rt; serve_one(&mut listen), want);
+        let back = listen.given_back(0).map_or(false, |link| link.is_shut());
+        assert_eq!(rt; back, want.is_ok());
+        assert_eq!(rt; listen.accept().is_err(), want.is_ok());
+    }
+    Ok(())
+}
+
+#[test]
+fn a_listener_of_the_system_takes_connections(rt: HostRuntime) -> Result<(), Fail> {
+    let mut listen = StreamListen::new(rt.clone()?);
+    let port = listen.bind(0)?;
+    let mut client = TcpStream::connect(&rt, (Ipv4Addr::LOCALHOST, port))?;
+    client.write_all(b"ping")?;
+    let mut link = listen.accept()?;
+    let mut buf = [0u8; 8];
+    assert_eq!(rt; link.read(&mut buf), Ok(4));
+    assert_eq!(rt; link.write(b"pong"), Ok(()));
+    link.shut();
+    let mut answer = Vec::new(rt.alloc());
+    client.read_to_end(&mut answer)?;
+    assert_eq!(rt; answer.as_slice(), b"pong".as_slice());
+    Ok(())
 }
