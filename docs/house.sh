@@ -1,5 +1,5 @@
 #!/usr/bin/env bash
-# Draws docs/house.png from crates.txt: the crates in five groups, and an arrow from each to those that stand on it (but
+# Draws docs/house.png from crates.txt: the crates in six groups, and an arrow from each to those that stand on it (but
 # for arrows that follow from others, and the crates of tests). It needs graphviz. usage: docs/house.sh
 set -eu
 here=$(cd "$(dirname "${BASH_SOURCE[0]}")" && pwd)
@@ -8,17 +8,18 @@ while read -r group crates; do
     for crate in $crates; do group_of[$crate]=$group; done
 done <<'GROUPS'
 base rate_types rate_io text_lines proto_json
-counters window_keys told_list config_versions counter_cells counter_directory over_cache
-checks descriptor_tree config_json rule_lookup rls_core rate_limiter reply_text drive_run
+counters window_keys told_list config_versions counter_cells counter_directory over_cache line_numbers
+checks descriptor_tree config_json rule_lookup rls_core rate_limiter reply_text script_run drive_run
+connections http_front http_endpoint
 quota agenda quota_bucket quota_settings quota_settings_json quota_buckets quota_lines quota_stream
 faces ratelimit_cli ratelimit
 GROUPS
-declare -A title_of=([base]='base' [counters]='counters' [checks]='rules and checks' [quota]='quota' [faces]='faces')
-declare -A colour_of=([base]='#e8e8e8' [counters]='#dbe9f6' [checks]='#e3f1dc' [quota]='#fbeed5' [faces]='#f3dfe9')
+declare -A title_of=([base]='base' [counters]='counters' [checks]='rules and checks' [connections]='connections' [quota]='quota' [faces]='faces')
+declare -A colour_of=([base]='#e8e8e8' [counters]='#dbe9f6' [checks]='#e3f1dc' [connections]='#e6e1f4' [quota]='#fbeed5' [faces]='#f3dfe9')
 graph() {
     printf 'digraph house {\n rankdir=BT; nodesep=0.25; ranksep=0.45;\n'
     printf ' node [shape=box, style="filled,rounded", fontname="Helvetica", fontsize=11];\n edge [arrowsize=0.6, color="#666666"];\n'
-    for group in base counters checks quota faces; do
+    for group in base counters checks connections quota faces; do
         printf ' subgraph cluster_%s { label="%s"; labelloc="b"; fontname="Helvetica"; fontsize=12; color="#aaaaaa";\n' "$group" "${title_of[$group]}"
         for crate in "${!group_of[@]}"; do
             [ "${group_of[$crate]}" != "$group" ] || printf '  %s [fillcolor="%s"];\n' "$crate" "${colour_of[$group]}"

@@ -3,3 +3,7 @@ pub mod Content
 pub mod Events
 pub mod Stored
 pub mod Calls
+pub mod Links
+pub mod Listeners
+pub mod StoredListens
+pub mod ListenCalls

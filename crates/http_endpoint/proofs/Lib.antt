@@ -1,0 +1,4 @@
+pub mod ReadLemmas
+pub mod TurnLemmas
+pub mod RestLemmas
+pub mod LinkLemmas

@@ -1,0 +1,137 @@
+-- What was printed is the answer of a turn.
+use Rattle.std.specs.Prelude.{Result}
+use Rattle.std.proofs.Common.{◌≡◌, ℕ, ◌==◌, ◌+◌, ◌<◌, Bool, true, false, ◌||◌, List, [], ◌∷◌, ◌++◌, drop, Option, Some, None, refl, sym, ap, ◌∙◌, inl, inr, subst, arith}
+use Rattle.std.proofs.lemmas.Bool.Decides.{nat_tests}
+use Rattle.rate_types.specs.Requests.{RequestParts}
+use Rattle.rls_core.specs.declared.reply.Reply.{Reply}
+use Rattle.rls_core.specs.declared.fault.CheckFault.{CheckFault}
+use Rattle.rls_core.specs.declared.fault.CheckFault.TheVariants as fault
+use Rattle.std.specs.Prelude.{Ok, Err}
+use Rattle.http_front.specs.Front.{used_of, plain}
+use Rattle.http_front.specs.Part.{Stands}
+use Rattle.http_front.specs.declared.answer.HttpAnswer.{HttpAnswer}
+use Rattle.http_front.specs.declared.front.Front.{Front}
+use Rattle.http_front.specs.declared.front.Front.TheVariants.{Ended, CutShort, Fixed, Check}
+use Rattle.http_endpoint.specs.Answers.{Asked, Turn, GivesResult, closing, MayAsk, IsTurn, IsOffered, CheckStep, Lead}
+use Rattle.http_endpoint.specs.Steps.{Awaits, Prints, PrintsResult, TurnsOut, TakesTurn}
+use Rattle.http_endpoint.specs.declared.turn.Printed.{Printed}
+use Rattle.http_endpoint.specs.declared.turn.Printed.TheVariants.{Text, NoMemory}
+
+-- of a fixed answer
+pub fixed_turn : {S : Type 0} (answers : CheckStep S) (bounds : Option (ℕ × ℕ)) (is_last : Bool) (fixed : HttpAnswer) (used : ℕ) (checks : S) (out : List ℕ) (printed : Printed)
+    → Prints (closing is_last fixed) out printed → TurnsOut answers bounds is_last (Fixed fixed used) checks checks out printed
+fixed_turn answers bounds is_last fixed used checks out (Text closes) p = record {
+  t = record { front = Fixed fixed used; asked = None; answer = closing is_last fixed };
+  front_is = refl;
+  turn = inl refl;
+  prints = record { bytes = p.0; closes = p.1 };
+  lead = refl;
+}
+fixed_turn answers bounds is_last fixed used checks out (NoMemory sends_body) p = record {
+  t = record { front = Fixed fixed used; asked = None; answer = plain 500 None sends_body true };
+  front_is = refl;
+  turn = inr (record { may_ask = tt; answer = ap (λ s. plain 500 None s true) p });
+  prints = record { bytes = refl; closes = refl };
+  lead = refl;
+}
+
+-- 503, where the counters are full
+pub full_prints : (closes : Bool) (moment live held wanted : ℕ) (out : List ℕ) (printed : Printed)
+    → Prints (plain 503 None true closes) out printed → PrintsResult closes (Err (fault.CountersFull moment live held wanted)) out printed
+full_prints closes moment live held wanted out (Text closed) p = (plain 503 None true closes, refl, p.0, p.1)
+full_prints closes moment live held wanted out (NoMemory sends_body) p = p
+
+-- or where the claims are spent
+pub spent_prints : (closes : Bool) (claims wanted : ℕ) (out : List ℕ) (printed : Printed)
+    → Prints (plain 503 None true closes) out printed → PrintsResult closes (Err (fault.ClaimsSpent claims wanted)) out printed
+spent_prints closes claims wanted out (Text closed) p = (plain 503 None true closes, refl, p.0, p.1)
+spent_prints closes claims wanted out (NoMemory sends_body) p = p
+
+-- of a check
+pub check_turn : {S : Type 0} (answers : CheckStep S) (bounds : Option (ℕ × ℕ)) (is_last : Bool) (request : RequestParts) (closes : Bool) (used now : ℕ)
+    (result : Result Reply CheckFault) (checks after : S) (out : List ℕ) (printed : Printed)
+    → IsOffered bounds now → answers checks request now result after → PrintsResult (closes || is_last) result out printed
+    → TurnsOut answers bounds is_last (Check request closes used) checks after out printed
+check_turn answers bounds is_last request closes used now result checks after out (Text closed) offered step p = record {
+  t = record { front = Check request closes used; asked = Some (record { request = request; now = now; result = result }); answer = p.0 };
+  front_is = refl;
+  turn = inl (refl, p.1);
+  prints = record { bytes = p.2; closes = p.3 };
+  lead = (after, offered, step, refl);
+}
+check_turn answers bounds is_last request closes used now result checks after out (NoMemory sends_body) offered step p = record {
+  t = record { front = Check request closes used; asked = Some (record { request = request; now = now; result = result }); answer = plain 500 None sends_body true };
+  front_is = refl;
+  turn = inr (record { may_ask = refl; answer = ap (λ s. plain 500 None s true) p });
+  prints = record { bytes = refl; closes = refl };
+  lead = (after, offered, step, refl);
+}
+
+-- no check need be made
+may_not : (front : Front) → MayAsk front None
+may_not Ended = tt
+may_not CutShort = tt
+may_not (Fixed answer used) = tt
+may_not (Check request closes used) = tt
+
+-- the answer of a front that was found
+pub front_turn : {S : Type 0} (answers : CheckStep S) (bounds : Option (ℕ × ℕ)) (is_last : Bool) (bytes unread : List ℕ) (front : Front) (checks after : S) (out : List ℕ)
+    (printed : Printed)
+    → Stands bytes front → unread ≡ drop (used_of front) bytes → TurnsOut answers bounds is_last front checks after out printed
+    → TakesTurn answers bounds is_last bytes unread checks after out printed
+front_turn answers bounds is_last bytes unread front checks after out printed stands rest x = record {
+  t = x.t;
+  stands = subst (λ (f : Front). Stands bytes f) (sym x.front_is) stands;
+  turn = x.turn;
+  prints = x.prints;
+  lead = x.lead;
+  unread_is = λ still. rest ∙ ap (λ f. drop (used_of f) bytes) (sym x.front_is);
+}
+
+-- 500 where memory ran out over a front
+pub memory_turn : {S : Type 0} (answers : CheckStep S) (bounds : Option (ℕ × ℕ)) (is_last : Bool) (bytes unread : List ℕ) (checks : S) (out : List ℕ) (sends_body : Bool)
+    → Awaits bytes sends_body → TakesTurn answers bounds is_last bytes unread checks checks out (NoMemory sends_body)
+memory_turn answers bounds is_last bytes unread checks out sends_body f = record {
+  t = record { front = f.0; asked = None; answer = plain 500 None sends_body true };
+  stands = f.1;
+  turn = inr (record { may_ask = may_not f.0; answer = ap (λ s. plain 500 None s true) f.2 });
+  prints = record { bytes = refl; closes = refl };
+  lead = refl;
+  unread_is = λ still. absurd (cc);
+}
+
+-- ---- the last that may come closes
+
+or_true : (t : Bool) → t || true ≡ true
+or_true true = refl
+or_true false = refl
+
+given_closes : (result : Result Reply CheckFault) (closes : Bool) (answer : HttpAnswer) → GivesResult result closes answer → answer.closes ≡ closes
+given_closes (Ok reply) closes answer is = ap (λ a. a.closes) is
+given_closes (Err (fault.CountersFull moment live held wanted)) closes answer is = ap (λ a. a.closes) is
+given_closes (Err (fault.ClaimsSpent claims wanted)) closes answer is = ap (λ a. a.closes) is
+given_closes (Err fault.OutOfMemory) closes answer is = absurd is
+
+last_closes : (front : Front) (asked : Option Asked) (answer : HttpAnswer) → IsTurn true (record { front = front; asked = asked; answer = answer }) → answer.closes ≡ true
+last_closes front asked answer (inr other) = ap (λ a. a.closes) other.answer
+last_closes (Fixed fixed used) None answer (inl is) = ap (λ a. a.closes) is ∙ or_true fixed.closes
+last_closes (Check request closes used) (Some asked) answer (inl is) = given_closes asked.result (closes || true) answer is.1 ∙ or_true closes
+last_closes (Fixed fixed used) (Some asked) answer (inl is) = absurd is
+last_closes (Check request closes used) None answer (inl is) = absurd is
+last_closes Ended asked answer (inl is) = absurd is
+last_closes CutShort asked answer (inl is) = absurd is
+
+-- so after an answer that doesn't there is room for one more
+pub still_few : (n : ℕ) (t : Turn) → IsTurn (n + 1 == 1024) t → t.answer.closes ≡ false → n < 1024 → n + 1 < 1024
+still_few n t is stays few = by (n + 1 == 1024) refl is
+  where
+    by : (b : Bool) → (n + 1 == 1024) ≡ b → IsTurn b t → n + 1 < 1024
+    by true at is = absurd (let closes = last_closes t.front t.asked t.answer is in cc)
+    by false at is = grind (arith, nat_tests)
+
+-- ---- checks, one after the other
+
+pub lead_more : {S : Type 0} (answers : CheckStep S) (bounds : Option (ℕ × ℕ)) (a b c : S) (xs ys : List Asked)
+    → Lead answers bounds a xs b → Lead answers bounds b ys c → Lead answers bounds a (xs ++ ys) c
+lead_more {S = S} answers bounds a b c [] ys x y = subst (λ (s : S). Lead answers bounds s ys c) x y
+lead_more {S = S} answers bounds a b c (q ∷ xs) ys x y = (x.0, x.1, x.2, lead_more answers bounds x.0 b c xs ys x.3 y)

@@ -1,0 +1,115 @@
+-- The answers of a connection, front by front.
+use Rattle.std.specs.Prelude.{◌≡◌, ℕ, ◌+◌, ◌≤◌, min, Bool, true, false, ◌||◌, ◌==◌, List, [], ◌∷◌, drop, Option, Some, None, option_to_list}
+use Rattle.std.specs.Prelude.{MatchOption, if◌then◌else◌, ◌⊎◌, ⊤, Result, Ok, Err}
+use Rattle.std.specs.List.{flat_map}
+use Rattle.rate_types.specs.Requests.{RequestParts}
+use Rattle.rate_types.specs.declared.limits.TheConstants.{LATEST_MOMENT}
+use Rattle.rls_core.specs.declared.reply.Reply.{Reply}
+use Rattle.rls_core.specs.declared.fault.CheckFault.{CheckFault}
+use Rattle.rls_core.specs.declared.fault.CheckFault.TheVariants as fault
+use Rattle.reply_text.specs.Texts.{reply_text_of}
+use Rattle.http_front.specs.Front.{IsFront, is_waiting, sends, used_of, plain, json}
+use Rattle.http_front.specs.Printed.{answer_bytes}
+use Rattle.http_front.specs.declared.answer.HttpAnswer.{HttpAnswer}
+use Rattle.http_front.specs.declared.front.Front.{Front}
+use Rattle.http_front.specs.declared.front.Front.TheVariants.{Ended, CutShort, Fixed, Check}
+
+-- the most answers of one connection
+abbrev pub answers_max : ℕ
+answers_max = 1024
+
+-- a check that was made: the request, the moment that was offered, and what came of it
+pub record Asked : Type 0 where
+  pub request : RequestParts
+  pub now : ℕ
+  pub result : Result Reply CheckFault
+
+-- an answer, the front to which it answers, and the check that was made for it
+pub record Turn : Type 0 where
+  pub front : Front
+  pub asked : Option Asked
+  pub answer : HttpAnswer
+
+-- ---- one answer
+
+-- the answer that gives a reply: 429 where its overall code is OVER_LIMIT
+abbrev pub reply_answer : Reply → Bool → HttpAnswer
+reply_answer reply closes =
+    json (if reply.over then 429 else 200) (reply_text_of (record { over = reply.over; statuses = reply.statuses.items })) closes
+
+-- the answer to a check that gave this; want of memory has none of its own
+abbrev pub GivesResult : Result Reply CheckFault → Bool → HttpAnswer → Type 0
+GivesResult (Ok reply) closes answer = answer ≡ reply_answer reply closes
+GivesResult (Err (fault.CountersFull moment live held wanted)) closes answer = answer ≡ plain 503 None true closes
+GivesResult (Err (fault.ClaimsSpent claims wanted)) closes answer = answer ≡ plain 503 None true closes
+GivesResult (Err fault.OutOfMemory) closes answer = ⊥
+
+-- an answer, after which the connection closes too if it is the last that may come
+abbrev pub closing : Bool → HttpAnswer → HttpAnswer
+closing is_last answer = record answer { closes = answer.closes || is_last }
+
+-- the answer to a front: a fixed one, or what came of its check
+abbrev pub Answers : Bool → Front → Option Asked → HttpAnswer → Type 0
+Answers is_last (Fixed fixed used) None answer = answer ≡ closing is_last fixed
+Answers is_last (Fixed fixed used) (Some asked) answer = ⊥
+Answers is_last (Check request closes used) (Some asked) answer =
+    (asked.request ≡ request) × GivesResult asked.result (closes || is_last) answer
+Answers is_last (Check request closes used) None answer = ⊥
+Answers is_last Ended asked answer = ⊥
+Answers is_last CutShort asked answer = ⊥
+
+-- a check is made for the front that asks for it, with its request, and for no other
+abbrev pub MayAsk : Front → Option Asked → Type 0
+MayAsk front None = ⊤
+MayAsk (Check request closes used) (Some asked) = asked.request ≡ request
+MayAsk (Fixed fixed used) (Some asked) = ⊥
+MayAsk Ended (Some asked) = ⊥
+MayAsk CutShort (Some asked) = ⊥
+
+-- 500 in the place of an answer, which closes; its body is sent just where that answer's would be
+pub record IsNoMemory (t : Turn) : Type 0 where
+  pub may_ask : MayAsk t.front t.asked
+  pub answer : t.answer ≡ plain 500 None (sends t.front) true
+
+-- an answer of a connection, the last that may come or an earlier one
+abbrev pub IsTurn : Bool → Turn → Type 0
+IsTurn is_last t = Answers is_last t.front t.asked t.answer ⊎ IsNoMemory t
+
+-- ---- one after the other
+
+-- the next answer after so many, where these bytes come next; the front waits for none
+pub record IsNext (before : ℕ) (bytes : List ℕ) (t : Turn) : Type 0 where
+  pub front : IsFront bytes t.front
+  pub settled : is_waiting t.front ≡ false
+  pub turn : IsTurn (before + 1 == answers_max) t
+
+-- Answers that leave the connection open, each to the front of the bytes behind those of the one before; and the bytes after
+-- them all. So many answers came before.
+abbrev pub AreAnswers : ℕ → List ℕ → List Turn → List ℕ → Type 0
+AreAnswers before bytes [] rest = rest ≡ bytes
+AreAnswers before bytes (t ∷ turns) rest = IsNext before bytes t × (t.answer.closes ≡ false)
+    × AreAnswers (before + 1) (drop (used_of t.front) bytes) turns rest
+
+-- the bytes of one answer
+abbrev pub turn_bytes : Turn → List ℕ
+turn_bytes t = answer_bytes t.answer
+
+-- ---- the checks
+
+-- the checks that were made, in order
+abbrev pub asked_in : List Turn → List Asked
+asked_in turns = flat_map (λ t. option_to_list t.asked) turns
+
+-- a moment that was offered lies between the clock's bounds, where they are told, each at most the latest moment
+abbrev pub IsOffered : Option (ℕ × ℕ) → ℕ → Type 0
+IsOffered bounds now = MatchOption bounds ⊤ (λ b. (min b.0 LATEST_MOMENT ≤ now) × (now ≤ min b.1 LATEST_MOMENT))
+
+-- what checks do: from a state, a check of this request, which offers this moment, comes to this and leaves a state
+abbrev pub CheckStep : Type 0 → Type 1
+CheckStep S = S → RequestParts → ℕ → Result Reply CheckFault → S → Type 0
+
+-- each check leads from the state that the one before it left, at a moment of the clock
+abbrev pub Lead : {S : Type 0} → CheckStep S → Option (ℕ × ℕ) → S → List Asked → S → Type 0
+Lead answers bounds old [] new = new ≡ old
+Lead {S} answers bounds old (a ∷ asked) new =
+    (next : S) × IsOffered bounds a.now × answers old a.request a.now a.result next × Lead answers bounds next asked new

@@ -1,0 +1,27 @@
+//! Connections: the requests of each one after the other, each with its answer.
+//!
+//! `serve_link` serves a connection from its first byte to its end. What it promises is one record (`specs/Served.antt`): the
+//! bytes that the reads handed out are answered front by front (`AreAnswers` of `specs/Answers.antt`), each answer by one
+//! write, and the checks that were made are those of the fronts that ask for one, in order, each from the state that the one
+//! before it left. What answers checks is a trait, `Checks`, whose ghost member says what a check does.
+//!
+//! The limits: at most 1,024 answers a connection; where memory is wanting, 500 stands in the place of an answer and closes.
+//! A connection of n bytes costs a time in proportion to n and to the number of reads times the bytes of a head.
+#![tactic(auto)]
+
+mod body;
+mod buffers;
+mod checks;
+mod inbox;
+mod link_end;
+mod next;
+mod serve;
+mod turn;
+
+pub use buffers::Buffers;
+pub use checks::Checks;
+pub use link_end::{LinkCause, LinkEnd};
+pub use serve::serve_link;
+
+#[cfg(test)]
+mod tests;

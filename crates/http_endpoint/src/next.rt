@@ -1,0 +1,153 @@
+// What comes next on a connection.
+ghost use Rattle.std.specs.Prelude.{◌≡◌, ◌≤◌, ◌+◌, ◌++◌, List, length, if◌then◌else◌, IfSome, vec_capacity};
+ghost use Rattle.rate_io.specs.Events.{Event, given};
+ghost use Rattle.http_front.specs.Part.{EndsAt};
+ghost use Rattle.http_endpoint.specs.Steps.{Drew, HeadFinds, IsWhole, Comes, ComesTo, Finds};
+
+use crate::body::{drop_body, keep_body};
+use crate::inbox::{Filled, Inbox, fill};
+use http_front::{Front, Part, read_front};
+use rate_io::Link;
+use rate_types::OutOfMemory;
+use std::alloc::Global;
+
+/// What comes next on a connection.
+#[derive(Drop)]
+pub enum Next {
+    Front(Front),
+    /// Memory ran out over a front, the body of whose answer is sent or not.
+    NoMemory { sends_body: bool },
+    Ended,
+    CutShort,
+    ReadFault,
+}
+
+/// What the reading of a head comes to.
+#[derive(Drop)]
+pub enum HeadRead {
+    Whole(Front),
+    /// The head of a request of `total` bytes, more than are there.
+    NoBody { total: usize, sends_body: bool },
+    NoMemory { sends_body: bool },
+    Ended,
+    CutShort,
+    ReadFault,
+}
+
+// The input ends where no head stands.
+fn ended(is_blank: bool) -> HeadRead
+    ensures { result ≡ (if is_blank then HeadRead.Ended else HeadRead.CutShort) }
+{
+    if is_blank {
+        HeadRead::Ended
+    } else {
+        HeadRead::CutShort
+    }
+}
+
+// Reads on until a head stands there.
+fn read_head<L: Link>(alloc: Global, inbox: &mut Inbox, link: &mut L) -> HeadRead
+    ensures { (events : List Event) × Drew (L.state link.old) (L.state link.new) events × (inbox.new ≡ inbox.old ++ given events)
+        × HeadFinds (inbox.old ++ given events) (L.state link.old) (L.state link.new) events result }
+{
+    'turns: loop {
+        let is_blank = match read_front(alloc, inbox.unread()) {
+            Ok(Part::Whole(front)) => return HeadRead::Whole(front),
+            Ok(Part::NoBody { total, sends_body }) => {
+                return HeadRead::NoBody { total, sends_body };
+            }
+            Err(OutOfMemory) => return HeadRead::NoMemory { sends_body: true },
+            Ok(Part::NoHead { is_blank }) => is_blank,
+        };
+        match fill(inbox, link) {
+            Filled::More => {}
+            Filled::End => return ended(is_blank),
+            Filled::Failed => return HeadRead::ReadFault,
+        }
+    }
+}
+
+// The front of a request that is whole now, in a buffer of its own.
+fn whole_front(alloc: Global, inbox: &mut Inbox, bytes: &[u8]) -> Next
+    requires { IsWhole bytes.now }
+    ensures { Comes bytes.now inbox.new result }
+{
+    match read_front(alloc, bytes) {
+        Ok(Part::Whole(front)) => {
+            inbox.clear();
+            Next::Front(front)
+        }
+        Ok(Part::NoHead { .. }) => unreachable!(),
+        Ok(Part::NoBody { .. }) => unreachable!(),
+        Err(OutOfMemory) => Next::NoMemory { sends_body: true },
+    }
+}
+
+// Where memory for the rest of a request is wanting, it is read and not kept.
+fn no_room<L: Link>(have: usize, link: &mut L, total: usize, sends_body: bool) -> Next
+    requires { have ≤ total }
+    ensures { (events : List Event) × Drew (L.state link.old) (L.state link.new) events
+        × ComesTo total (have + length (given events)) sends_body (L.state link.old) (L.state link.new) events result }
+{
+    match drop_body(have, link, total) {
+        Filled::More => Next::NoMemory { sends_body },
+        Filled::End => Next::CutShort,
+        Filled::Failed => Next::ReadFault,
+    }
+}
+
+// The bytes, with room for `total` in all.
+fn copy_with_room(alloc: Global, bytes: &[u8], total: usize) -> Option<Vec<u8>>
+    requires { length bytes.now ≤ total }
+    ensures items { IfSome result (λ v. v.items ≡ bytes.now) }
+    ensures room { IfSome result (λ v. total ≤ vec_capacity v) }
+{
+    let Ok(mut kept) = Vec::with_capacity(alloc, total) else {
+        return None;
+    };
+    let Ok(()) = kept.extend_from_slice(bytes) else {
+        return None;
+    };
+    Some(kept)
+}
+
+// The front of a request whose rest is still to come.
+fn rest_front<L: Link>(
+    alloc: Global,
+    inbox: &mut Inbox,
+    link: &mut L,
+    total: usize,
+    sends_body: bool,
+) -> Next
+    requires { EndsAt inbox.old total sends_body }
+    ensures { (events : List Event) × Drew (L.state link.old) (L.state link.new) events
+        × Finds (inbox.old ++ given events) inbox.new (L.state link.old) (L.state link.new) events result }
+{
+    let unread = inbox.unread();
+    let Some(mut kept) = copy_with_room(alloc, unread, total) else {
+        return no_room(unread.len(), link, total, sends_body);
+    };
+    match keep_body(&mut kept, link, total) {
+        Filled::More => whole_front(alloc, inbox, &kept),
+        Filled::End => Next::CutShort,
+        Filled::Failed => Next::ReadFault,
+    }
+}
+
+/// Reads on until a front stands there.
+pub fn next_front<L: Link>(alloc: Global, inbox: &mut Inbox, link: &mut L) -> Next
+    ensures { (events : List Event) × Drew (L.state link.old) (L.state link.new) events
+        × Finds (inbox.old ++ given events) inbox.new (L.state link.old) (L.state link.new) events result }
+{
+    match read_head(alloc, inbox, link) {
+        HeadRead::Whole(front) => {
+            inbox.take(front.used());
+            Next::Front(front)
+        }
+        HeadRead::NoBody { total, sends_body } => rest_front(alloc, inbox, link, total, sends_body),
+        HeadRead::NoMemory { sends_body } => Next::NoMemory { sends_body },
+        HeadRead::Ended => Next::Ended,
+        HeadRead::CutShort => Next::CutShort,
+        HeadRead::ReadFault => Next::ReadFault,
+    }
+}

@@ -1,0 +1,172 @@
+// The answer to one front.
+ghost use Rattle.std.specs.Prelude.{◌≡◌, ◌||◌, false, true, None, Ok, Err, IfOk, string_bytes, if◌then◌else◌};
+ghost use Rattle.http_front.specs.Front.{is_waiting, plain};
+ghost use Rattle.http_endpoint.specs.Answers as answers;
+ghost use Rattle.http_endpoint.specs.Steps as steps;
+
+use crate::Checks;
+use http::StatusCode;
+use http_front::{Front, HttpAnswer, out_of_memory_answer, print_answer};
+use rate_io::Clock;
+use rate_types::{OutOfMemory, Request, Seconds, Word};
+use reply_text::{Statuses, reply_body};
+use rls_core::{CheckFault, Reply};
+use std::alloc::Global;
+use std::sync::Wait;
+
+/// What was printed: an answer's text, or want of memory in its place.
+#[derive(Clone, Copy, Debug, PartialEq, Eq)]
+pub enum Printed {
+    Text { closes: bool },
+    NoMemory { sends_body: bool },
+}
+
+impl Printed {
+    /// The bytes to write, where this is what was printed into the text.
+    pub fn bytes<'a>(&self, out: &'a str) -> &'a [u8]
+        ensures { result.now ≡ steps.printed_bytes out.now self.now }
+    {
+        match self {
+            Printed::Text { .. } => out.as_bytes(),
+            Printed::NoMemory { sends_body } => out_of_memory_answer(*sends_body),
+        }
+    }
+
+    /// The connection closes after it.
+    pub fn closes(&self) -> bool
+        ensures { result ≡ steps.printed_closes self.now }
+    {
+        match self {
+            Printed::Text { closes } => *closes,
+            Printed::NoMemory { .. } => true,
+        }
+    }
+}
+
+// The answer printed, or want of memory in its place.
+fn print(out: &mut String, answer: &HttpAnswer) -> Printed
+    ensures { steps.Prints answer.now (string_bytes out.new) result }
+{
+    match print_answer(out, answer) {
+        Ok(()) => Printed::Text {
+            closes: answer.closes,
+        },
+        Err(_) => Printed::NoMemory {
+            sends_body: answer.sends_body,
+        },
+    }
+}
+
+// The status of an answered check.
+fn status_of(reply: &Reply) -> StatusCode
+    ensures { result ≡ (if reply.now.over then 429 else 200) }
+{
+    if reply.over {
+        StatusCode::TOO_MANY_REQUESTS
+    } else {
+        StatusCode::OK
+    }
+}
+
+// The answer that gives a reply.
+fn reply_answer(alloc: Global, reply: &Reply, closes: bool) -> Result<HttpAnswer, OutOfMemory>
+    ensures { IfOk result (λ answer. answer ≡ answers.reply_answer reply.now closes) }
+{
+    let statuses = Statuses::of_reply(alloc, reply)?;
+    let text = reply_body(alloc, &statuses)?;
+    Ok(HttpAnswer::json(status_of(reply), Word::of(text), closes))
+}
+
+fn print_reply(alloc: Global, out: &mut String, reply: &Reply, closes: bool) -> Printed
+    ensures { steps.PrintsResult closes (Ok reply.now) (string_bytes out.new) result }
+{
+    match reply_answer(alloc, reply, closes) {
+        Ok(answer) => print(out, &answer),
+        Err(_) => Printed::NoMemory { sends_body: true },
+    }
+}
+
+// The answer where the counters are full.
+fn print_full(out: &mut String, closes: bool) -> Printed
+    ensures { steps.Prints (plain 503 None true closes) (string_bytes out.new) result }
+{
+    let answer = HttpAnswer::plain(StatusCode::SERVICE_UNAVAILABLE, true, closes);
+    print(out, &answer)
+}
+
+// The answer to a check that was refused.
+#[tactic(auto, using(crate::proofs::TurnLemmas::full_prints, crate::proofs::TurnLemmas::spent_prints))]
+fn print_fault(out: &mut String, fault: CheckFault, closes: bool) -> Printed
+    ensures { steps.PrintsResult closes (Err fault) (string_bytes out.new) result }
+{
+    match fault {
+        CheckFault::CountersFull { .. } => print_full(out, closes),
+        CheckFault::ClaimsSpent { .. } => print_full(out, closes),
+        CheckFault::OutOfMemory => Printed::NoMemory { sends_body: true },
+    }
+}
+
+// The answer to what came of a check.
+fn print_result(
+    alloc: Global,
+    out: &mut String,
+    came: Result<Reply, CheckFault>,
+    closes: bool,
+) -> Printed
+    ensures { steps.PrintsResult closes came (string_bytes out.new) result }
+{
+    match came {
+        Ok(reply) => print_reply(alloc, out, &reply, closes),
+        Err(fault) => print_fault(out, fault, closes),
+    }
+}
+
+// The moment to offer.
+fn moment_of<C: Clock>(clock: &C) -> Seconds
+    ensures { answers.IsOffered (C.bounds clock.now) result }
+{
+    Seconds::capped(clock.now())
+}
+
+// The connection closes after an answer that says so, and after the last that may come.
+fn closes_after(closes: bool, is_last: bool) -> bool
+    ensures { result ≡ (closes || is_last) }
+{
+    closes || is_last
+}
+
+// The answer to a fixed front.
+fn answer_fixed(out: &mut String, mut answer: HttpAnswer, is_last: bool) -> Printed
+    ensures { steps.Prints (answers.closing is_last answer) (string_bytes out.new) result }
+{
+    answer.closes = closes_after(answer.closes, is_last);
+    print(out, &answer)
+}
+
+/// The answer to a front that waits for no byte, printed into the text. `is_last` closes the connection after it.
+pub fn answer_front<R: Wait, C: Clock, K: Checks>(
+    rt: &R,
+    alloc: Global,
+    checks: &mut K,
+    clock: &C,
+    front: Front,
+    is_last: bool,
+    out: &mut String,
+) -> Printed
+    requires { is_waiting front ≡ false }
+    ensures { steps.TurnsOut K.answers (C.bounds clock.now) is_last front checks.old checks.new (string_bytes out.new) result }
+{
+    match front {
+        Front::Fixed { answer, .. } => answer_fixed(out, answer, is_last),
+        Front::Check {
+            request,
+            closes,
+            ..
+        } => {
+            let closes = closes_after(closes, is_last);
+            let came = checks.check(rt, alloc, &request, moment_of(clock));
+            print_result(alloc, out, came, closes)
+        }
+        Front::Ended | Front::CutShort => unreachable!(),
+    }
+}

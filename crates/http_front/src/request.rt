@@ -1,0 +1,42 @@
+// The request that a body is, and the text of its refusal.
+ghost use Rattle.std.specs.Prelude.{◌≡◌, false, IfOk, Some};
+ghost use Rattle.serde_json.specs.View.{view};
+ghost use Rattle.serde_json.specs.Written.{has_float};
+ghost use Rattle.rate_types.specs.Reading.{AnswersReading};
+ghost use Rattle.reply_text.specs.Texts.{refused_data};
+ghost use Rattle.http_front.specs.Requests.{body_reading, refusal_data, refusal_text};
+
+use proto_json::{FormFault, parse};
+use rate_types::{OutOfMemory, Place, Refused, Request, Word};
+use reply_text::{read_request, refused_value};
+use serde_json::{Value, json};
+use std::alloc::{AllocError, Global};
+
+/// The request that a body is.
+#[tactic(auto, using(proto_json::specs::Laws::reading_then), unfolding(crate::specs::Requests::body_reading))]
+pub fn read_body(alloc: Global, body: &[u8]) -> Result<Request, FormFault>
+    ensures { AnswersReading (λ r. Some r) result (body_reading body.now) }
+{
+    let value = parse(alloc, body)?;
+    let request = read_request(alloc, value, Place::empty(alloc))?;
+    Ok(request)
+}
+
+#[tactic(auto, unfolding(crate::specs::Requests::refusal_data))]
+fn refusal_value(alloc: Global, why: Value) -> Result<Value, AllocError>
+    requires { has_float (view why) ≡ false }
+    ensures value { IfOk result (λ v. view v ≡ refusal_data (view why)) }
+    ensures whole { IfOk result (λ v. has_float (view v) ≡ false) }
+{
+    json!(in alloc; {"refused": why})
+}
+
+/// The text that says why a body is refused.
+pub fn refusal_text(alloc: Global, refused: &Refused) -> Result<Word, OutOfMemory>
+    ensures { IfOk result (λ w. w ≡ refusal_text (refused_data refused.now)) }
+{
+    let why = refused_value(alloc, refused)?;
+    let value = refusal_value(alloc, why)?;
+    let text = value.to_string(alloc)?;
+    Ok(Word::of(text))
+}

@@ -1,0 +1,90 @@
+// The adapter over a real listener, on the loopback address. What std answers is trusted.
+ghost use Rattle.std.specs.Prelude.{◌≡◌, []};
+
+use crate::{Failed, Listen, ListenCall, ListenHistory, StreamLink};
+use std::net::{Ipv4Addr, Net, OpenListener, OpenStream, TcpListener};
+
+/// A listener of the system on the loopback address. A link is closed where it is given back.
+#[derive(Drop)]
+pub struct StreamListen<R: Net + Drop> {
+    rt: R,
+    listener: Option<R::Listener>,
+    history: ListenHistory,
+    faults: u64,
+}
+
+impl<R: Net + Drop> StreamListen<R> {
+    /// A listener that this runtime makes, not bound yet.
+    pub fn new(rt: R) -> Self
+        ensures history { ⟦<StreamListen<R> as Listen>⟧.history result ≡ [] }
+        ensures faults { ⟦<StreamListen<R> as Listen>⟧.faults result ≡ 0 }
+    {
+        StreamListen {
+            rt,
+            listener: None,
+            history: ListenHistory::new(),
+            faults: 0,
+        }
+    }
+}
+
+// A listener at this port of the loopback address, with the port that it has.
+fn listener_at<R: Net>(rt: &R, port: u16) -> Option<(R::Listener, u16)> {
+    let listener = TcpListener::bind(rt, (Ipv4Addr::LOCALHOST, port)).ok()?;
+    let got = listener.local_addr().ok()?.port();
+    Some((listener, got))
+}
+
+// The next stream of a listener, which delays no small answer.
+fn next_stream<L: OpenListener>(listener: &L) -> Option<L::Stream>
+where
+    L::Stream: OpenStream,
+{
+    let (stream, _) = listener.accept().ok()?;
+    stream.set_nodelay(true).ok()?;
+    Some(stream)
+}
+
+impl<R: Net + Drop> Listen for StreamListen<R> {
+    type Link = StreamLink<R::Stream>;
+
+    ghost history = { λ s. s.history.events };
+
+    ghost faults = { λ s. s.faults };
+
+    fn bind(&mut self, port: u16) -> Result<u16, Failed> {
+        let Some((listener, got)) = listener_at(&self.rt, port) else {
+            self.faults = self.faults.saturating_add(1);
+            self.history = self.history.and(&ListenCall::BindFailed { asked: port });
+            return Err(Failed);
+        };
+        self.listener = Some(listener);
+        self.history = self.history.and(&ListenCall::Bound {
+            asked: port,
+            port: got,
+        });
+        Ok(got)
+    }
+
+    fn accept(&mut self) -> Result<StreamLink<R::Stream>, Failed> {
+        let next = match &self.listener {
+            Some(listener) => next_stream(listener),
+            None => None,
+        };
+        let Some(stream) = next else {
+            self.faults = self.faults.saturating_add(1);
+            self.history = self.history.and(&ListenCall::AcceptFailed);
+            return Err(Failed);
+        };
+        self.history = self.history.and(&ListenCall::Accepted);
+        Ok(StreamLink::new(stream))
+    }
+
+    fn give_back(&mut self, number: u32, link: StreamLink<R::Stream>) {
+        self.history = self.history.and(&ListenCall::GaveBack {
+            number,
+            calls: &link.history,
+            is_shut: link.stream.is_none(),
+        });
+    }
+}
