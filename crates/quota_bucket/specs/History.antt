@@ -104,11 +104,6 @@ effect_in (Unassigned effect) = effect
 effect_in (Live strategy effect expiry) = effect
 effect_in (Expired strategy effect since) = effect
 
--- whether an expiry erases the bucket
-abbrev pub erases : AtExpiry → Bool
-erases Abandon = true
-erases _ = false
-
 -- whether an expiry begins a new effect
 abbrev pub has_fallback : AtExpiry → Bool
 has_fallback (Fallback fallback) = true
@@ -126,10 +121,13 @@ begins rules (Request at up) before = is_gone before
 begins rules (Assignment at lifetime strategy) before = begins_by_assignment before strategy
 begins rules (Abandonment at) before = true
 
--- the requests after an event: a request is decided by the phase that it leaves and the earlier ones
+-- whether a request at a moment is allowed, by the phase that it leaves and the earlier requests of its effect
+abbrev pub allowed_in : BucketRules → TimedPhase → ℕ → List Decision → Bool
+allowed_in rules phase at earlier = allows (strategy_in rules phase) (effect_in phase) at earlier
+
+-- the requests after an event, by the phase that it leaves
 abbrev pub with_event : BucketRules → Event → TimedPhase → List Decision → List Decision
-with_event rules (Request at up) phase earlier =
-    record { at = at; allowed = allows (strategy_in rules phase) (effect_in phase) at earlier } ∷ earlier
+with_event rules (Request at up) phase earlier = record { at = at; allowed = allowed_in rules phase at earlier } ∷ earlier
 with_event rules _ phase earlier = earlier
 
 -- the requests since the event that began the effect in force, each with its answer, the latest first
@@ -142,6 +140,5 @@ decided rules (event ∷ history) =
 -- whether a request at a moment is allowed after a history
 abbrev pub is_allowed : BucketRules → List Event → ℕ → Bool
 is_allowed rules history at =
-    let phase = after_request (phase_after rules history) at in
-    allows (strategy_in rules phase) (effect_in phase) at
+    allowed_in rules (after_request (phase_after rules history) at) at
     (if is_gone (phase_after rules history) then [] else decided rules history)

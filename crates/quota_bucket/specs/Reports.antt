@@ -1,16 +1,13 @@
 -- When a bucket reports, and what.
-use Rattle.std.specs.Prelude.{ℕ, ◌+◌, ◌-◌, ◌*◌, ◌/◌, ◌^◌, ◌&&◌, Bool, true, false, not, List, [], ◌∷◌, min, nat_lt, nat_le}
+use Rattle.std.specs.Prelude.{ℕ, ◌+◌, ◌-◌, ◌*◌, ◌/◌, ◌^◌, ◌&&◌, Bool, true, false, not, List, [], ◌∷◌, min, nat_le}
 use Rattle.std.specs.Prelude.{if◌then◌else◌, Some, None, Option, option_map, is_some, unwrap_or, count_by}
 use Rattle.quota_bucket.specs.Strategies.{Decision}
 use Rattle.quota_bucket.specs.History.{Event}
 use Rattle.quota_bucket.specs.History.{Advance, Request}
-use Rattle.quota_bucket.specs.History.{moment_of, phase_after, is_allowed, is_gone}
+use Rattle.quota_bucket.specs.History.{moment_of, phase_after, after_advance, is_allowed, is_gone}
 use Rattle.quota_bucket.specs.declared.rules.BucketRules.{BucketRules}
-use Rattle.quota_bucket.specs.declared.rules.AtExpiry.{AtExpiry}
-use Rattle.quota_bucket.specs.declared.rules.AtExpiry.TheVariants.{Abandon, Fallback, Reuse}
 use Rattle.quota_bucket.specs.declared.bucket_state.Usage.{Usage}
 use Rattle.quota_bucket.specs.declared.timed_phase.TimedPhase.{TimedPhase}
-use Rattle.quota_bucket.specs.declared.timed_phase.TimedPhase.TheVariants.{Live, Expired}
 
 -- the moment of the latest event
 abbrev pub present : List Event → ℕ
@@ -27,28 +24,16 @@ first_at rules (_ ∷ history) = first_at rules history
 abbrev pub next_report : ℕ → ℕ → ℕ → ℕ
 next_report first interval time = first + ((time - first) / interval + 1) * interval
 
--- when the bucket is erased if nothing else happens to it
-abbrev pub erasure : BucketRules → TimedPhase → Option ℕ
-erasure rules (Live strategy effect (Some expiry)) = erasure_at_expiry rules.expired
-  where
-    erasure_at_expiry : AtExpiry → Option ℕ
-    erasure_at_expiry Abandon = Some expiry
-    erasure_at_expiry (Fallback fallback) = option_map (λ n. expiry + n) rules.timeout
-    erasure_at_expiry Reuse = option_map (λ n. expiry + n) rules.timeout
-erasure rules (Expired strategy effect since) = option_map (λ n. since + n) rules.timeout
-erasure rules _ = None
-
 -- whether the bucket is still there after what falls due up to a moment
-abbrev pub outlives : Option ℕ → ℕ → Bool
-outlives None moment = true
-outlives (Some erased) moment = nat_lt moment erased
+unfoldable pub outlives : BucketRules → TimedPhase → ℕ → Bool
+outlives rules phase moment = not (is_gone (after_advance rules phase moment))
 
 -- the moment of the report that an advance sends, if it sends one: a report moment that the advance reaches, where the stream
 -- is up, a request was decided since the last report, and the bucket isn't erased at or before that moment
 abbrev pub reported_by_advance : BucketRules → TimedPhase → ℕ → Bool → ℕ → Bool → ℕ → Option ℕ
 reported_by_advance rules phase first waits from up to =
     let moment = next_report first rules.reporting.value from in
-    if nat_le moment to && (up && (waits && outlives (erasure rules phase) moment)) then Some moment else None
+    if nat_le moment to && (up && (waits && outlives rules phase moment)) then Some moment else None
 
 -- whether a request was decided since the last report
 abbrev pub waits : List Decision → Bool

@@ -1,5 +1,5 @@
-ghost use Rattle.std.specs.Prelude.{◌≡◌, ◌≤◌, ◌+◌, ◌∷◌, List, option_map};
-ghost use Rattle.quota_bucket.specs.Reports.{outlives, erasure};
+ghost use Rattle.std.specs.Prelude.{◌≡◌, ◌≤◌, ◌∷◌, List};
+ghost use Rattle.quota_bucket.specs.Reports.{outlives};
 
 use crate::meter::Meter;
 use crate::moments::{next_report, reached, span};
@@ -50,29 +50,11 @@ pub struct Advance {
 }
 
 /// Whether the bucket is still there at a moment, if nothing else happens to it.
+#[tactic(auto, unfolding(crate::specs::Reports::outlives))]
 fn outlives(rules: &BucketRules, phase: &TimedPhase, moment: Millis) -> bool
-    ensures { result ≡ outlives (erasure rules.now phase.now) moment }
+    ensures { result ≡ outlives rules.now phase.now moment }
 {
-    match phase {
-        TimedPhase::Live {
-            expiry: Some(expiry),
-            ..
-        } => {
-            moment.get() < *expiry || (!rules.expired.erases() && is_within(*expiry, rules, moment))
-        }
-        TimedPhase::Expired { since, .. } => is_within(since.get(), rules, moment),
-        _ => true,
-    }
-}
-
-/// Whether a moment comes before the end of a timeout.
-fn is_within(since: u64, rules: &BucketRules, moment: Millis) -> bool
-    ensures { result ≡ outlives (option_map (λ n. since + n) rules.now.timeout) moment }
-{
-    match rules.timeout {
-        Some(length) => moment.get() < since.saturating_add(length.get()),
-        None => true,
-    }
+    !phase.after_advance(rules, moment).is_gone()
 }
 
 impl BucketState {

@@ -29,14 +29,7 @@ pub struct BucketRules {
 }
 
 impl AtExpiry {
-    ghost use Rattle.quota_bucket.specs.History.{at_expiry, erases, has_fallback};
-
-    /// Whether an expiry erases the bucket.
-    pub fn erases(&self) -> bool
-        ensures { result ≡ erases self.now }
-    {
-        matches!(self, AtExpiry::Abandon)
-    }
+    ghost use Rattle.quota_bucket.specs.History.{at_expiry, has_fallback};
 
     /// Whether an expiry begins a new effect.
     pub fn has_fallback(&self) -> bool

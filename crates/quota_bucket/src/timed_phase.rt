@@ -31,7 +31,7 @@ pub enum TimedPhase {
 impl TimedPhase {
     ghost use Rattle.quota_bucket.specs.History.{is_gone, effect_in, strategy_in, after_expiry, after_timeout, after_advance};
     ghost use Rattle.quota_bucket.specs.History.{after_request, after_assignment, begins_by_expiry, begins_by_assignment};
-    ghost use Rattle.quota_bucket.specs.History.{renewed, erases};
+    ghost use Rattle.quota_bucket.specs.History.{renewed};
 
     /// Whether there is no bucket.
     pub fn is_gone(&self) -> bool

@@ -5,3 +5,4 @@ pub mod Steps
 pub mod Tabling
 pub mod Advancing
 pub mod Holding
+pub mod Unchanged

@@ -1,4 +1,4 @@
-ghost use Rattle.std.specs.Prelude.{◌≡◌, ◌<◌, ◌↔◌, ◌++◌, ◌∷◌, [], ℕ, Err, None, IfOk, OnOk, OnErr, false, find, option_map};
+ghost use Rattle.std.specs.Prelude.{◌≡◌, ◌<◌, ◌↔◌, ◌++◌, ◌∷◌, [], ℕ, Err, None, IfNone, IfOk, OnOk, OnErr, false, find, option_map};
 ghost use Rattle.quota_bucket.specs.Machine.{asked, new_state};
 ghost use Rattle.quota_buckets.specs.Sending.{report_from};
 ghost use Rattle.quota_buckets.specs.Tables.{is_stored_as, first_stored};
@@ -141,12 +141,13 @@ impl Buckets {
         })
     }
 
-    /// Decides and counts a request of a bucket; None exactly where there is no such bucket. No effect of a bucket has
-    /// then allowed more than its strategy's number.
+    /// Decides and counts a request of a bucket; None exactly where there is no such bucket, and then nothing changed. No
+    /// effect of a bucket has then allowed more than its strategy's number.
     pub fn decide(&mut self, id: &BucketId) -> Option<bool>
         ensures counted { self.new ≡ asked_again id.now self.old }
         ensures answer { result ≡ answer id.now self.old }
         ensures none { (result ≡ None) ↔ (phase_in id.now self.old ≡ NoPhase) }
+        ensures unchanged { IfNone result (self.new ≡ self.old) }
         ensures allowance { KeepAllowance self.new }
     {
         let allowed = self.table.ask(id, self.up);
@@ -155,7 +156,7 @@ impl Buckets {
     }
 
     /// Gives a bucket an assignment from now on, for its lifetime or for ever. NoBucket comes exactly where there is no
-    /// such bucket.
+    /// such bucket, and then nothing changed.
     pub fn assign(
         &mut self,
         id: &BucketId,
@@ -165,6 +166,7 @@ impl Buckets {
         ensures assigned { self.new ≡ assigned_in id.now lifetime strategy self.old }
         ensures answer { result ≡ assignment_result id.now strategy self.old }
         ensures none { (result ≡ Err (record {})) ↔ (phase_in id.now self.old ≡ NoPhase) }
+        ensures err { OnErr result (self.new ≡ self.old) }
     {
         let call = Call::assign(&lifetime, &strategy);
         let assigned = self.table.assign(id, lifetime, strategy);
@@ -172,10 +174,11 @@ impl Buckets {
         assigned.ok_or(NoBucket)
     }
 
-    /// Erases a bucket. NoBucket comes exactly where there is no such bucket.
+    /// Erases a bucket. NoBucket comes exactly where there is no such bucket, and then nothing changed.
     pub fn abandon(&mut self, id: &BucketId) -> Result<(), NoBucket>
         ensures abandoned { self.new ≡ abandoned_in id.now self.old }
         ensures none { (result ≡ Err (record {})) ↔ (phase_in id.now self.old ≡ NoPhase) }
+        ensures err { OnErr result (self.new ≡ self.old) }
     {
         let was_there = self.table.abandon(id);
         self.calls = self.calls.and(&Call::Abandon, id.pairs());

@@ -1,13 +1,12 @@
 -- A replay as a task: what each line of it leaves, and what it answers.
-use Rattle.std.proofs.Common.{◌≡◌, ℕ, suc, ◌+◌, ◌<◌, ◌≤◌, Bool, true, false, List, [], ◌∷◌, ◌++◌, length, Option, Some, None, Result, Ok, Err, refl, sym, ap, subst, ◌∙◌, append_assoc, append-nil, arith, inl, inr}
+use Rattle.std.proofs.Common.{◌≡◌, ℕ, suc, ◌+◌, ◌<◌, ◌≤◌, true, false, List, [], ◌∷◌, ◌++◌, length, Option, Some, None, Ok, Err, refl, sym, ap, subst, ◌∙◌, append_assoc, append-nil, arith, inr}
 use Rattle.std.specs.List.{concat}
 use Rattle.std.proofs.lemmas.List.Folds.{concat-append}
-use Rattle.rate_types.specs.declared.limits.TheConstants.{MOST_BYTES, MOST_LINES}
-use Rattle.quota_buckets.specs.Streams.{Stream}
+use Rattle.rate_types.specs.declared.limits.TheConstants.{MOST_LINES}
 use Rattle.quota_stream.specs.Outcomes.{outcome_of}
 use Rattle.text_lines.specs.Lines.{cut}
 use Rattle.quota_stream.specs.Output.{outputs}
-use Rattle.quota_stream.specs.Tasks.{Task, text_in_all, lines_in_all, IsOnWay, StandsBy, Stands, GoesOn, IsAnswer, IsFaultOf, IsShort, is_ended, IsTooLong}
+use Rattle.quota_stream.specs.Tasks.{Task, text_in_all, lines_in_all, IsOnWay, StandsBy, Stands, GoesOn, IsAnswer, IsFaultOf, is_ended}
 use Rattle.quota_stream.specs.declared.line_number.LineNumber.{LineNumber}
 use Rattle.quota_stream.specs.declared.replay_fault.ReplayFault.{ReplayFault}
 use Rattle.quota_stream.specs.declared.replay_fault.ReplayFault.TheVariants.{TooLong}

@@ -3,3 +3,5 @@ pub mod Outcomes
 pub mod Output
 pub mod Tasks
 pub mod Runs
+pub mod Replays
+pub mod Progress

@@ -1,5 +1,6 @@
 -- The output of a whole stream.
-use Rattle.std.specs.Prelude.{ℕ, ◌+◌, List, [], ◌∷◌, ◌++◌}
+use Rattle.std.specs.Prelude.{◌≡◌, ℕ, ◌+◌, ◌==◌, not, List, [], ◌∷◌, ◌++◌, Bool, true}
+use Rattle.std.specs.List.{list_all, AllByRecursion}
 use Rattle.text_lines.specs.Lines.{cut}
 use Rattle.quota_settings.specs.Covering.{AllSettings}
 use Rattle.quota_buckets.specs.Streams.{Stream, new_stream}
@@ -15,3 +16,17 @@ outputs index before s (bytes ∷ more) =
 -- The output of the stream of this index, by its bytes: the lines that are written for each of its lines, in order.
 abbrev pub quota_output : AllSettings → ℕ → List ℕ → List (List ℕ)
 quota_output settings index bytes = outputs index 0 (new_stream settings) (cut bytes)
+
+-- no line feed is among these bytes
+abbrev pub has_no_feed : List ℕ → Bool
+has_no_feed = list_all (λ b. not (b == 10))
+
+-- a line that is written: it has one line feed, at its end
+pub record IsLine (line : List ℕ) : Type 0 where
+  pub text : List ℕ
+  pub feed : line ≡ text ++ 10 ∷ []
+  pub plain : has_no_feed text ≡ true
+
+-- each of these is one line
+abbrev pub AreLines : List (List ℕ) → Type 0
+AreLines = AllByRecursion IsLine

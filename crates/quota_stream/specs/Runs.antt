@@ -1,5 +1,5 @@
 -- The replay of several streams.
-use Rattle.std.specs.Prelude.{◌≡◌, ℕ, ◌<◌, List, length, Option, Some, slice_get, slice_index_or, ⊤}
+use Rattle.std.specs.Prelude.{◌≡◌, ℕ, ◌<◌, List, length, Some, slice_get, slice_index_or, ⊤}
 use Rattle.quota_settings.specs.Covering.{AllSettings}
 use Rattle.quota_stream.specs.Tasks.{Task, Stands, output_text, IsTooLong, IsShort}
 use Rattle.quota_stream.specs.declared.replay_fault.ReplayFault.{ReplayFault}

@@ -1,4 +1,5 @@
 mod rows;
+mod sinks;
 mod turns;
 
 use crate::{ReplayFault, replay_all};

@@ -1,4 +1,5 @@
-ghost use Rattle.std.specs.Prelude.{◌≡◌, ℕ, ◌<◌, ◌++◌, ◌∷◌, [], length, slice_index_or, IfOk, IfErr, OnOk, All};
+ghost use Rattle.std.specs.Prelude.{◌≡◌, ℕ, List, ◌<◌, ◌++◌, ◌∷◌, [], length, slice_index_or, IfOk, IfErr, OnOk, All};
+ghost use Rattle.quota_stream.specs.Output.{AreLines, quota_output};
 ghost use Rattle.quota_stream.specs.Tasks.{Task, GoesOn, IsShort, texts_from};
 ghost use Rattle.quota_stream.specs.Runs.{StandEach, IsFaultOfOne};
 
@@ -117,8 +118,9 @@ fn run_all<R: Threads + Sync>(
 }
 
 /// Replays streams that are in memory, on at most so many workers: the text of each, in order, whatever the number of workers.
-/// Each worker has some of the streams, and replays 64 lines of one after 64 lines of the other. A stream of more than
-/// 67,108,864 bytes or 1,048,576 lines is refused with TooLong.
+/// Each worker has some of the streams, and replays 64 lines of one after 64 lines of the other. A text is the lines of its
+/// stream's output, each with one line feed, at its end. A stream of more than 67,108,864 bytes or 1,048,576 lines is refused
+/// with TooLong.
 pub fn replay_all<R: Threads + Sync>(
     rt: &R,
     alloc: Global,
@@ -129,6 +131,7 @@ pub fn replay_all<R: Threads + Sync>(
     requires { 0 < workers }
     ensures texts { IfOk result (λ v. v ≡ texts_from settings.now 0 streams.now) }
     ensures short { OnOk result (All IsShort streams.now) }
+    ensures lines { (index : ℕ) (bytes : List ℕ) → AreLines (quota_output settings.now index bytes) }
     ensures fault { IfErr result (λ fault. IsFaultOfOne streams.now fault) }
 {
     let Ok(mut tasks) = tasks_of(alloc, settings, streams.items()) else {

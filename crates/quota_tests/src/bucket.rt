@@ -78,7 +78,7 @@ fn strategies_decide(rt: HostRuntime) -> Result<(), Fail> {
 #[test]
 fn a_bucket_reports_and_expires(rt: HostRuntime) -> Result<(), Fail> {
     let fallback = AtExpiry::Fallback(Strategy::DenyAll);
-    assert!(rt; fallback.has_fallback() && !fallback.erases());
+    assert!(rt; fallback.has_fallback());
     let rules = rules(fallback)?;
     let at = moment(1_000)?;
     let first = BucketState::new(at).asked(&rules, at, true);

@@ -1,5 +1,5 @@
 use super::steps::{Step, buckets_of, id_named, moment, named, run, value_of};
-use crate::{Assigned, Phase, Strategy};
+use crate::{Assigned, Buckets, Phase, Strategy};
 use std::test::Fail;
 
 // A request with the name `a` belongs to the bucket `first`, one with the name `c` to none, and each other to the
@@ -8,6 +8,39 @@ const TWO: &str = r#"{"domain":"q","buckets":[
 {"match":{"name":"a"},"bucketIdBuilder":{"bucketIdBuilder":{"name":{"stringValue":"first"}}},"reportingInterval":"5s",
  "expiredAssignmentBehavior":{"fallbackRateLimit":{"blanketRule":"DENY_ALL"}}},
 {"match":{"name":"b"},"bucketIdBuilder":{"bucketIdBuilder":{"name":{"attribute":"name"}}},"reportingInterval":"5s"}]}"#;
+
+// Two settings that give one name. A bucket that the first of them makes denies all.
+const ONE_NAME: &str = r#"{"domain":"q","buckets":[
+{"match":{"name":"a"},"bucketIdBuilder":{"bucketIdBuilder":{"name":{"stringValue":"same"}}},"reportingInterval":"5s",
+ "noAssignmentBehavior":{"fallbackRateLimit":{"blanketRule":"DENY_ALL"}}},
+{"match":{"name":"b"},"bucketIdBuilder":{"bucketIdBuilder":{"name":{"stringValue":"same"}}},"reportingInterval":"5s"}]}"#;
+
+#[test]
+fn a_bucket_keeps_the_settings_that_made_it(rt: HostRuntime) -> Result<(), Fail> {
+    let rows = [
+        (
+            0,
+            Step::Request("a"),
+            "deny same [same at 0 after 0: 0 allowed, 1 denied]",
+        ),
+        (0, Step::Request("b"), "deny same"),
+        (1_000, Step::Abandon("same"), "abandoned"),
+        (
+            1_000,
+            Step::Request("b"),
+            "allow same [same at 1000 after 0: 1 allowed, 0 denied]",
+        ),
+        (1_000, Step::Request("a"), "allow same"),
+    ];
+    run(&rt, rt.alloc(), ONE_NAME, &rows)
+}
+
+fn needs_send<T: Send>() {}
+
+/// Each worker owns the buckets of its streams.
+fn crosses_threads() {
+    needs_send::<Buckets>();
+}
 
 #[test]
 fn a_request_without_settings_is_allowed(rt: HostRuntime) -> Result<(), Fail> {

@@ -2,7 +2,7 @@ use crate::tests::{replayed, settings_with};
 use std::test::Fail;
 
 // A bucket that is assigned twice a second while its stream is lost and comes back.
-const RENEWED: &str = r#"{"at":"0s","request":{}}
+pub const RENEWED: &str = r#"{"at":"0s","request":{}}
 {"at":"1s","response":{"bucketAction":[{"bucketId":{"bucket":{"name":"b"}},"quotaAssignmentAction":{"assignmentTimeToLive":"10s","rateLimitStrategy":{"requestsPerTimeUnit":{"requestsPerTimeUnit":"2","timeUnit":"SECOND"}}}}]}}
 {"at":"1.100s","request":{}}
 {"at":"1.200s","request":{}}
@@ -13,7 +13,7 @@ const RENEWED: &str = r#"{"at":"0s","request":{}}
 {"at":"1.700s","request":{}}
 "#;
 
-const RENEWED_OUTPUT: &str =
+pub const RENEWED_OUTPUT: &str =
     r#"{"at":"0s","bucket":{"name":"b"},"decision":"ALLOW","line":1,"stream":0}
 {"at":"0s","report":{"bucketQuotaUsages":[{"bucketId":{"bucket":{"name":"b"}},"numRequestsAllowed":"1"}],"domain":"q"},"stream":0}
 {"actions":["ASSIGNED"],"at":"1s","line":2,"stream":0}

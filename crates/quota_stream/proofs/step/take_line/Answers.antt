@@ -1,4 +1,4 @@
-use Rattle.std.proofs.Common.{◌≡◌, ℕ, ◌<◌, List, Some, Err, map, string_bytes, refl, sym, ap, ◌∙◌}
+use Rattle.std.proofs.Common.{◌≡◌, ℕ, ◌<◌, Some, Err, map, string_bytes, refl, sym, ap, ◌∙◌}
 use Rattle.quota_buckets.specs.declared.answers.AdvanceFault.TheVariants.{TimeBack}
 use Rattle.quota_stream.specs.Outcomes.{Outcome, time_back_lines}
 use Rattle.quota_stream.proofs.Steps.{accepted_in_time, not_in_time, on_ok, if_ok}

@@ -1,6 +1,6 @@
-use Rattle.std.proofs.Common.{◌≡◌, ◌++◌, ◌∷◌, [], take, string_bytes}
+use Rattle.std.proofs.Common.{◌≡◌, ◌++◌, take, string_bytes}
 use Rattle.std.specs.List.{flat_map}
-use Rattle.quota_stream.specs.Texts.{pair_text, next_pair}
+use Rattle.quota_stream.specs.Texts.{next_pair}
 use Rattle.quota_stream.proofs.text_parts.push_pairs.Given as goal
 
 abbrev pub invariant-rest : goal.invariant-rest

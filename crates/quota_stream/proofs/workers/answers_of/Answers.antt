@@ -1,7 +1,7 @@
-use Rattle.std.proofs.Common.{◌≡◌, ◌<◌, ◌++◌, ◌∷◌, [], ℕ, List, length, drop, get_or, refl, sym, ap, subst, ◌∙◌, append_assoc, ◌+◌, arith}
+use Rattle.std.proofs.Common.{◌<◌, ◌++◌, ◌∷◌, [], ℕ, List, length, drop, get_or, refl, sym, ap, subst, ◌∙◌, append_assoc, ◌+◌, arith}
 use Rattle.std.proofs.lemmas.List.{get_or-set_other, length-set}
 use Rattle.std.proofs.lemmas.Option.{slice_get-get_or}
-use Rattle.quota_stream.specs.Tasks.{Task, Stands, IsAnswer, output_text, texts_from}
+use Rattle.quota_stream.specs.Tasks.{Task, Stands, output_text, texts_from}
 use Rattle.quota_stream.proofs.Working.{fault_of_one, short_more, texts_at}
 use Rattle.quota_stream.proofs.workers.answers_of.Goals as goal
 

@@ -3,6 +3,7 @@ use Rattle.quota_bucket.specs.History.{phase_after, begins_by_assignment}
 use Rattle.quota_buckets.specs.Streams.{new_stream, assigned_as, or_no_bucket, bucket_of}
 use Rattle.quota_buckets.specs.Calls.{stream_of}
 use Rattle.quota_buckets.proofs.Holding.{call_more, assign_held, assign_told, ok_or_no_bucket, no_bucket_exactly}
+use Rattle.quota_buckets.proofs.Unchanged.{assign_unchanged}
 use Rattle.quota_buckets.proofs.buckets.Buckets.assign.Goals as goal
 
 pub invariant_of-self : goal.invariant_of-self
@@ -36,3 +37,7 @@ returns-clause-none c =
     ∙ assign_told c.self.inside.settings c.self.inside.up c.self.inside.table s c.args.id.now c.args.strategy c.self.invariant) in
     rw (← c.self.view_is, told) (no_bucket_exactly (λ p. assigned_as (begins_by_assignment (phase_after p.rules p.history) c.args.strategy))
     c.self.inside.settings c.self.inside.up c.self.inside.table s c.args.id.now c.self.invariant)
+
+pub returns-clause-err : goal.returns-clause-err
+returns-clause-err c =
+    assign_unchanged c.args.id.now c.args.lifetime c.args.strategy _ _ c.ok_or.result (returns-clause-assigned c) (returns-clause-answer c)

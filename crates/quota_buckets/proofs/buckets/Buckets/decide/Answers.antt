@@ -4,6 +4,7 @@ use Rattle.quota_buckets.specs.Streams.{new_stream, answer}
 use Rattle.quota_buckets.specs.Calls.{stream_of}
 use Rattle.quota_buckets.specs.declared.call.Call.TheVariants.{Decide}
 use Rattle.quota_buckets.proofs.Holding.{call_more, ask_held, ask_told, none_exactly, allowance_held}
+use Rattle.quota_buckets.proofs.Unchanged.{decide_unchanged}
 use Rattle.quota_buckets.proofs.buckets.Buckets.decide.Goals as goal
 
 pub invariant_of-self : goal.invariant_of-self
@@ -34,3 +35,6 @@ pub returns-clause-allowance : goal.returns-clause-allowance
 returns-clause-allowance c =
     allowance_held c.self.inside.settings c.self.inside.up c.ask-allowed.new.self (stream_of c.self.inside.settings c.and-self-inside.result.items)
     (invariant_of-self c)
+
+pub returns-clause-unchanged : goal.returns-clause-unchanged
+returns-clause-unchanged c = decide_unchanged c.args.id.now _ _ c.ask-allowed.result (returns-clause-counted c) (returns-clause-answer c)
