@@ -5,6 +5,8 @@
 //! write, and the checks that were made are those of the fronts that ask for one, in order, each from the state that the one
 //! before it left. What answers checks is a trait, `Checks`, whose ghost member says what a check does.
 //!
+//! `listening_line` and `link_end_line` are the lines that serving prints (`specs/ServeLines.antt`).
+//!
 //! The limits: at most 1,024 answers a connection; where memory is wanting, 500 stands in the place of an answer and closes.
 //! A connection of n bytes costs a time in proportion to n and to the number of reads times the bytes of a head.
 #![tactic(auto)]
@@ -13,6 +15,7 @@ mod body;
 mod buffers;
 mod checks;
 mod inbox;
+mod lines;
 mod link_end;
 mod next;
 mod serve;
@@ -20,6 +23,7 @@ mod turn;
 
 pub use buffers::Buffers;
 pub use checks::Checks;
+pub use lines::{link_end_line, listening_line};
 pub use link_end::{LinkCause, LinkEnd};
 pub use serve::serve_link;
 

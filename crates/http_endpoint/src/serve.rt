@@ -60,6 +60,7 @@ pub fn serve_link<R: Wait, N: Link, C: Clock, K: Checks>(
 ) -> LinkEnd
     ensures serves { Serves K.answers (C.bounds clock.now) checks.old checks.new (N.state link.old) (N.state link.new)
         result.cause result.answers }
+    ensures few { result.answers ≤ 1024 }
 {
     let inbox = &mut buffers.inbox;
     let out = &mut buffers.out;

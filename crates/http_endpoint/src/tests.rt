@@ -1,6 +1,6 @@
 ghost use Rattle.std.specs.Prelude.{⊤};
 
-use crate::{Buffers, Checks, LinkCause, LinkEnd, serve_link};
+use crate::{Buffers, Checks, LinkCause, LinkEnd, link_end_line, listening_line, serve_link};
 use arrayvec::ArrayVec;
 use rate_io::{FixedClock, MemLink};
 use rate_types::{OwnLimit, Request, Seconds, Unit};
@@ -194,5 +194,24 @@ fn the_largest_body_is_read(rt: HostRuntime) -> Result<(), Fail> {
     assert!(rt;
         out.as_str().starts_with("HTTP/1.1 400 Bad Request\r\nContent-Type: application/json\r\n")
     );
+    Ok(())
+}
+
+#[test]
+fn serving_prints_its_port_and_the_end_of_each_connection(rt: HostRuntime) -> Result<(), Fail> {
+    let alloc = rt.alloc();
+    let port = listening_line(alloc, 8_080)?;
+    assert_eq!(rt; port.as_str(), "{\"listening\":8080}");
+    for (cause, want) in [
+        (LinkCause::Closed, "CLOSED"),
+        (LinkCause::Ended, "ENDED"),
+        (LinkCause::CutShort, "CUT_SHORT"),
+        (LinkCause::ReadFault, "READ_FAULT"),
+        (LinkCause::WriteFault, "WRITE_FAULT"),
+    ] {
+        let line = link_end_line(alloc, 7, LinkEnd { cause, answers: 3 })?;
+        let want = format!(in alloc; "{{\"answers\":3,\"connection\":7,\"end\":\"{want}\"}}")?;
+        assert_eq!(rt; line, want);
+    }
     Ok(())
 }

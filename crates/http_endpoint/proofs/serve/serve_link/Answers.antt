@@ -21,6 +21,7 @@ returns-in-Ended g c =
       serves = serves_ended g.K.Checks.answers (g.C.Clock.bounds c.args.clock.now) c.args.checks.now c.answers.checks c.next_answer.new.checks
           (g.N.Link.state c.args.link.now) (g.N.Link.state c.answers.link) (g.N.Link.state c.next_answer.new.link) c.answers.answers c.answers.inbox x.0
           c.answers.invariant.goes x.1 x.2.0 x.2.1 x.2.2;
+      few = omega arith;
     }
 
 pub returns-in-CutShort : goal.returns-in-CutShort
@@ -30,6 +31,7 @@ returns-in-CutShort g c =
       serves = serves_cut g.K.Checks.answers (g.C.Clock.bounds c.args.clock.now) c.args.checks.now c.answers.checks c.next_answer.new.checks
           (g.N.Link.state c.args.link.now) (g.N.Link.state c.answers.link) (g.N.Link.state c.next_answer.new.link) c.answers.answers c.answers.inbox x.0
           c.answers.invariant.goes x.1 x.2.0 x.2.1 x.2.2;
+      few = omega arith;
     }
 
 pub returns-in-ReadFault : goal.returns-in-ReadFault
@@ -39,6 +41,7 @@ returns-in-ReadFault g c =
       serves = serves_read_fault g.K.Checks.answers (g.C.Clock.bounds c.args.clock.now) c.args.checks.now c.answers.checks c.next_answer.new.checks
           (g.N.Link.state c.args.link.now) (g.N.Link.state c.answers.link) (g.N.Link.state c.next_answer.new.link) c.answers.answers c.answers.inbox x.0
           c.answers.invariant.goes x.1 x.2.0 x.2.1;
+      few = omega arith;
     }
 
 pub returns-in_default : goal.returns-in_default
@@ -52,6 +55,7 @@ returns-in_default g c =
       serves = serves_failed g.K.Checks.answers (g.C.Clock.bounds c.args.clock.now) c.args.checks.now c.answers.checks c.next_answer.new.checks
           (g.N.Link.state c.args.link.now) (g.N.Link.state c.next_answer.new.link) (g.N.Link.state c.write.new.self) c.answers.answers (c.answers.inbox ++ given x.0)
           t.t c.bytes.result.now c.in_default.field-0 goes.0 (next_of c.answers.answers (c.answers.inbox ++ given x.0) t.t t.stands t.turn) t.lead c.in_default.ensures piece;
+      few = omega arith;
     }
 
 pub returns-then-closes : goal.returns-then-closes
@@ -66,6 +70,7 @@ returns-then-closes g c =
       serves = serves_closed g.K.Checks.answers (g.C.Clock.bounds c.args.clock.now) c.args.checks.now c.answers.checks c.next_answer.new.checks
           (g.N.Link.state c.args.link.now) (g.N.Link.state c.next_answer.new.link) (g.N.Link.state c.write.new.self) c.answers.answers (c.answers.inbox ++ given x.0)
           t.t c.bytes.result.now c.in-Ok.field-0 goes.0 (next_of c.answers.answers (c.answers.inbox ++ given x.0) t.t t.stands t.turn) closes t.lead c.in-Ok.ensures piece;
+      few = omega arith;
     }
 
 pub answers-preserved : goal.answers-preserved
