@@ -120,6 +120,7 @@ impl<I: Drop> Versions<I> {
         ensures answer { MatchOption result ((pass_state pass.new).view.shown ≡ (pass_state pass.old).version + 1)
             (λ n. (n + 1 ≡ (pass_state pass.new).view.shown) × ((pass_state pass.old).version < n)) }
         ensures loaded { HasLoaded (pass_state pass.old) (pass_state pass.new) }
+        ensures at { IsVersion (pass_state pass.new).view.known (pass_state pass.new).version (pass_state pass.new).index }
     {
         let length = match self.told.behind(&mut pass.seen) {
             Some(length) => length,

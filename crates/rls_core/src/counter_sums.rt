@@ -1,4 +1,4 @@
-ghost use Rattle.std.specs.Prelude.{◌≡◌, ◌≤◌, ◌+◌, ℕ, true, false, [], nat_lt, filter, length, if◌then◌else◌, Some, IfOk, IfSome, IfNone};
+ghost use Rattle.std.specs.Prelude.{◌≡◌, ◌≤◌, ◌<◌, ◌+◌, ℕ, true, false, [], nat_lt, filter, length, if◌then◌else◌, Some, IfOk, IfSome, IfNone};
 ghost use Rattle.std.specs.Prelude.{OnOk, OnErr};
 ghost use Rattle.std.specs.BTreeMap.{is_at, insert_entry};
 ghost use Rattle.std.specs.List.{AllByRecursion};
@@ -9,6 +9,7 @@ ghost use Rattle.rate_types.specs.declared.counter_key.CounterKey.{CounterKey};
 ghost use Rattle.window_keys.specs.Counter.{window_end_of};
 ghost use Rattle.rls_core.specs.Counting.{hits_charged, Binds, AllLater};
 ghost use Rattle.rls_core.specs.Sequential.{count_under};
+ghost use Rattle.rls_core.specs.Totals.{AreTotals};
 ghost use Rattle.rls_core.specs.Sums.{AreOpen, charged_totals, has_sum, sum_on};
 
 use crate::count_hits::count_hits;
@@ -90,6 +91,7 @@ impl CounterSums {
         ensures found { OnOk result ((c : CounterKey) → lookup (is_at (key_cmp c)) self.new
             ≡ (if same_counter counter c then Some sum else lookup (is_at (key_cmp c)) self.old)) }
         ensures len { OnOk result (length self.new ≡ length self.old + (if has_sum self.old counter then 0 else 1)) }
+        ensures open { OnOk result ((m : ℕ) → m < window_end_of counter → AreOpen m self.old → AreOpen m self.new) }
         ensures err { OnErr result (self.new ≡ self.old) }
     {
         let end = end_of(&counter);
@@ -113,7 +115,7 @@ impl CounterSums {
     }
 
     /// The counters, in order.
-    pub fn counters(&self) -> Result<Vec<CounterKey>, OutOfMemory>
+    pub(crate) fn counters(&self) -> Result<Vec<CounterKey>, OutOfMemory>
         ensures { IfOk result (λ ks. ks.items ≡ keys_of self.now) }
     {
         let mut counters = Vec::new(self.alloc);
@@ -124,7 +126,7 @@ impl CounterSums {
     }
 
     /// Gives those of these counters that have no sum the sum 0, or changes nothing for want of memory.
-    pub fn add(&mut self, counters: &[CounterKey]) -> Result<(), OutOfMemory>
+    pub(crate) fn add(&mut self, counters: &[CounterKey]) -> Result<(), OutOfMemory>
         ensures binds { OnOk result (Binds counters.now self.old self.new) }
         ensures len { OnOk result (length self.new ≤ length self.old + length counters.now) }
         ensures open { OnOk result ((m : ℕ) → AreOpen m self.old → AllLater m counters.now → AreOpen m self.new) }
@@ -148,7 +150,7 @@ impl CounterSums {
     }
 
     /// Counts hits under a limit on a counter that has a sum. None where it has none.
-    pub fn recount(&mut self, counter: &CounterKey, limit: u32, hits: u32) -> Option<Count>
+    pub(crate) fn recount(&mut self, counter: &CounterKey, limit: u32, hits: u32) -> Option<Count>
         ensures absent { IfNone result (has_sum self.old counter.now ≡ false) }
         ensures stays { IfNone result (self.new ≡ self.old) }
         ensures present { IfSome result (λ _. has_sum self.old counter.now ≡ true) }
@@ -168,7 +170,7 @@ impl CounterSums {
     }
 
     /// Drops the counters whose windows end at a moment or before it.
-    pub fn drop_ended(&mut self, moment: u64)
+    pub(crate) fn drop_ended(&mut self, moment: u64)
         ensures { self.new ≡ filter (λ e. nat_lt moment (window_end_of e.0)) self.old }
     {
         if self.next_end <= moment {
@@ -177,8 +179,8 @@ impl CounterSums {
         }
     }
 
-    /// The counters that were charged, with what was charged on them.
-    pub fn totals(&self) -> Result<Totals, OutOfMemory>
+    // The counters that were charged, with what was charged on them.
+    fn charged(&self) -> Result<Totals, OutOfMemory>
         ensures { IfOk result (λ ts. ts ≡ charged_totals self.now) }
     {
         let mut totals = Vec::new(self.alloc);
@@ -191,5 +193,15 @@ impl CounterSums {
             }
         }
         Ok(Totals::of(totals))
+    }
+
+    /// The counters whose sum isn't 0, in key order. At a moment at which all windows are open they are the totals of open
+    /// windows.
+    pub fn totals(&self) -> Result<Totals, OutOfMemory>
+        ensures { IfOk result (λ ts. (m : ℕ) → AreOpen m self.now → AreTotals (sum_on self.now) m ts) }
+    {
+        let _number = self.len();
+        let totals = self.charged()?;
+        Ok(totals)
     }
 }

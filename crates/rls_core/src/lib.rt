@@ -2,7 +2,8 @@
 //!
 //! A reply is the status of each descriptor by one configuration, at one moment, with the count of its counter.
 //! `Plain` is the limiter of one worker: it counts in one map, each descriptor finding what was charged before it. It uses
-//! one version of the configuration at a time, which a reload replaces.
+//! one version of the configuration at a time, which a reload replaces. [`CounterSums`] are sums for each of some counters, from
+//! which come the totals of open windows.
 #![tactic(auto)]
 
 mod count_each;
@@ -15,6 +16,7 @@ mod reply;
 mod status;
 mod totals;
 
+pub use counter_sums::CounterSums;
 pub use fault::{CheckFault, ReloadFault};
 pub use plain::Plain;
 pub use reply::Reply;

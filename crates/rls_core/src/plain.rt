@@ -214,7 +214,6 @@ impl Plain {
     pub fn totals(&self) -> Result<Totals, OutOfMemory>
         ensures { IfOk result (λ ts. AreTotals (sum_on self.now.sums) self.now.moment ts) }
     {
-        let _number = self.sums.len();
         let totals = self.sums.totals()?;
         Ok(totals)
     }

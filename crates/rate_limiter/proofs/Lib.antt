@@ -1,0 +1,9 @@
+pub mod Keys
+pub mod Lists
+pub mod Turning
+pub mod Counting
+pub mod Showing
+pub mod Stepping
+pub mod Making
+pub mod Renewing
+pub mod Readying

@@ -1,0 +1,289 @@
+-- From the parts of a check to the step of its pass.
+use Rattle.std.proofs.Common.{◌≡◌, ℕ, ◌≤◌, ◌&&◌, not, List, [], ◌∷◌, ◌++◌, map, Option, Some, None, IfSome, refl, sym, ap, ◌∙◌, subst, arith, append_assoc, length-append}
+use Rattle.std.specs.Prelude.{Result, Ok, Err, IsErr, IsErrAnd}
+use Rattle.std.specs.List.{AllByRecursion, list_any}
+use mathlib.Core.List.{IsPrefix}
+use Rattle.rate_types.specs.Requests.{RequestParts}
+use Rattle.rate_types.specs.declared.counter_name.CounterName.{CounterName}
+use Rattle.descriptor_tree.specs.Trees.{DomainTree}
+use Rattle.told_list.specs.declared.rule.TokenView.{TokenView}
+use Rattle.config_versions.specs.PassState.{PassState}
+use Rattle.counter_cells.specs.Views.{held_on}
+use Rattle.counter_cells.specs.Steps.{number_of, last_moment}
+use Rattle.counter_cells.specs.declared.view.CellView.{CellView}
+use Rattle.counter_cells.specs.declared.view.Tick.{Tick}
+use Rattle.counter_cells.specs.declared.answers.Spot.{Spot}
+use Rattle.counter_directory.specs.declared.claim.Claim.{Claim}
+use Rattle.counter_directory.specs.declared.acquired.AcquireFault.{AcquireFault}
+use Rattle.counter_directory.specs.declared.acquired.AcquireFault.TheVariants.{OutOfMemory, ClaimsSpent, CountersFull}
+use Rattle.counter_directory.specs.Keys.{keys_at}
+use Rattle.counter_directory.specs.Gates.{HeldSince}
+use Rattle.counter_directory.specs.Acquired.{Bounds, OffersNothing}
+use Rattle.counter_directory.specs.Spots.{LeavesAllButPins}
+use Rattle.rls_core.specs.Reply.{found_for, counters_named, charges_of, sights_of, IsReplyOf, is_over_limit}
+use Rattle.rls_core.specs.declared.status.Count.{Count}
+use Rattle.rls_core.specs.declared.status.Count.TheVariants.{NoCount, Before, Seen}
+use Rattle.rls_core.specs.declared.status.Status.{Status}
+use Rattle.rls_core.specs.declared.fault.CheckFault.{CheckFault}
+use Rattle.rls_core.specs.declared.fault.CheckFault.TheVariants as check
+use Rattle.rls_core.specs.declared.reply.Reply.{Reply}
+use Rattle.rule_lookup.specs.declared.found.Found.{Found}
+use Rattle.rule_lookup.specs.declared.found.Found.TheVariants.{NoRule, Unlimited, Limited}
+use Rattle.rate_limiter.specs.declared.planned.Planned.{Planned}
+use Rattle.rate_limiter.specs.Passes.{LimiterView, PassView, KeepsAllButTicks, KeepsAllButVersion}
+use Rattle.rate_limiter.specs.Counts.{Keeps, CountsEach}
+use Rattle.rate_limiter.specs.Values.{HasSights}
+use Rattle.rate_limiter.specs.PassStep.{HasRenewed, HasOffered, HasClaimed, HasCharged, IsPassStep}
+use Rattle.rate_limiter.specs.Refusals.{HasRefused, HasCause, AreClaimsSpent, AreCountersFull, one_more, Checks}
+use Rattle.rate_limiter.specs.Planned.{names_under, planned_each, CountedAt, DoneAt, DoneEach}
+use Rattle.rate_limiter.specs.Pinned.{HasWaited, HasPins, HasNoPins, HasPinCause, fault_of, refused_after}
+use Rattle.rate_limiter.proofs.Lists.{each_append, each_more, prefix_self}
+use Rattle.rate_limiter.proofs.Showing.{charged_of, seen_of}
+use Rattle.rate_limiter.proofs.Counting.{counts_of, statuses_of, keys_named, each_front, each_back}
+
+-- neither the number nor the ticks nor the moment changed
+pub record Still (v w : CellView) : Type 0 where
+  pub number : number_of w ≡ number_of v
+  pub ticks : w.ticks ≡ v.ticks
+  pub moment : w.moment ≡ v.moment
+
+still_then : (u v w : CellView) → Still u v → Still v w → Still u w
+still_then u v w a b = record { number = b.number ∙ a.number; ticks = b.ticks ∙ a.ticks; moment = b.moment ∙ a.moment }
+
+counted_still : (spot : Spot) (limit hits : ℕ) (c : Count) (v w : CellView) → CountedAt spot limit hits c v w → Still v w
+counted_still spot limit hits (Seen seen) v w h = record { number = ap number_of h.2; ticks = ap (λ (x : CellView). x.ticks) h.2; moment = ap (λ (x : CellView). x.moment) h.2 }
+counted_still spot limit hits (Before before) v w h =
+    let e = h.1.charge in
+    record { number = ap number_of e; ticks = ap (λ (x : CellView). x.ticks) e; moment = ap (λ (x : CellView). x.moment) e }
+counted_still spot limit hits NoCount v w h = absurd h
+
+same_still : (v w : CellView) → w ≡ v → Still v w
+same_still v w e = record { number = ap number_of e; ticks = ap (λ (x : CellView). x.ticks) e; moment = ap (λ (x : CellView). x.moment) e }
+
+done_still : (f : Found) (hits : ℕ) (spot : Option Spot) (c : Count) (v w : CellView) → DoneAt f hits spot c v w → Still v w
+done_still NoRule hits spot c v w h = same_still v w h
+done_still (Unlimited rule) hits spot c v w h = same_still v w h
+done_still (Limited limit unit shadow rule) hits None c v w h = same_still v w h
+done_still (Limited limit unit shadow rule) hits (Some spot) c v w h = counted_still spot limit hits c v w h
+
+each_still : (moment : ℕ) (ps : List Planned) (ss : List Status) (v w : CellView) → DoneEach moment ps ss v w → Still v w
+each_still moment [] [] v w h = same_still v w h
+each_still moment [] (s ∷ ss) v w h = absurd h
+each_still moment (p ∷ ps) [] v w h = absurd h
+each_still moment (p ∷ ps) (s ∷ ss) v w h = still_then v h.0 w (done_still p.found p.hits p.spot s.count v h.0 h.1.1) (each_still moment ps ss h.0 w h.2)
+
+-- a pass that only ticked has its looks and charges
+module _ (p q : PassView) (same : KeepsAllButTicks p q) where
+  pub ticks_keep : Keeps p.cells q.cells
+  ticks_keep = record { looks = ap (λ (x : PassView). x.cells.looks) same; charges = ap (λ (x : PassView). x.cells.charges) same }
+
+-- a tick, and then ticks without an offer
+last_then : (m : ℕ) (xs ys : List Tick) → last_moment m (xs ++ ys) ≡ last_moment (last_moment m xs) ys
+last_then m [] ys = refl
+last_then m (x ∷ xs) ys = last_then x.moment xs ys
+
+offered_then : (now : ℕ) (u v w : CellView) → HasOffered now u v → number_of w ≡ number_of v → (added : List Tick) → w.ticks ≡ v.ticks ++ added
+    → AllByRecursion (OffersNothing v) added → w.moment ≡ last_moment v.moment added → v.moment ≤ w.moment → HasOffered now u w
+offered_then now u v w h same added ticks offers moment later =
+    let number = h.number in
+    let a = h.least in
+    let b = h.later in
+    let some = h.some in
+    let n = length-append h.added added in
+    record {
+      number = same ∙ number;
+      added = h.added ++ added;
+      ticks = ticks ∙ ap (λ (l : List Tick). l ++ added) h.ticks ∙ append_assoc u.ticks h.added added;
+      some = omega arith;
+      offers = each_append (λ (x : Tick). (x.number ≡ number_of u) × IfSome x.offer (λ m. m ≡ now)) h.added added h.offers
+          (each_more (OffersNothing v) (λ (x : Tick). (x.number ≡ number_of u) × IfSome x.offer (λ m. m ≡ now))
+          (λ x o. (o.0 ∙ number, subst (λ (f : Option ℕ). IfSome f (λ m. m ≡ now)) (sym o.1) tt)) added offers);
+      moment = moment ∙ ap (λ n. last_moment n added) h.moment ∙ sym (last_then u.moment h.added added);
+      least = omega arith;
+      later = omega arith;
+    }
+
+-- ---- an answered check
+
+module _ (limiter : LimiterView) (request : RequestParts) (now : ℕ) (p p1 p2 q : PassView)
+    (offered : HasOffered now p.cells p1.cells) (ticked : KeepsAllButTicks p p1)
+    (rest : KeepsAllButVersion p1 p2) where
+  cells_same : p2.cells ≡ p1.cells
+  cells_same = ap (λ (x : PassView). x.cells) rest
+
+  start_version : p1.version ≡ p.version
+  start_version = ap (λ (x : PassView). x.version) ticked
+
+  start_claims : p2.claims ≡ p.claims
+  start_claims = ap (λ (x : PassView). x.claims) rest ∙ ap (λ (x : PassView). x.claims) ticked
+
+  start_limiter : p2.limiter ≡ p.limiter
+  start_limiter = ap (λ (x : PassView). x.limiter) rest ∙ ap (λ (x : PassView). x.limiter) ticked
+
+  start_refused : p2.refused ≡ p.refused
+  start_refused = ap (λ (x : PassView). x.refused) rest ∙ ap (λ (x : PassView). x.refused) ticked
+
+  -- the ticks of the check, and its counts, up to a view of the cells
+  module _ (w : CellView) (waited : HasWaited p2.cells w) where
+    waited_offers : HasOffered now p.cells w
+    waited_offers =
+        let f = subst (λ (v : CellView). HasWaited v w) cells_same waited in
+        offered_then now p.cells p1.cells w offered f.number f.added f.ticks f.offers f.moment f.later
+
+    waited_keeps : Keeps p.cells w
+    waited_keeps =
+        let f = subst (λ (v : CellView). HasWaited v w) cells_same waited in
+        let k = ticks_keep p p1 ticked in
+        record { looks = f.keeps.looks ∙ k.looks; charges = f.keeps.charges ∙ k.charges }
+
+  offered_still : (w x : CellView) → Still w x → HasOffered now p.cells w → HasOffered now p.cells x
+  offered_still w x s h = record {
+    number = s.number ∙ h.number;
+    added = h.added;
+    ticks = s.ticks ∙ h.ticks;
+    some = h.some;
+    offers = h.offers;
+    moment = s.moment ∙ h.moment;
+    least = subst (λ n. now ≤ n) (sym s.moment) h.least;
+    later = subst (λ n. p.cells.moment ≤ n) (sym s.moment) h.later;
+  }
+
+  pub step_of : (names : List CounterName) (rules : List Found) (spots : List Spot) (w mid : CellView) (r : Reply)
+      → HasRenewed p1.version p2.version
+      → rules ≡ map (found_for p2.version.index request) request.descriptors
+      → names ≡ names_under request request.descriptors rules
+      → HasPins names spots p2.cells w p2.claims q.claims
+      → DoneEach w.moment (planned_each request request.descriptors rules spots) r.statuses.items w mid
+      → LeavesAllButPins mid q.cells → q.cells.good ≡ []
+      → q.version ≡ p2.version → q.limiter ≡ p2.limiter → q.refused ≡ p2.refused
+      → r.version ≡ q.version.version → r.moment ≡ w.moment
+      → r.over ≡ (list_any (λ s. is_over_limit s.code) r.statuses.items && not limiter.global_shadow)
+      → IsPassStep limiter request now p r q
+  step_of names rules spots w mid r renewed rules_are names_are pins done leaves bare version same refused version_is moment_is over =
+      let ds = request.descriptors in
+      let config = p2.version.index in
+      let sts = r.statuses.items in
+      let index : q.version.index ≡ config = ap (λ (s : PassState (List DomainTree)). s.index) version in
+      let after : Still mid q.cells = record { number = ap number_of leaves; ticks = ap (λ (x : CellView). x.ticks) leaves; moment = ap (λ (x : CellView). x.moment) leaves } in
+      let all = still_then w mid q.cells (each_still w.moment (planned_each request ds rules spots) sts w mid done) after in
+      let moment : q.cells.moment ≡ w.moment = all.moment in
+      let names_so : names ≡ names_under request ds (map (found_for config request) ds) = names_are ∙ ap (names_under request ds) rules_are in
+      let done_so : DoneEach w.moment (planned_each request ds (map (found_for config request) ds) spots) sts w mid
+      = subst (λ (fs : List Found). DoneEach w.moment (planned_each request ds fs spots) sts w mid) rules_are done in
+      let pins_so : HasPins (names_under request ds (map (found_for config request) ds)) spots p2.cells w p2.claims q.claims
+      = subst (λ (ns : List CounterName). HasPins ns spots p2.cells w p2.claims q.claims) names_so pins in
+      let counts = counts_of q.claims.known request w.moment config ds spots sts w mid pins_so.bound pins_so.under pins_so.count done_so in
+      let back : Keeps mid q.cells = record { looks = ap (λ (x : CellView). x.looks) leaves; charges = ap (λ (x : CellView). x.charges) leaves } in
+      let from_start = each_front q.claims.known request w.moment config ds sts p.cells w q.cells (waited_keeps w pins.waited)
+      (each_back q.claims.known request w.moment config ds sts w mid q.cells counts back) in
+      let statuses = statuses_of q.claims.known request w.moment config ds spots sts w mid done_so in
+      let named : keys_at w.moment (names_under request ds (map (found_for config request) ds)) ≡ counters_named config request w.moment
+      = keys_named q.claims.known request w.moment config ds in
+      let claimed : HasClaimed (counters_named config request w.moment) p.claims q.claims
+      = subst (λ (t : TokenView Claim). HasClaimed (counters_named config request w.moment) t q.claims) start_claims
+      (subst (λ ks. HasClaimed ks p2.claims q.claims) named pins_so.claimed) in
+      record {
+        same = same ∙ start_limiter;
+        version = subst (λ (t : PassState (List DomainTree)). HasRenewed p.version t) (sym version)
+            (subst (λ (s : PassState (List DomainTree)). HasRenewed s p2.version) start_version renewed);
+        version_is = version_is;
+        ticks = offered_still w q.cells all (waited_offers w pins.waited);
+        moment_is = moment_is ∙ sym moment;
+        reply = subst (λ c. IsReplyOf c request q.cells.moment limiter.global_shadow r.over sts) (sym index)
+            (subst (λ n. IsReplyOf config request n limiter.global_shadow r.over sts) (sym moment)
+            (record { each = statuses; overall = over }));
+        counts = subst (λ c. CountsEach q.claims.known c request q.cells.moment ds sts p.cells q.cells) (sym index)
+            (subst (λ n. CountsEach q.claims.known config request n ds sts p.cells q.cells) (sym moment) from_start);
+        charged = subst (λ n. HasCharged q.claims.known (charges_of request n ds sts) p.cells q.cells) (sym moment)
+            (charged_of q.claims.known request w.moment config ds sts p.cells q.cells statuses from_start);
+        seen = subst (λ n. HasSights q.claims.known q.cells (sights_of request n ds sts)) (sym moment)
+            (seen_of q.claims.known request w.moment config ds sts p.cells q.cells statuses from_start);
+        claims = subst (λ c. HasClaimed (counters_named c request q.cells.moment) p.claims q.claims) (sym index)
+            (subst (λ n. HasClaimed (counters_named config request n) p.claims q.claims) (sym moment) claimed);
+        bare = bare;
+        refused = refused ∙ start_refused;
+      }
+
+  -- ---- a refused check
+
+  -- for want of memory before the counters were asked for
+  pub refused_early : q ≡ p2 → p2.cells.good ≡ [] → p1.version.version ≤ p2.version.version → IsPrefix p1.version.view.known p2.version.view.known
+      → p2.version.view.own ≡ p1.version.view.own → HasRefused now p q × (q.refused ≡ p.refused)
+  refused_early e bare rises knows own = (
+    subst (HasRefused now p) (sym e) (record {
+      same = start_limiter;
+      version = subst (λ (s : PassState (List DomainTree)). s.version ≤ p2.version.version) start_version rises;
+      versions = subst (λ (s : PassState (List DomainTree)). IsPrefix s.view.known p2.version.view.known) start_version knows;
+      own_versions = own ∙ ap (λ (s : PassState (List DomainTree)). s.view.own) start_version;
+      ticks = subst (HasOffered now p.cells) (sym cells_same) offered;
+      counts = subst (Keeps p.cells) (sym cells_same) (ticks_keep p p1 ticked);
+      claims = subst (IsPrefix p.claims.known) (ap (λ (t : TokenView Claim). t.known) (sym start_claims)) (prefix_self p.claims.known);
+      own_claims = ap (λ (t : TokenView Claim). t.own) start_claims;
+      bare = bare;
+    }),
+    ap (λ (x : PassView). x.refused) e ∙ start_refused,
+  )
+
+  held_same : (w : CellView) (held : List ℕ) → HeldSince p2.cells w [] held → HeldSince p.cells w [] held
+  held_same w held h k =
+      let e : held_on k p2.cells ≡ held_on k p.cells = ap (held_on k) cells_same ∙ ap (λ (x : PassView). held_on k x.cells) ticked in
+      let g = h k in
+      omega arith
+
+  module _ (b : Bounds) (names : List CounterName) (rules : List Found) (w : CellView) (u : TokenView Claim) (renewed : HasRenewed p1.version p2.version)
+      (rules_are : rules ≡ map (found_for p2.version.index request) request.descriptors) (names_are : names ≡ names_under request request.descriptors rules) where
+    named_so : keys_at w.moment names ≡ counters_named p2.version.index request w.moment
+    named_so =
+        ap (keys_at w.moment) (names_are ∙ ap (names_under request request.descriptors) rules_are) ∙ keys_named u.known request w.moment p2.version.index request.descriptors
+
+    renewed_so : HasRenewed p.version p2.version
+    renewed_so = subst (λ (s : PassState (List DomainTree)). HasRenewed s p2.version) start_version renewed
+
+    -- the pass at the end of a refused check
+    abbrev ended : ℕ → PassView
+    ended refused = record { limiter = p2.limiter; version = p2.version; claims = u; cells = w; refused = refused }
+
+    cause_of : (fault : AcquireFault) → HasPinCause b names p2.cells fault w u → HasCause b request p (fault_of fault) (ended (refused_after fault p2.refused))
+    cause_of OutOfMemory c = start_refused
+    cause_of (ClaimsSpent claims wanted) c = (
+      ap one_more start_refused,
+      renewed_so,
+      subst (λ ks. AreClaimsSpent b ks u.known claims wanted) named_so c,
+    )
+    cause_of (CountersFull moment live held wanted) c = (
+      ap one_more start_refused,
+      renewed_so,
+      subst (λ ks. AreCountersFull b ks u.known p.cells w moment live held wanted) named_so
+          (record {
+            moment_is = c.moment_is;
+            wanted_is = c.wanted_is;
+            some = c.some;
+            live_is = c.live_is;
+            held_is = (c.held_is.0, c.held_is.1, held_same w c.held_is.0 c.held_is.2, c.held_is.3);
+            few = c.few;
+            full = c.full;
+          }),
+    )
+
+    pub refusal_of : (fault : AcquireFault) → HasNoPins b names fault p2.cells w p2.claims u → q ≡ ended (refused_after fault p2.refused)
+        → HasRefused now p q × HasCause b request p (fault_of fault) q
+    refusal_of fault h e = subst (λ (x : PassView). HasRefused now p x × HasCause b request p (fault_of fault) x) (sym e) (
+      record {
+        same = start_limiter;
+        version = renewed_so.rises;
+        versions = renewed_so.knows;
+        own_versions = renewed_so.own;
+        ticks = waited_offers w h.waited;
+        counts = waited_keeps w h.waited;
+        claims = subst (λ (t : TokenView Claim). IsPrefix t.known u.known) start_claims h.knew;
+        own_claims = h.own ∙ ap (λ (t : TokenView Claim). t.own) start_claims;
+        bare = h.bare;
+      },
+      cause_of fault h.cause,
+    )
+
+-- for want of memory
+pub early : (b : Bounds) (limiter : LimiterView) (request : RequestParts) (now : ℕ) (p q : PassView) (r : Result Reply CheckFault)
+    → IsErr r × IsErrAnd r (λ f. f ≡ check.OutOfMemory) → HasRefused now p q × (q.refused ≡ p.refused) → Checks b limiter request now p r q
+early b limiter request now p q (Ok reply) e h = absurd e.1
+early b limiter request now p q (Err fault) e h = subst (λ (f : CheckFault). HasRefused now p q × HasCause b request p f q) (sym e.1) h

@@ -1,0 +1,147 @@
+use Rattle.std.proofs.Common.{◌≡◌, ◌∙◌, ◌<◌, ◌&&◌, not, ℕ, List, All, length, map, refl, sym, subst, ap, arith}
+use Rattle.std.specs.List.{list_any}
+use Rattle.told_list.specs.Tokens.{list_of, view}
+use Rattle.rate_types.specs.declared.request.Descriptor.{Descriptor}
+use Rattle.rule_lookup.specs.declared.found.Found.{Found}
+use Rattle.rule_lookup.specs.Replaces.{found_among}
+use Rattle.config_versions.specs.Passes.{pass_state, versions_of}
+use Rattle.counter_directory.specs.Spots.{spots_on}
+use Rattle.rls_core.specs.Reply.{found_for, is_over_limit}
+use Rattle.rls_core.specs.declared.fault.CheckFault.{CheckFault}
+use Rattle.rls_core.specs.declared.reply.Reply.{Reply}
+use Rattle.rls_core.specs.declared.status.Status.{Status}
+use Rattle.rate_limiter.specs.declared.planned.Planned.{Planned}
+use Rattle.rate_limiter.specs.Passes.{LimiterId, LimiterView, PassView, bounds_of, KeepsAllButVersion}
+use Rattle.rate_limiter.specs.PassStep.{HasRenewed}
+use Rattle.rate_limiter.specs.Planned.{names_under, planned_each, DoneEach, IsReady}
+use Rattle.rate_limiter.specs.Refusals.{HasRefused, HasCause}
+use Rattle.rate_limiter.proofs.Readying.{names_few, ready_all}
+use Rattle.rate_limiter.proofs.Stepping.{early, refused_early, refusal_of, step_of}
+use Rattle.rate_limiter.proofs.limiter.Limiter.check.Goals as goal
+
+pub returns-in_err-renew-clause-step : goal.returns-in_err-renew-clause-step
+returns-in_err-renew-clause-step g c =
+    let limiter = c.args.self.now in
+    let request = c.args.request.now in
+    let p = c.args.pass.now in
+    let q = c.renew.new.pass in
+    let s = c.in_err-renew.ensures.stayed in
+    let v = s.version in
+    early (bounds_of g.N.CellNaming.setup.cells limiter) limiter request c.args.now p q c.from_residual.result c.from_residual.ensures
+    (refused_early limiter request c.args.now p c.tick.new.pass q q c.tick.ensures.offered c.tick.ensures.rest c.renew.ensures.rest
+    refl c.renew.ensures.bare (omega (arith, v)) s.knows s.own)
+
+pub pin_names-requires-clause-few : goal.pin_names-requires-clause-few
+pin_names-requires-clause-few g c =
+    let few = names_few c.args.request.now c.descriptors-descriptors.result.now c.as_slice.result.now in
+    let names = ap length (c.as_slice-2.ensures.value ∙ c.in_ok-names.ensures.names) in
+    omega (arith, few, names, c.descriptors-descriptors.ensures.bounds)
+
+pub returns-in-Err-clause-step : goal.returns-in-Err-clause-step
+returns-in-Err-clause-step g c =
+    let limiter = c.args.self.now in
+    let request = c.args.request.now in
+    let p = c.args.pass.now in
+    let p1 = c.tick.new.pass in
+    let inside = c.pass.inside in
+    let p2 : PassView = record {
+      limiter = record { claims = list_of inside.claims; versions = versions_of inside.version };
+      version = pass_state inside.version;
+      claims = view inside.claims;
+      cells = inside.cells;
+      refused = inside.refused;
+    } in
+    let rest : KeepsAllButVersion p1 p2 = subst (KeepsAllButVersion p1) (sym c.pass.view_is) c.renew.ensures.rest in
+    let renewed : HasRenewed p1.version p2.version = subst (λ (x : PassView). HasRenewed p1.version x.version) (sym c.pass.view_is) c.in_ok-renew.ensures.renewed in
+    let all = c.descriptors-descriptors.ensures.all in
+    let rules = c.as_slice.result.now in
+    let rules_are : rules ≡ map (found_for p2.version.index request) request.descriptors
+    = c.as_slice.ensures.value ∙ c.find_rules-rules.ensures ∙ (λ i. map (found_among (c.index.ensures.same i) (c.domain.ensures.same i) (all i)) (all i)) in
+    let names_are : c.as_slice-2.result.now ≡ names_under request request.descriptors rules
+    = c.as_slice-2.ensures.value ∙ c.in_ok-names.ensures.names ∙ ap (λ (ds : List Descriptor). names_under request ds rules) all in
+    let id : p2.limiter ≡ limiter.id
+    = ap (λ (x : PassView). x.limiter) rest ∙ ap (λ (x : PassView). x.limiter) c.tick.ensures.rest ∙ c.requires.pass in
+    let list : list_of c.pin_names.new.claims ≡ list_of inside.claims = c.in-Err.ensures.pass ∙ sym (ap (λ (x : LimiterId). x.claims) id) in
+    let b = bounds_of g.N.CellNaming.setup.cells limiter in
+    let q : PassView = record {
+      limiter = record { claims = list_of c.pin_names.new.claims; versions = versions_of inside.version };
+      version = p2.version;
+      claims = view c.pin_names.new.claims;
+      cells = c.pin_names.new.cell_pass;
+      refused = c.refuse.new.refused;
+    } in
+    subst (λ (f : CheckFault). HasRefused c.args.now p q × HasCause b request p f q) (sym c.refuse.ensures.fault)
+    (refusal_of limiter request c.args.now p p1 p2 q c.tick.ensures.offered c.tick.ensures.rest rest b
+    c.as_slice-2.result.now rules c.pin_names.new.cell_pass (view c.pin_names.new.claims) renewed rules_are names_are c.in-Err.fault c.in-Err.ensures.refused
+    (λ i. record {
+      limiter = record { claims = list i; versions = versions_of inside.version };
+      version = p2.version;
+      claims = view c.pin_names.new.claims;
+      cells = c.pin_names.new.cell_pass;
+      refused = c.refuse.ensures.refused i;
+    }))
+
+pub count_pinned-statuses-requires-clause-ready : goal.count_pinned-statuses-requires-clause-ready
+count_pinned-statuses-requires-clause-ready g c =
+    let request = c.args.request.now in
+    let cells = g.N.CellNaming.setup.cells in
+    let w = c.pin_names.new.cell_pass in
+    let ds = c.descriptors-descriptors.result.now in
+    let rules = c.as_slice-in-Ok.result.now in
+    let spots = c.as_slice-in-Ok-2.result.now in
+    let names : c.as_slice-2.result.now ≡ names_under request ds rules
+    = c.as_slice-2.ensures.value ∙ c.in_ok-names.ensures.names
+    ∙ ap (λ (fs : List Found). names_under request ds fs) (c.as_slice.ensures.value ∙ sym c.as_slice-in-Ok.ensures.value) in
+    let count : length spots ≡ length (names_under request ds rules) = ap length c.as_slice-in-Ok-2.ensures.value ∙ c.in-Ok.ensures.pinned.count ∙ ap length names in
+    let within = subst (All (λ s. s.cell < cells)) (sym c.as_slice-in-Ok-2.ensures.value) c.in-Ok.ensures.within in
+    let pins = λ (k : ℕ). c.in-Ok.ensures.pins k ∙ ap (spots_on k) (sym c.as_slice-in-Ok-2.ensures.value) in
+    subst (All (IsReady cells w)) (sym (c.as_slice-in-Ok-3.ensures.value ∙ c.plan-plan.ensures)) (ready_all cells w request ds rules spots count within pins)
+
+pub returns-clause-step : goal.returns-clause-step
+returns-clause-step g c =
+    let limiter = c.args.self.now in
+    let request = c.args.request.now in
+    let p = c.args.pass.now in
+    let p1 = c.tick.new.pass in
+    let inside = c.pass.inside in
+    let p2 : PassView = record {
+      limiter = record { claims = list_of inside.claims; versions = versions_of inside.version };
+      version = pass_state inside.version;
+      claims = view inside.claims;
+      cells = inside.cells;
+      refused = inside.refused;
+    } in
+    let rest : KeepsAllButVersion p1 p2 = subst (KeepsAllButVersion p1) (sym c.pass.view_is) c.renew.ensures.rest in
+    let renewed : HasRenewed p1.version p2.version = subst (λ (x : PassView). HasRenewed p1.version x.version) (sym c.pass.view_is) c.in_ok-renew.ensures.renewed in
+    let all = c.descriptors-descriptors.ensures.all in
+    let rules = c.as_slice.result.now in
+    let rules_are : rules ≡ map (found_for p2.version.index request) request.descriptors
+    = c.as_slice.ensures.value ∙ c.find_rules-rules.ensures ∙ (λ i. map (found_among (c.index.ensures.same i) (c.domain.ensures.same i) (all i)) (all i)) in
+    let names_are : c.as_slice-2.result.now ≡ names_under request request.descriptors rules
+    = c.as_slice-2.ensures.value ∙ c.in_ok-names.ensures.names ∙ ap (λ (ds : List Descriptor). names_under request ds rules) all in
+    let id : p2.limiter ≡ limiter.id
+    = ap (λ (x : PassView). x.limiter) rest ∙ ap (λ (x : PassView). x.limiter) c.tick.ensures.rest ∙ c.requires.pass in
+    let list : list_of c.pin_names.new.claims ≡ list_of inside.claims = c.in-Ok.ensures.pass ∙ sym (ap (λ (x : LimiterId). x.claims) id) in
+    let w = c.pin_names.new.cell_pass in
+    let q : PassView = record {
+      limiter = record { claims = list_of c.pin_names.new.claims; versions = versions_of inside.version };
+      version = p2.version;
+      claims = view c.pin_names.new.claims;
+      cells = c.count_pinned-statuses.new.pass;
+      refused = inside.refused;
+    } in
+    let r : Reply = record { version = c.version.result; moment = c.moment-moment.result; over = c.is_over-over.result; statuses = c.count_pinned-statuses.result } in
+    let spots = c.in-Ok.spots.items in
+    let plan : c.as_slice-in-Ok-3.result.now ≡ planned_each request request.descriptors rules spots
+    = c.as_slice-in-Ok-3.ensures.value ∙ c.plan-plan.ensures
+    ∙ (λ i. planned_each request (all i) ((c.as_slice-in-Ok.ensures.value ∙ sym c.as_slice.ensures.value) i) (c.as_slice-in-Ok-2.ensures.value i)) in
+    let did = c.count_pinned-statuses.ensures.done in
+    let done : DoneEach w.moment (planned_each request request.descriptors rules spots) r.statuses.items w did.0
+    = subst (λ (l : List Planned). DoneEach w.moment l r.statuses.items w did.0) plan
+    (subst (λ n. DoneEach n c.as_slice-in-Ok-3.result.now r.statuses.items w did.0) c.moment-moment.ensures did.1) in
+    let shadow : c.self.inside.global_shadow ≡ limiter.global_shadow = ap (λ (l : LimiterView). l.global_shadow) c.self.view_is in
+    let over : r.over ≡ (list_any (λ (s : Status). is_over_limit s.code) r.statuses.items && not limiter.global_shadow)
+    = c.is_over-over.ensures ∙ (λ i. list_any (λ (s : Status). is_over_limit s.code) (c.as_slice-in-Ok-5.ensures.value i) && not (shadow i)) in
+    step_of limiter request c.args.now p p1 p2 q c.tick.ensures.offered c.tick.ensures.rest rest
+    c.as_slice-2.result.now rules spots w did.0 r renewed rules_are names_are c.in-Ok.ensures.pinned done did.2
+    c.count_pinned-statuses.ensures.bare refl (λ i. record { claims = list i; versions = versions_of inside.version }) refl c.version.ensures c.moment-moment.ensures over

@@ -1,0 +1,14 @@
+use Rattle.std.proofs.Common.{◌∙◌, ◌*◌, ◌-◌, sym}
+use Rattle.told_list.specs.Tokens.{view}
+use Rattle.counter_directory.specs.Acquired.{Bounds}
+use Rattle.rate_limiter.proofs.Turning.{turned_ok, no_names}
+use Rattle.rate_limiter.proofs.limiter.Limiter.pin_names.Goals as goal
+
+pub returns-then-is_empty-clause-pinned : goal.returns-then-is_empty-clause-pinned
+returns-then-is_empty-clause-pinned g c =
+    no_names c.args.names.now c.new.result.items (sym c.is_empty.ensures ∙ c.if-is_empty.true) c.new.ensures c.args.cell_pass.now (view c.args.claims.now)
+
+pub returns-in-Ok-clause-pinned : goal.returns-in-Ok-clause-pinned
+returns-in-Ok-clause-pinned g c =
+    let b : Bounds = record { cells = g.N.CellNaming.setup.cells; claims = c.self.inside.directory.claims_max; held = 32 * (c.self.inside.directory.passes - 1) } in
+    turned_ok b c.args.names.now c.in-Ok.field-0 c.args.cell_pass.now c.acquire.new.cell_pass (view c.args.claims.now) (view c.acquire.new.pass) c.in-Ok.ensures.turn

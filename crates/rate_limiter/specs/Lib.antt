@@ -1,0 +1,10 @@
+pub mod Passes
+pub mod Named
+pub mod Values
+pub mod Counts
+pub mod PassStep
+pub mod Refusals
+pub mod Planned
+pub mod Pinned
+pub mod Versions
+pub mod Made

@@ -1,0 +1,69 @@
+-- Inside: what a check has after the counters of its request are pinned, or aren't.
+use Rattle.std.specs.Prelude.{◌≡◌, ℕ, ◌≤◌, List, [], ◌++◌, length}
+use Rattle.std.specs.List.{AllByRecursion}
+use mathlib.Core.List.{IsPrefix}
+use mathlib.Core.Option.{some}
+use lib.ListN.{get_elem?}
+use Rattle.rate_types.specs.declared.counter_name.CounterName.{CounterName}
+use Rattle.told_list.specs.declared.rule.TokenView.{TokenView}
+use Rattle.counter_cells.specs.Views.{claim_on}
+use Rattle.counter_cells.specs.Steps.{number_of, last_moment}
+use Rattle.counter_cells.specs.declared.view.CellView.{CellView}
+use Rattle.counter_cells.specs.declared.view.Tick.{Tick}
+use Rattle.counter_cells.specs.declared.answers.Spot.{Spot}
+use Rattle.counter_directory.specs.declared.claim.Claim.{Claim}
+use Rattle.counter_directory.specs.declared.acquired.AcquireFault.{AcquireFault}
+use Rattle.counter_directory.specs.declared.acquired.AcquireFault.TheVariants.{OutOfMemory, ClaimsSpent, CountersFull}
+use Rattle.counter_directory.specs.Acquired.{Bounds, OffersNothing}
+use Rattle.counter_directory.specs.Keys.{keys_at}
+use Rattle.counter_directory.specs.Spots.{Bound}
+use Rattle.rate_limiter.specs.Counts.{Keeps}
+use Rattle.rate_limiter.specs.PassStep.{HasClaimed}
+use Rattle.rls_core.specs.declared.fault.CheckFault.{CheckFault}
+use Rattle.rls_core.specs.declared.fault.CheckFault.TheVariants as check
+use Rattle.rate_limiter.specs.Refusals.{AreClaimsSpent, AreCountersFull, one_more}
+
+-- the pass has ticked with its own moment, maybe never, and neither looked nor charged
+pub record HasWaited (v w : CellView) : Type 0 where
+  pub added : List Tick
+  pub ticks : w.ticks ≡ v.ticks ++ added
+  pub offers : AllByRecursion (OffersNothing v) added
+  pub number : number_of w ≡ number_of v
+  pub moment : w.moment ≡ last_moment v.moment added
+  pub later : v.moment ≤ w.moment
+  pub keeps : Keeps v w
+
+-- the counters of the names are pinned on these spots, each under a claim that binds it
+pub record HasPins (names : List CounterName) (spots : List Spot) (v w : CellView) (t u : TokenView Claim) : Type 0 where
+  pub waited : HasWaited v w
+  pub count : length spots ≡ length names
+  pub bound : Bound u.known (keys_at w.moment names) spots
+  pub under : (i : ℕ) (s : Spot) → get_elem? spots i ≡ some s → claim_on s.cell w.good ≡ s.claim
+  pub claimed : HasClaimed (keys_at w.moment names) t u
+
+-- why they aren't
+abbrev pub HasPinCause : Bounds → List CounterName → CellView → AcquireFault → CellView → TokenView Claim → Type 0
+HasPinCause b names v OutOfMemory w u = Unit {0}
+HasPinCause b names v (ClaimsSpent claims wanted) w u = AreClaimsSpent b (keys_at w.moment names) u.known claims wanted
+HasPinCause b names v (CountersFull moment live held wanted) w u =
+    AreCountersFull b (keys_at w.moment names) u.known v w moment live held wanted
+
+-- they aren't pinned, and nothing was claimed
+pub record HasNoPins (b : Bounds) (names : List CounterName) (fault : AcquireFault) (v w : CellView) (t u : TokenView Claim) : Type 0 where
+  pub waited : HasWaited v w
+  pub bare : w.good ≡ []
+  pub knew : IsPrefix t.known u.known
+  pub own : u.own ≡ t.own
+  pub cause : HasPinCause b names v fault w u
+
+-- the fault of the check then
+abbrev pub fault_of : AcquireFault → CheckFault
+fault_of OutOfMemory = check.OutOfMemory
+fault_of (ClaimsSpent claims wanted) = check.ClaimsSpent claims wanted
+fault_of (CountersFull moment live held wanted) = check.CountersFull moment live held wanted
+
+-- how many checks were refused then
+abbrev pub refused_after : AcquireFault → ℕ → ℕ
+refused_after OutOfMemory refused = refused
+refused_after (ClaimsSpent claims wanted) refused = one_more refused
+refused_after (CountersFull moment live held wanted) refused = one_more refused

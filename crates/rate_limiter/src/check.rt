@@ -1,0 +1,61 @@
+ghost use Rattle.std.specs.Prelude.{◌≡◌};
+
+use crate::names::names_of;
+use crate::over::is_over;
+use crate::pinned::{count_pinned, refuse};
+use crate::plan::plan;
+use crate::{Limiter, Pass};
+use counter_cells::CellNaming;
+use rate_types::{Request, Seconds};
+use rls_core::{CheckFault, Reply};
+use rule_lookup::find_rules;
+use std::alloc::Global;
+use std::sync::Wait;
+
+impl<N: CellNaming> Limiter<N> {
+    ghost use Rattle.std.specs.Prelude.{◌≡◌};
+    ghost use Rattle.rate_limiter.specs.Passes.{bounds_of};
+    ghost use Rattle.rate_limiter.specs.Refusals.{Checks};
+
+    /// Answers a request in the windows of a moment that is the pass's afterwards, and no earlier than `now`. It may wait for
+    /// other calls on this limiter.
+    pub fn check<R: Wait>(
+        &self,
+        rt: &R,
+        alloc: Global,
+        pass: &mut Pass<N>,
+        request: &Request,
+        now: Seconds,
+    ) -> Result<Reply, CheckFault>
+        requires pass { pass.old.limiter ≡ self.now.id }
+        ensures pass { pass.new.limiter ≡ self.now.id }
+        ensures step { Checks (bounds_of N.setup.cells self.now) self.now request.now now pass.old result pass.new }
+    {
+        self.tick(pass, now);
+        self.renew(rt, pass)?;
+        let descriptors = request.descriptors();
+        let rules = find_rules(pass.version.index(), request.domain(), descriptors);
+        let names = names_of(alloc, request, descriptors, rules.as_slice())?;
+        match self.pin_names(rt, &mut pass.claims, &mut pass.cells, names.as_slice()) {
+            Err(fault) => Err(refuse(&mut pass.refused, fault)),
+            Ok(spots) => {
+                let moment = pass.cells.moment();
+                let plan = plan(request, descriptors, rules.as_slice(), spots.as_slice());
+                let statuses = count_pinned(
+                    &self.cells,
+                    &mut pass.cells,
+                    plan.as_slice(),
+                    spots.as_slice(),
+                    moment,
+                );
+                let over = is_over(statuses.as_slice(), self.global_shadow);
+                Ok(Reply {
+                    version: pass.version.version(),
+                    moment,
+                    over,
+                    statuses,
+                })
+            }
+        }
+    }
+}

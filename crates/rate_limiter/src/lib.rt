@@ -1,0 +1,27 @@
+//! A limiter that many workers use at once: versions of a configuration, a directory of counters, and cells.
+//!
+//! Each worker owns a [`Pass`]. A check ([`Limiter::check`]) uses one version of the configuration, no older than the pass
+//! knows of, and counts each descriptor of its request on its counter by one atomic addition, in the windows of one moment.
+//!
+//! The promise: an answered check is a step of its pass (`specs/PassStep.antt`): its reply is that of one version, one moment
+//! and of the counts that it found (`specs/Counts.antt`), and the pass charged exactly what the reply shows, each charge under
+//! a claim that binds its counter. A refused check charges nothing, leaves no pin, and has its cause (`specs/Refusals.antt`).
+//!
+//! The limits: `check` and `reload` may wait for other calls on the limiter.
+#![tactic(auto)]
+
+mod check;
+mod count_each;
+mod limiter;
+mod make;
+mod names;
+mod over;
+mod pass;
+mod pinned;
+mod plan;
+mod planned;
+mod reload;
+mod renew;
+
+pub use limiter::{Limiter, Limits};
+pub use pass::Pass;

@@ -1,0 +1,90 @@
+ghost use Rattle.std.specs.Prelude.{◌≡◌};
+
+use config_versions::VersionPass;
+use counter_cells::{CellNaming, CellPass};
+use counter_directory::DirectoryPass;
+use rate_types::Seconds;
+use rule_lookup::Index;
+use std::marker::Model;
+
+/// What one worker has of a limiter. It goes with the [`Limiter`](crate::Limiter) that it was made with. Between two calls it
+/// holds no pin. Contracts see it as a `PassView`.
+#[derive(Drop)]
+pub struct Pass<N: CellNaming> {
+    pub(crate) version: VersionPass<Index>,
+    pub(crate) claims: DirectoryPass<N>,
+    pub(crate) cells: CellPass<N>,
+    pub(crate) refused: u64,
+}
+
+impl<N: CellNaming> Model for Pass<N> {
+    ghost use Rattle.std.specs.Prelude.{◌≡◌, []};
+    ghost use Rattle.told_list.specs.Tokens.{list_of, view as knows};
+    ghost use Rattle.config_versions.specs.Passes.{pass_state, versions_of};
+    ghost use Rattle.rate_limiter.specs.Passes.{PassView};
+    ghost use Rattle.std.specs.Coded.{codes};
+    ghost use Rattle.rule_lookup.specs.Stored.{trees_code};
+
+    ghost Value = { PassView };
+
+    ghost coded = { Prim.hlevel (codes, trees_code) };
+
+    ghost view = { λ p. record {
+      limiter = record { claims = list_of p.claims; versions = versions_of p.version };
+      version = pass_state p.version;
+      claims = knows p.claims;
+      cells = p.cells;
+      refused = p.refused;
+    } };
+
+    ghost invariant = { λ p. p.cells.good ≡ [] };
+}
+
+impl<N: CellNaming> Pass<N> {
+    ghost use Rattle.std.specs.Prelude.{◌≡◌, []};
+    ghost use Rattle.told_list.specs.Tokens.{list_of, view as knows};
+    ghost use Rattle.config_versions.specs.Passes.{pass_state, versions_of};
+
+    pub(crate) fn new(
+        version: VersionPass<Index>,
+        claims: DirectoryPass<N>,
+        cells: CellPass<N>,
+    ) -> Pass<N>
+        requires { cells.good ≡ [] }
+        ensures { result ≡ record {
+          limiter = record { claims = list_of claims; versions = versions_of version };
+          version = pass_state version;
+          claims = knows claims;
+          cells = cells;
+          refused = 0;
+        } }
+    {
+        Pass {
+            version,
+            claims,
+            cells,
+            refused: 0,
+        }
+    }
+
+    /// The number of the version at which the pass is.
+    pub fn version(&self) -> u32
+        ensures { result ≡ self.now.version.version }
+    {
+        self.version.version()
+    }
+
+    /// The moment that the pass's last tick answered, or at first the limiter's start.
+    pub fn moment(&self) -> Seconds
+        ensures { result ≡ self.now.cells.moment }
+    {
+        self.cells.moment()
+    }
+
+    /// How many checks of the pass were refused for want of cells or of claims. The count stops at the greatest u64.
+    pub fn refused(&self) -> u64
+        ensures { result ≡ self.now.refused }
+    {
+        self.refused
+    }
+}
