@@ -1,2 +1,4 @@
 pub mod LineSteps
 pub mod Journal
+pub mod Work
+pub mod Parts

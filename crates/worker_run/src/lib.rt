@@ -9,7 +9,9 @@
 
 mod gate;
 mod lines;
+mod running;
 mod working;
 
+pub use running::run_lines;
 pub use gate::{Gate, Open};
 pub use working::{Shared, Worked, Worker, work};
