@@ -10,7 +10,7 @@ use Rattle.rate_types.specs.Sums.{total, one_if, times}
 use Rattle.rate_types.proofs.Sums.{total_append}
 use Rattle.counter_directory.specs.Acquired.{Bounds}
 use Rattle.line_numbers.specs.Drawers.{drawn, numbers_of, is_told}
-use Rattle.line_numbers.specs.Rising.{IsDrawnOnce}
+use Rattle.line_numbers.specs.Rising.{IsRising, IsDrawnOnce}
 use Rattle.line_numbers.specs.declared.drawer.Drawer.{Drawer}
 use Rattle.rate_limiter.specs.Passes.{LimiterId, LimiterView, PassView}
 use Rattle.reply_text.specs.declared.record.Record.{Record}
@@ -166,6 +166,15 @@ module _ {N : Type 0} where
   told_all b limiter start lines numbers (w ∷ ws) [] count most h few each = absurd h
   told_all b limiter start lines numbers (w ∷ ws) (v ∷ vs) count most h few each = each 0 v.drawer (omega arith) h.0.1.told
 
+  in_order : (b : Bounds) (limiter : LimiterView) (start : ℕ) (lines : List ScriptLine) (numbers : TableId × ℕ) (ws : List (Worker N)) (vs : List (Worked N))
+      → AreDone b limiter start lines numbers ws vs → (i : ℕ) (rs : List Record) → get_elem? (map (λ v. v.journal) vs) i ≡ some rs → IsRising (map (λ (r : Record). r.line - 1) rs)
+  in_order b limiter start lines numbers [] [] h i rs e = absurd (some-ne-none rs (sym e))
+  in_order b limiter start lines numbers [] (v ∷ vs) h i rs e = absurd h
+  in_order b limiter start lines numbers (w ∷ ws) [] h i rs e = absurd h
+  in_order b limiter start lines numbers (w ∷ ws) (v ∷ vs) h zero rs e =
+      subst (λ (x : List Record). IsRising (map (λ (r : Record). r.line - 1) x)) (some-injective _ _ e) (subst IsRising h.0.1.drawn v.drawer.rises)
+  in_order b limiter start lines numbers (w ∷ ws) (v ∷ vs) h (suc i) rs e = in_order b limiter start lines numbers ws vs h.1 i rs e
+
   pub have_run : (b : Bounds) (limiter : LimiterView) (start : ℕ) (lines : List ScriptLine) (numbers : TableId × ℕ) (ws : List (Worker N)) (vs : List (Worked N))
       (records : List Record) → AreWorkers limiter.id numbers 0 ws → AreDone b limiter start lines numbers ws vs → Merges (length lines) (map (λ v. v.journal) vs) records
       → HaveRun b limiter start lines (map (λ w. w.pass) ws) (map (λ v. v.pass) vs) records
@@ -174,5 +183,6 @@ module _ {N : Type 0} where
     as_many = (mapped (λ (v : Worked N). v.pass) vs ∙ as_many b limiter start lines numbers ws vs h ∙ sym (mapped (λ (w : Worker N). w.pass) ws),
         mapped (λ (v : Worked N). v.journal) vs ∙ as_many b limiter start lines numbers ws vs h ∙ sym (mapped (λ (w : Worker N). w.pass) ws));
     each = λ i p rs q e f k. subst (λ (n : ℕ). Journal b limiter start n lines p rs q) (zero-add i) (journal_at b limiter start lines limiter.id numbers 0 ws vs a h i p rs q e f k);
+    in_order = in_order b limiter start lines numbers ws vs h;
     merges = m;
   }

@@ -5,6 +5,7 @@ ghost use Rattle.rate_limiter.specs.Passes.{bounds_of};
 ghost use Rattle.line_numbers.specs.Drawers.{numbers_id, numbers_of, lines_of, drawers_of, IsFresh};
 ghost use Rattle.script_run.specs.Views.{line_view};
 ghost use Rattle.worker_run.specs.Work.{HaveRun};
+ghost use Rattle.worker_run.specs.Clauses.{AreInOrder};
 ghost use Rattle.std.specs.List.{AllByRecursion};
 ghost use Rattle.worker_run.specs.Parts.{IsReady, AreWorkers, AreDone};
 
@@ -120,10 +121,12 @@ pub fn run_lines<N: CellNaming, G: Gate<N>, R: Wait>(
     gate: &G,
 ) -> Result<(Records, Vec<Pass<N>>), OutOfMemory>
     requires passes { AllByRecursion (λ p. p.limiter ≡ limiter.now.id) passes.items }
+    requires started { AllByRecursion (λ p. start ≤ p.cells.moment) passes.items }
     requires workers { (1 ≤ vec_len passes) × (vec_len passes ≤ MOST_WORKERS) }
     requires lines { length lines.now ≤ MOST_LINES }
     ensures run { IfOk result (λ r. HaveRun (bounds_of N.setup.cells limiter.now) limiter.now start (map line_view lines.now) passes.items
         r.1.items r.0) }
+    ensures records { IfOk result (λ r. AreInOrder (vec_len passes) start (map line_view lines.now) r.0) }
     ensures passes { IfOk result (λ r. AllByRecursion (λ p. p.limiter ≡ limiter.now.id) r.1.items) }
 {
     let count = lines.len() as u32;

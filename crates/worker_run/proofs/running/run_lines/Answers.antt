@@ -10,6 +10,8 @@ use Rattle.reply_text.specs.declared.record.Record.{Record}
 use Rattle.script_run.specs.Merged.{joined, EachLineOnce, Merges}
 use Rattle.script_run.specs.Views.{line_view}
 use Rattle.worker_run.specs.Work.{HaveRun}
+use Rattle.worker_run.specs.Clauses.{AreInOrder}
+use Rattle.worker_run.proofs.Clauses.{ordered}
 use Rattle.worker_run.proofs.Gathering.{all_ready, all_index, as_many, drawers_here, passes_here, told_all, lines_once, have_run}
 use Rattle.worker_run.proofs.running.run_lines.Goals as goal
 
@@ -73,6 +75,12 @@ returns-clause-run g c =
     subst (λ (l : List PassView). HaveRun b c.args.limiter.now c.args.start ls c.args.passes.items l c.in_ok-records.records) (sym c.in_ok-passes.ensures.passes)
     (subst (λ (l : List PassView). HaveRun b c.args.limiter.now c.args.start ls l (map (λ v. v.pass) vs) c.in_ok-records.records) c.in_ok-workers.ensures.passes
     (have_run b c.args.limiter.now c.args.start ls (numbers_id c.in_ok-numbers.numbers) ws vs c.in_ok-records.records c.in_ok-workers.ensures.workers c.in_ok-done.ensures.done merged))
+
+pub returns-clause-records : goal.returns-clause-records
+returns-clause-records g c =
+    subst (λ (n : ℕ). AreInOrder n c.args.start (map line_view c.args.lines.now) c.in_ok-records.records) (sym c.args.passes.ok.0)
+    (ordered (bounds_of g.N.CellNaming.setup.cells c.args.limiter.now) c.args.limiter.now c.args.start (map line_view c.args.lines.now) c.args.passes.items
+    c.in_ok-passes.field-0.passes.items c.in_ok-records.records (returns-clause-run g c) c.requires.started)
 
 pub returns-clause-passes : goal.returns-clause-passes
 returns-clause-passes g c =
