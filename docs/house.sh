@@ -8,8 +8,8 @@ while read -r group crates; do
     for crate in $crates; do group_of[$crate]=$group; done
 done <<'GROUPS'
 base rate_types rate_io text_lines proto_json
-counters window_keys told_list config_versions counter_cells counter_directory
-checks descriptor_tree config_json rule_lookup rls_core reply_text drive_run
+counters window_keys told_list config_versions counter_cells counter_directory over_cache
+checks descriptor_tree config_json rule_lookup rls_core rate_limiter reply_text drive_run
 quota agenda quota_bucket quota_settings quota_settings_json quota_buckets quota_lines quota_stream
 faces ratelimit_cli ratelimit
 GROUPS

@@ -7,3 +7,10 @@ pub mod Stepping
 pub mod Making
 pub mod Renewing
 pub mod Readying
+pub mod Meeting
+pub mod Naming
+pub mod Ending
+pub mod Sighting
+pub mod Parting
+pub mod Summing
+pub mod Totalling

@@ -18,7 +18,7 @@ stands [] i d h = absurd (omega arith)
 stands (s ∷ ss) zero d h = let o : one_if (s.cell == s.cell) ≡ 1 = ap one_if (eq-eqb s.cell s.cell refl) in omega arith
 stands (s ∷ ss) (suc i) d h = let r = stands ss i d (omega arith) in omega arith
 
-all_cons : {A : Type 0} (P : A → Type 0) (x : A) (xs : List A) → P x → All P xs → All P (x ∷ xs)
+pub all_cons : {A : Type 0} (P : A → Type 0) (x : A) (xs : List A) → P x → All P xs → All P (x ∷ xs)
 all_cons P x xs p h zero d l = p
 all_cons P x xs p h (suc k) d l = h k d (omega arith)
 

@@ -1,5 +1,5 @@
 -- From the parts of a check to the step of its pass.
-use Rattle.std.proofs.Common.{◌≡◌, ℕ, ◌≤◌, ◌&&◌, not, List, [], ◌∷◌, ◌++◌, map, Option, Some, None, IfSome, refl, sym, ap, ◌∙◌, subst, arith, append_assoc, length-append}
+use Rattle.std.proofs.Common.{◌≡◌, ℕ, ◌≤◌, ◌&&◌, not, List, [], ◌∷◌, ◌++◌, map, Option, Some, None, IfSome, sym, ap, ◌∙◌, subst, arith, append_assoc, length-append}
 use Rattle.std.specs.Prelude.{Result, Ok, Err, IsErr, IsErrAnd}
 use Rattle.std.specs.List.{AllByRecursion, list_any}
 use mathlib.Core.List.{IsPrefix}
@@ -37,7 +37,7 @@ use Rattle.rate_limiter.specs.PassStep.{HasRenewed, HasOffered, HasClaimed, HasC
 use Rattle.rate_limiter.specs.Refusals.{HasRefused, HasCause, AreClaimsSpent, AreCountersFull, one_more, Checks}
 use Rattle.rate_limiter.specs.Planned.{names_under, planned_each, CountedAt, DoneAt, DoneEach}
 use Rattle.rate_limiter.specs.Pinned.{HasWaited, HasPins, HasNoPins, HasPinCause, fault_of, refused_after}
-use Rattle.rate_limiter.proofs.Lists.{each_append, each_more, prefix_self}
+use Rattle.rate_limiter.proofs.Lists.{each_append, each_more, prefix_self, last_then}
 use Rattle.rate_limiter.proofs.Showing.{charged_of, seen_of}
 use Rattle.rate_limiter.proofs.Counting.{counts_of, statuses_of, keys_named, each_front, each_back}
 
@@ -78,10 +78,6 @@ module _ (p q : PassView) (same : KeepsAllButTicks p q) where
   ticks_keep = record { looks = ap (λ (x : PassView). x.cells.looks) same; charges = ap (λ (x : PassView). x.cells.charges) same }
 
 -- a tick, and then ticks without an offer
-last_then : (m : ℕ) (xs ys : List Tick) → last_moment m (xs ++ ys) ≡ last_moment (last_moment m xs) ys
-last_then m [] ys = refl
-last_then m (x ∷ xs) ys = last_then x.moment xs ys
-
 offered_then : (now : ℕ) (u v w : CellView) → HasOffered now u v → number_of w ≡ number_of v → (added : List Tick) → w.ticks ≡ v.ticks ++ added
     → AllByRecursion (OffersNothing v) added → w.moment ≡ last_moment v.moment added → v.moment ≤ w.moment → HasOffered now u w
 offered_then now u v w h same added ticks offers moment later =
@@ -128,7 +124,7 @@ module _ (limiter : LimiterView) (request : RequestParts) (now : ℕ) (p p1 p2 q
     waited_offers : HasOffered now p.cells w
     waited_offers =
         let f = subst (λ (v : CellView). HasWaited v w) cells_same waited in
-        offered_then now p.cells p1.cells w offered f.number f.added f.ticks f.offers f.moment f.later
+        offered_then now p.cells p1.cells w offered f.ticked.number f.ticked.added f.ticked.ticks f.ticked.offers f.ticked.moment f.ticked.later
 
     waited_keeps : Keeps p.cells w
     waited_keeps =

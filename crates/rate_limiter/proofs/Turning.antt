@@ -28,6 +28,7 @@ use Rattle.counter_directory.specs.Turns.{Turned}
 use Rattle.rate_limiter.specs.PassStep.{HasClaimed}
 use Rattle.rate_limiter.specs.Pinned.{HasWaited, HasPins, HasNoPins}
 use Rattle.window_keys.proofs.Counters.{is_same}
+use Rattle.rate_limiter.proofs.Meeting.{never_ticked}
 use Rattle.rate_limiter.proofs.Lists.{total_at, total_more, prefix_self, parts}
 
 -- what pins leave of a view
@@ -57,23 +58,27 @@ pins_stand ss v w p =
 
 ticked_waited : (v w : CellView) → HasTicked v w → HasWaited v w
 ticked_waited v w t = record {
-  added = t.added;
-  ticks = ap (λ (x : CellView). x.ticks) t.view;
-  offers = t.ticks;
-  number = ap number_of t.view;
-  moment = ap (λ (x : CellView). x.moment) t.view;
-  later = t.later;
+  ticked = record {
+    number = ap number_of t.view;
+    added = t.added;
+    ticks = ap (λ (x : CellView). x.ticks) t.view;
+    offers = t.ticks;
+    moment = ap (λ (x : CellView). x.moment) t.view;
+    later = t.later;
+  };
   keeps = record { looks = ap (λ (x : CellView). x.looks) t.view; charges = ap (λ (x : CellView). x.charges) t.view };
 }
 
 waited_stands : (v w x : CellView) → HasWaited v w → Stands w x → HasWaited v x
 waited_stands v w x h s = record {
-  added = h.added;
-  ticks = s.ticks ∙ h.ticks;
-  offers = h.offers;
-  number = s.number ∙ h.number;
-  moment = s.moment ∙ h.moment;
-  later = subst (λ n. v.moment ≤ n) (sym s.moment) h.later;
+  ticked = record {
+    number = s.number ∙ h.ticked.number;
+    added = h.ticked.added;
+    ticks = s.ticks ∙ h.ticked.ticks;
+    offers = h.ticked.offers;
+    moment = s.moment ∙ h.ticked.moment;
+    later = subst (λ n. v.moment ≤ n) (sym s.moment) h.ticked.later;
+  };
   keeps = record { looks = s.looks ∙ h.keeps.looks; charges = s.charges ∙ h.keeps.charges };
 }
 
@@ -182,7 +187,7 @@ turned_err b names (CountersFull moment live held wanted) v w t u bare h =
 -- without a turn nothing is pinned
 pub no_turn : (v : CellView) (t : TokenView Claim) → HasPins [] [] v v t t
 no_turn v t = record {
-  waited = record { added = []; ticks = sym (append-nil v.ticks); offers = tt; number = refl; moment = refl; later = omega arith; keeps = record { looks = refl; charges = refl } };
+  waited = record { ticked = never_ticked v; keeps = record { looks = refl; charges = refl } };
   count = refl;
   bound = λ i k s a b. absurd (mathlib.Core.Option.some-ne-none k (sym a));
   under = λ i s a. absurd (mathlib.Core.Option.some-ne-none s (sym a));

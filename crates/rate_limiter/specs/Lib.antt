@@ -3,8 +3,12 @@ pub mod Named
 pub mod Values
 pub mod Counts
 pub mod PassStep
+pub mod Ticks
 pub mod Refusals
 pub mod Planned
 pub mod Pinned
 pub mod Versions
 pub mod Made
+pub mod Meeting
+pub mod Closing
+pub mod Summed

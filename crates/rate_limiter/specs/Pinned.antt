@@ -1,36 +1,29 @@
 -- Inside: what a check has after the counters of its request are pinned, or aren't.
-use Rattle.std.specs.Prelude.{◌≡◌, ℕ, ◌≤◌, List, [], ◌++◌, length}
-use Rattle.std.specs.List.{AllByRecursion}
+use Rattle.std.specs.Prelude.{◌≡◌, ℕ, List, [], length}
 use mathlib.Core.List.{IsPrefix}
 use mathlib.Core.Option.{some}
 use lib.ListN.{get_elem?}
 use Rattle.rate_types.specs.declared.counter_name.CounterName.{CounterName}
 use Rattle.told_list.specs.declared.rule.TokenView.{TokenView}
 use Rattle.counter_cells.specs.Views.{claim_on}
-use Rattle.counter_cells.specs.Steps.{number_of, last_moment}
 use Rattle.counter_cells.specs.declared.view.CellView.{CellView}
-use Rattle.counter_cells.specs.declared.view.Tick.{Tick}
 use Rattle.counter_cells.specs.declared.answers.Spot.{Spot}
 use Rattle.counter_directory.specs.declared.claim.Claim.{Claim}
 use Rattle.counter_directory.specs.declared.acquired.AcquireFault.{AcquireFault}
 use Rattle.counter_directory.specs.declared.acquired.AcquireFault.TheVariants.{OutOfMemory, ClaimsSpent, CountersFull}
-use Rattle.counter_directory.specs.Acquired.{Bounds, OffersNothing}
+use Rattle.counter_directory.specs.Acquired.{Bounds}
 use Rattle.counter_directory.specs.Keys.{keys_at}
 use Rattle.counter_directory.specs.Spots.{Bound}
 use Rattle.rate_limiter.specs.Counts.{Keeps}
+use Rattle.rate_limiter.specs.Ticks.{HasTickedAlone}
 use Rattle.rate_limiter.specs.PassStep.{HasClaimed}
 use Rattle.rls_core.specs.declared.fault.CheckFault.{CheckFault}
 use Rattle.rls_core.specs.declared.fault.CheckFault.TheVariants as check
 use Rattle.rate_limiter.specs.Refusals.{AreClaimsSpent, AreCountersFull, one_more}
 
--- the pass has ticked with its own moment, maybe never, and neither looked nor charged
+-- the pass has ticked and offered nothing, and neither looked nor charged
 pub record HasWaited (v w : CellView) : Type 0 where
-  pub added : List Tick
-  pub ticks : w.ticks ≡ v.ticks ++ added
-  pub offers : AllByRecursion (OffersNothing v) added
-  pub number : number_of w ≡ number_of v
-  pub moment : w.moment ≡ last_moment v.moment added
-  pub later : v.moment ≤ w.moment
+  pub ticked : HasTickedAlone v w
   pub keeps : Keeps v w
 
 -- the counters of the names are pinned on these spots, each under a claim that binds it

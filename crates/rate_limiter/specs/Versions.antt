@@ -1,5 +1,5 @@
 -- What reloads and look-ups of newer versions leave.
-use Rattle.std.specs.Prelude.{◌≡◌, ℕ, List, length, Result, Ok, Err}
+use Rattle.std.specs.Prelude.{◌≡◌, ◌≤◌, ℕ, List, length, Result, Ok, Err}
 use mathlib.Core.List.{IsPrefix}
 use Rattle.rate_types.specs.declared.limits.TheConstants.{MOST_VERSIONS}
 use Rattle.descriptor_tree.specs.Trees.{DomainTree}
@@ -11,6 +11,12 @@ use Rattle.rls_core.specs.declared.fault.ReloadFault.TheVariants.{VersionsFull, 
 pub record HasStayed {I : Type 0} (s t : PassState I) : Type 0 where
   pub version : t.version ≡ s.version
   pub index : t.index ≡ s.index
+  pub knows : IsPrefix s.view.known t.view.known
+  pub own : t.view.own ≡ s.view.own
+
+-- the version hasn't fallen; what was known of the versions is known still, and the pass made none
+pub record HasRisen {I : Type 0} (s t : PassState I) : Type 0 where
+  pub rises : s.version ≤ t.version
   pub knows : IsPrefix s.view.known t.view.known
   pub own : t.view.own ≡ s.view.own
 

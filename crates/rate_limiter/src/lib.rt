@@ -11,9 +11,11 @@
 #![tactic(auto)]
 
 mod check;
+mod close;
 mod count_each;
 mod limiter;
 mod make;
+mod meet;
 mod names;
 mod over;
 mod pass;
@@ -22,6 +24,12 @@ mod plan;
 mod planned;
 mod reload;
 mod renew;
+mod split;
+mod totals;
 
+pub use close::Closed;
 pub use limiter::{Limiter, Limits};
 pub use pass::Pass;
+
+#[cfg(test)]
+mod tests;
