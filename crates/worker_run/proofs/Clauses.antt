@@ -169,7 +169,7 @@ module _ (b : Bounds) (limiter : LimiterView) (start : ℕ) (lines : List Script
       let s = step_at b limiter start z.worker lines z.first z.journal z.last z.steps z.place r z.found in
       let first = at_each (λ (p : PassView). start ≤ p.cells.moment) before z.worker z.first z.first_is started in
       let m = at_least b limiter start z.worker lines (λ (p : PassView). p.cells.moment) (λ (x : Record). x.moment)
-          (λ p x q t. (moments_rise b limiter start t.line x.outcome p q t.step, t.at)) z.first z.journal z.last z.steps z.place r z.found in
+      (λ p x q t. (moments_rise b limiter start t.line x.outcome p q t.step, t.at)) z.first z.journal z.last z.steps z.place r z.found in
       let t = tick_least b limiter start s.step.line r.outcome s.from s.to s.step.step in
       let at = s.step.at in
       let is = ap tick_of (line_is i l r el e z.worker s.from s.to s.step) in

@@ -28,6 +28,10 @@ all_index P [] h k d lt = absurd (omega arith)
 all_index P (x ∷ xs) h zero d lt = h.0
 all_index P (x ∷ xs) h (suc k) d lt = all_index P xs h.1 k d (omega arith)
 
+pub index_all : {A : Type 0} (P : A → Type 0) (xs : List A) → All P xs → AllByRecursion P xs
+index_all P [] h = tt
+index_all P (x ∷ xs) h = (h 0 x (omega arith), index_all P xs (λ k d lt. h (suc k) d (omega arith)))
+
 all_append : {A : Type 0} (P : A → Type 0) (xs ys : List A) → AllByRecursion P xs → AllByRecursion P ys → AllByRecursion P (xs ++ ys)
 all_append P [] ys h k = k
 all_append P (x ∷ xs) ys h k = (h.0, all_append P xs ys h.1 k)
@@ -180,8 +184,10 @@ module _ {N : Type 0} where
       → HaveRun b limiter start lines (map (λ w. w.pass) ws) (map (λ v. v.pass) vs) records
   have_run b limiter start lines numbers ws vs records a h m = record {
     journals = map (λ v. v.journal) vs;
-    as_many = (mapped (λ (v : Worked N). v.pass) vs ∙ as_many b limiter start lines numbers ws vs h ∙ sym (mapped (λ (w : Worker N). w.pass) ws),
-        mapped (λ (v : Worked N). v.journal) vs ∙ as_many b limiter start lines numbers ws vs h ∙ sym (mapped (λ (w : Worker N). w.pass) ws));
+    as_many = (
+      mapped (λ (v : Worked N). v.pass) vs ∙ as_many b limiter start lines numbers ws vs h ∙ sym (mapped (λ (w : Worker N). w.pass) ws),
+      mapped (λ (v : Worked N). v.journal) vs ∙ as_many b limiter start lines numbers ws vs h ∙ sym (mapped (λ (w : Worker N). w.pass) ws),
+    );
     each = λ i p rs q e f k. subst (λ (n : ℕ). Journal b limiter start n lines p rs q) (zero-add i) (journal_at b limiter start lines limiter.id numbers 0 ws vs a h i p rs q e f k);
     in_order = in_order b limiter start lines numbers ws vs h;
     merges = m;

@@ -69,7 +69,6 @@ earlier_line rs rising i j e r x y lt = pick (dec_le i j)
         let t = rising j i (omega arith) a.1 in
         absurd (omega (arith, a.0, c.0))
 
-
 -- no step lowers the version or the moment of a pass
 pub versions_rise : (b : Bounds) (limiter : LimiterView) (start : ℕ) (l : ScriptLine) (o : Outcome) (p q : PassView) → LineStep b limiter start l p o q → p.version.version ≤ q.version.version
 versions_rise b limiter start (check request) (outcome.Checked answer) p q s = s.1.version.rises

@@ -13,8 +13,8 @@ pub trait Gate<N: CellNaming> {
 
     /// The worker's record of the line stands in its journal. Where it is an answered check, the last charges of the pass are those
     /// that the record shows.
-    fn after(&self, worker: u32, line: &Line, record: &Record, pass: &Pass<N>)
-        requires { IsShown (line_view line.now) record.now pass.now };
+    fn after(&self, worker: u32, line: &Line, shown: &Record, pass: &Pass<N>)
+        requires { IsShown (line_view line.now) shown.now pass.now };
 }
 
 /// Does nothing.

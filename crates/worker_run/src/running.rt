@@ -81,10 +81,7 @@ struct Parts<N: CellNaming> {
     journals: Vec<Records>,
 }
 
-fn parts_of<N: CellNaming>(
-    alloc: Global,
-    workers: Vec<Worked<N>>,
-) -> Result<Parts<N>, OutOfMemory>
+fn parts_of<N: CellNaming>(alloc: Global, workers: Vec<Worked<N>>) -> Result<Parts<N>, OutOfMemory>
     ensures passes { IfOk result (λ p. p.passes.items ≡ map (λ w. w.pass) workers.items) }
     ensures drawers { IfOk result (λ p. p.drawers.items ≡ map (λ w. w.drawer) workers.items) }
     ensures journals { IfOk result (λ p. p.journals.items ≡ map (λ w. w.journal) workers.items) }
@@ -120,14 +117,14 @@ pub fn run_lines<N: CellNaming, G: Gate<N>, R: Wait>(
     start: Seconds,
     gate: &G,
 ) -> Result<(Records, Vec<Pass<N>>), OutOfMemory>
-    requires passes { AllByRecursion (λ p. p.limiter ≡ limiter.now.id) passes.items }
-    requires started { AllByRecursion (λ p. start ≤ p.cells.moment) passes.items }
+    requires passes { All (λ p. p.limiter ≡ limiter.now.id) passes.items }
+    requires started { All (λ p. start ≤ p.cells.moment) passes.items }
     requires workers { (1 ≤ vec_len passes) × (vec_len passes ≤ MOST_WORKERS) }
     requires lines { length lines.now ≤ MOST_LINES }
     ensures run { IfOk result (λ r. HaveRun (bounds_of N.setup.cells limiter.now) limiter.now start (map line_view lines.now) passes.items
         r.1.items r.0) }
     ensures records { IfOk result (λ r. AreInOrder (vec_len passes) start (map line_view lines.now) r.0) }
-    ensures passes { IfOk result (λ r. AllByRecursion (λ p. p.limiter ≡ limiter.now.id) r.1.items) }
+    ensures passes { IfOk result (λ r. All (λ p. p.limiter ≡ limiter.now.id) r.1.items) }
 {
     let count = lines.len() as u32;
     let (numbers, drawers) = LineNumbers::make(alloc, u64::from(count), passes.len() as u32)?;
