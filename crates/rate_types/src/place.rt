@@ -10,7 +10,7 @@ use std::fmt;
 use std::marker::Model;
 
 /// A place in a document: a JSON pointer (RFC 6901). The empty text is the whole document.
-#[derive(Debug, Drop)]
+#[derive(Clone, Debug, Drop)]
 pub struct Place {
     text: String,
 }

@@ -2,7 +2,7 @@ use crate::Place;
 use thiserror::Error;
 
 /// A refusal: its place in the document and its number.
-#[derive(Debug, Drop, Error)]
+#[derive(Clone, Debug, Drop, Error)]
 #[error("refused {number} at {at}")]
 pub struct Refused {
     pub at: Place,

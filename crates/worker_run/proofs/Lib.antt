@@ -1,0 +1,4 @@
+pub mod Journals
+pub mod Gathering
+pub mod Ordering
+pub mod Clauses

@@ -1,0 +1,92 @@
+use Rattle.std.proofs.Common.{◌≡◌, ◌≤◌, ◌∙◌, ℕ, List, All, true, map, length, vec_len, sym, subst, ap, arith}
+use Rattle.std.proofs.lemmas.List.{length-map}
+use Rattle.std.specs.List.{AllByRecursion}
+use Rattle.rate_types.specs.Sums.{total, times}
+use Rattle.line_numbers.specs.Drawers.{numbers_id, numbers_of, lines_of, drawn, is_told}
+use Rattle.line_numbers.specs.Rising.{IsDrawnOnce}
+use Rattle.line_numbers.specs.declared.drawer.Drawer.{Drawer}
+use Rattle.rate_limiter.specs.Passes.{bounds_of, PassView}
+use Rattle.reply_text.specs.declared.record.Record.{Record}
+use Rattle.script_run.specs.Merged.{joined, EachLineOnce, Merges}
+use Rattle.script_run.specs.Views.{line_view}
+use Rattle.worker_run.specs.Work.{HaveRun}
+use Rattle.worker_run.specs.Clauses.{AreInOrder}
+use Rattle.worker_run.proofs.Clauses.{ordered}
+use Rattle.worker_run.proofs.Gathering.{all_ready, all_index, index_all, as_many, drawers_here, passes_here, told_all, lines_once, have_run}
+use Rattle.worker_run.proofs.running.run_lines.Goals as goal
+
+pub work_all-done-requires-clause-ready : goal.work_all-done-requires-clause-ready
+work_all-done-requires-clause-ready g c =
+    all_ready c.args.limiter.now.id (numbers_id c.in_ok-numbers.numbers) 0 c.in_ok-workers.workers.items c.in_ok-workers.ensures.workers
+
+pub close-requires-clause-drawers : goal.close-requires-clause-drawers
+close-requires-clause-drawers g c =
+    let done = drawers_here _ _ _ _ _ c.in_ok-workers.workers.items c.in_ok-done.field-0.items c.in_ok-done.ensures.done in
+    λ k d lt. (all_index (λ (d : Drawer). (numbers_of d ≡ numbers_id c.in_ok-numbers.numbers) × (is_told d ≡ true)) c.in_ok-passes.field-0.drawers.items
+    (subst (λ l. AllByRecursion (λ (d : Drawer). (numbers_of d ≡ numbers_id c.in_ok-numbers.numbers) × (is_told d ≡ true)) l) (sym c.in_ok-passes.ensures.drawers) done) k d lt).0
+
+pub close-requires-clause-every : goal.close-requires-clause-every
+close-requires-clause-every g c =
+    let many = as_many _ _ _ _ _ c.in_ok-workers.workers.items c.in_ok-done.field-0.items c.in_ok-done.ensures.done in
+    let a = c.in_ok-passes.field-0.drawers.ok.0 in
+    let b = ap length c.in_ok-passes.ensures.drawers in
+    let d = length-map c.in_ok-done.field-0.items (λ v. v.drawer) in
+    let e = ap length c.in_ok-workers.ensures.passes in
+    let f = length-map c.in_ok-workers.workers.items (λ w. w.pass) in
+    let p = c.args.passes.ok.0 in
+    let n = c.in_ok-numbers.ensures.numbers in
+    omega arith
+
+pub merge-requires : goal.merge-requires
+merge-requires g c =
+    let ws = c.in_ok-workers.workers.items in
+    let vs = c.in_ok-done.field-0.items in
+    let done = c.in_ok-done.ensures.done in
+    let drawers = c.in_ok-passes.ensures.drawers in
+    let long : length (map line_view c.args.lines.now) ≡ length c.args.lines.now = length-map c.args.lines.now line_view in
+    let some_worker : 1 ≤ length ws =
+    let e = ap length c.in_ok-workers.ensures.passes in
+    let f = length-map ws (λ w. w.pass) in
+    let p = c.args.passes.ok.0 in
+    let w = c.requires.workers.0 in
+    omega arith in
+    let told = told_all _ _ _ _ _ ws vs c.close.result (lines_of c.in_ok-numbers.numbers) done some_worker
+    (subst (λ l. All (λ (d : Drawer). is_told d ≡ true → c.close.result ≡ lines_of c.in_ok-numbers.numbers) l) drawers c.close.ensures.whole) in
+    let made = c.in_ok-numbers.ensures.numbers.0 in
+    let from = c.from.ensures in
+    let count : c.close.result ≡ length (map line_view c.args.lines.now) = omega (arith, c.len.ensures) in
+    let once = lines_once _ _ _ (map line_view c.args.lines.now) _ ws vs c.close.result done count
+    (λ n. subst (λ (l : List Drawer). IsDrawnOnce c.close.result n (total (λ (d : Drawer). times n (drawn d)) l)) drawers (c.close.ensures.once n)) in
+    record {
+      once = subst (λ (l : List (List Record)). EachLineOnce (length c.args.lines.now) (joined l)) (sym c.in_ok-passes.ensures.journals)
+          (subst (λ (n : ℕ). EachLineOnce n (joined (map (λ v. v.journal) vs))) long once);
+    }
+
+pub returns-clause-run : goal.returns-clause-run
+returns-clause-run g c =
+    let ws = c.in_ok-workers.workers.items in
+    let vs = c.in_ok-done.field-0.items in
+    let long : length c.args.lines.now ≡ length (map line_view c.args.lines.now) = sym (length-map c.args.lines.now line_view) in
+    let merged : Merges (length (map line_view c.args.lines.now)) (map (λ v. v.journal) vs) c.in_ok-records.records =
+    subst (λ (n : ℕ). Merges n (map (λ v. v.journal) vs) c.in_ok-records.records) long
+    (subst (λ (l : List (List Record)). Merges (length c.args.lines.now) l c.in_ok-records.records) c.in_ok-passes.ensures.journals c.in_ok-records.ensures.merged) in
+    let b = bounds_of g.N.CellNaming.setup.cells c.args.limiter.now in
+    let ls = map line_view c.args.lines.now in
+    subst (λ (l : List PassView). HaveRun b c.args.limiter.now c.args.start ls c.args.passes.items l c.in_ok-records.records) (sym c.in_ok-passes.ensures.passes)
+    (subst (λ (l : List PassView). HaveRun b c.args.limiter.now c.args.start ls l (map (λ v. v.pass) vs) c.in_ok-records.records) c.in_ok-workers.ensures.passes
+    (have_run b c.args.limiter.now c.args.start ls (numbers_id c.in_ok-numbers.numbers) ws vs c.in_ok-records.records c.in_ok-workers.ensures.workers c.in_ok-done.ensures.done merged))
+
+pub returns-clause-records : goal.returns-clause-records
+returns-clause-records g c =
+    subst (λ (n : ℕ). AreInOrder n c.args.start (map line_view c.args.lines.now) c.in_ok-records.records) (sym c.args.passes.ok.0)
+    (ordered (bounds_of g.N.CellNaming.setup.cells c.args.limiter.now) c.args.limiter.now c.args.start (map line_view c.args.lines.now) c.args.passes.items
+    c.in_ok-passes.field-0.passes.items c.in_ok-records.records (returns-clause-run g c)
+    (index_all (λ (p : PassView). c.args.start ≤ p.cells.moment) c.args.passes.items c.requires.started))
+
+pub workers_of-requires-clause-passes : goal.workers_of-requires-clause-passes
+workers_of-requires-clause-passes g c = index_all (λ (p : PassView). p.limiter ≡ c.args.limiter.now.id) c.args.passes.items c.requires.passes
+
+pub returns-clause-passes : goal.returns-clause-passes
+returns-clause-passes g c =
+    all_index (λ (p : PassView). p.limiter ≡ c.args.limiter.now.id) c.in_ok-passes.field-0.passes.items (subst (λ l. AllByRecursion (λ (p : PassView). p.limiter ≡ c.args.limiter.now.id) l) (sym c.in_ok-passes.ensures.passes)
+    (passes_here _ _ _ _ _ c.in_ok-workers.workers.items c.in_ok-done.field-0.items c.in_ok-done.ensures.done))

@@ -1,0 +1,31 @@
+use Rattle.std.proofs.Common.{◌≡◌, ◌-◌, ◌+◌, ◌<◌, ◌∷◌, [], ◌++◌, All, ap, ◌∙◌, sym, arith, subst, map, length, length-append}
+use Rattle.line_numbers.specs.Drawers.{drawn}
+use Rattle.rate_limiter.specs.Passes.{bounds_of}
+use Rattle.script_run.specs.Views.{line_view}
+use Rattle.worker_run.specs.Journal.{Journal}
+use Rattle.worker_run.proofs.Journals.{journal_push, rising_length, map_push, one_before}
+use Rattle.worker_run.proofs.working.work.Goals as goal
+
+pub lines-smaller : goal.lines-smaller
+lines-smaller g c =
+    let e = c.draw.ensures in
+    let below : All (λ x. x < length c.args.run.now.lines.now) (drawn c.draw.new.drawer) = subst (λ n. All (λ x. x < n) (drawn c.draw.new.drawer)) c.requires.lines.1 e.below in
+    let few = rising_length (drawn c.draw.new.drawer) (length c.args.run.now.lines.now) e.rising below in
+    let more = ap length c.in-Some.ensures.drawn in
+    omega (arith, length-append (drawn c.lines.drawer) (c.in-Some.number ∷ []))
+
+pub lines-preserved : goal.lines-preserved
+lines-preserved g c =
+    let inv = c.lines.invariant in
+    let r = c.in_ok-record.record in
+    let is : c.push.new.self ≡ c.lines.journal ++ r ∷ [] = c.in_ok-push.ensures.ok in
+    let number : r.line ≡ c.in-Some.number + 1 = c.in_ok-record.ensures.line in
+    record {
+      here = c.draw.ensures.drawer ∙ inv.here;
+      same = c.in_ok-record.ensures.pass;
+      journal = subst (λ l. Journal (bounds_of g.N.CellNaming.setup.cells c.args.run.now.limiter.now) c.args.run.now.limiter.now c.args.run.now.start c.args.worker.number
+          (map line_view c.args.run.now.lines.now) c.args.worker.pass l c.run_drawn.new.pass) (sym is)
+          (journal_push _ _ _ _ _ c.args.worker.pass c.lines.journal c.lines.pass r c.run_drawn.new.pass inv.journal c.in_ok-record.ensures.step);
+      drawn = c.in-Some.ensures.drawn ∙ ap (λ l. l ++ c.in-Some.number ∷ []) inv.drawn ∙ ap (λ n. map (λ x. x.line - 1) c.lines.journal ++ n ∷ []) (one_before r.line c.in-Some.number number)
+          ∙ sym (map_push c.lines.journal r) ∙ ap (λ l. map (λ x. x.line - 1) l) (sym is);
+    }

@@ -1,0 +1,24 @@
+//! Workers that run the lines of a script side by side on one limiter.
+//!
+//! Each [`Worker`] owns a pass and a drawer of line numbers. It draws a line, runs it through its pass, and writes the record
+//! into its own journal, until there are no more lines ([`work`]). A [`Gate`] is told before and after each line.
+//!
+//! [`run_lines`] runs a worker for each pass, and puts the records of all journals in the order of their lines.
+//!
+//! The promise of a worker (`specs/Journal.antt`): the records of its journal are, in order, the steps of its pass at the lines
+//! that it drew. None of it speaks of other workers. The promise of a run (`specs/Work.antt`, `specs/Clauses.antt`): each line has
+//! one record, by one of the workers, and along a worker's records versions and moments never fall.
+//!
+//! The limits: 1 to 64 workers, 1,048,576 lines. The workers run one after the other; the contract doesn't say so.
+#![tactic(auto)]
+
+mod gate;
+mod lines;
+mod running;
+#[cfg(test)]
+mod tests;
+mod working;
+
+pub use gate::{Gate, Open};
+pub use running::run_lines;
+pub use working::{Shared, Worked, Worker, work};

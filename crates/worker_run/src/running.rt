@@ -1,0 +1,155 @@
+// Workers in threads of their own.
+ghost use Rattle.std.specs.Prelude.{◌≡◌, ◌≤◌, ◌<◌, ◌+◌, ℕ, All, IfOk, Ok, length, map, vec_len, vec_capacity, slice_index_or};
+ghost use Rattle.rate_types.specs.declared.limits.TheConstants.{MOST_LINES, MOST_WORKERS};
+ghost use Rattle.rate_limiter.specs.Passes.{bounds_of};
+ghost use Rattle.line_numbers.specs.Drawers.{numbers_id, numbers_of, lines_of, drawers_of, IsFresh};
+ghost use Rattle.script_run.specs.Views.{line_view};
+ghost use Rattle.worker_run.specs.Work.{HaveRun};
+ghost use Rattle.worker_run.specs.Clauses.{AreInOrder};
+ghost use Rattle.std.specs.List.{AllByRecursion};
+ghost use Rattle.worker_run.specs.Parts.{IsReady, AreWorkers, AreDone};
+
+use crate::gate::Gate;
+use crate::working::{Shared, Worked, Worker, work};
+use counter_cells::CellNaming;
+use line_numbers::{Drawer, LineNumbers};
+use rate_limiter::{Limiter, Pass};
+use rate_types::{OutOfMemory, Seconds};
+use reply_text::Records;
+use script_run::{Line, merge};
+use std::alloc::Global;
+use std::sync::Wait;
+
+// A worker for each pass, numbered from 0.
+fn workers_of<N: CellNaming>(
+    alloc: Global,
+    limiter: &Limiter<N>,
+    numbers: &LineNumbers,
+    passes: Vec<Pass<N>>,
+    mut drawers: Vec<Drawer>,
+) -> Result<Vec<Worker<N>>, OutOfMemory>
+    requires few { vec_len passes ≤ MOST_WORKERS }
+    requires passes { AllByRecursion (λ p. p.limiter ≡ limiter.now.id) passes.items }
+    requires drawers { All (λ d. (numbers_of d ≡ numbers_id numbers.now) × IsFresh d) drawers.items }
+    requires as_many { vec_len drawers ≡ vec_len passes }
+    ensures passes { IfOk result (λ v. map (λ w. w.pass) v.items ≡ passes.items) }
+    ensures workers { IfOk result (λ v. AreWorkers limiter.now.id (numbers_id numbers.now) 0 v.items) }
+{
+    let _ = limiter;
+    let _ = numbers;
+    let mut workers = Vec::with_capacity(alloc, passes.len())?;
+    let mut number = 0u32;
+    for pass in passes {
+        let Some(drawer) = drawers.pop() else {
+            unreachable!()
+        };
+        workers.push_reserved(Worker {
+            number,
+            pass,
+            drawer,
+        });
+        number += 1;
+    }
+    Ok(workers)
+}
+
+// Runs each worker, one after the other.
+fn work_all<N: CellNaming, G: Gate<N>, R: Wait>(
+    rt: &R,
+    alloc: Global,
+    run: &Shared<'_, N, G>,
+    workers: Vec<Worker<N>>,
+) -> Result<Vec<Worked<N>>, OutOfMemory>
+    requires lines { (length run.now.lines.now ≤ MOST_LINES) × (lines_of run.now.numbers.now ≡ length run.now.lines.now) }
+    requires ready { AllByRecursion (λ w. IsReady run.now.limiter.now.id (numbers_id run.now.numbers.now) w) workers.items }
+    ensures done { IfOk result (λ v. AreDone (bounds_of N.setup.cells run.now.limiter.now) run.now.limiter.now run.now.start
+        (map line_view run.now.lines.now) (numbers_id run.now.numbers.now) workers.items v.items) }
+{
+    let mut done = Vec::with_capacity(alloc, workers.len())?;
+    for worker in workers {
+        let worked = work(rt, alloc, run, worker)?;
+        done.push_reserved(worked);
+    }
+    Ok(done)
+}
+
+/// The passes, the drawers and the journals of workers, each in order.
+#[derive(Drop)]
+struct Parts<N: CellNaming> {
+    passes: Vec<Pass<N>>,
+    drawers: Vec<Drawer>,
+    journals: Vec<Records>,
+}
+
+fn parts_of<N: CellNaming>(alloc: Global, workers: Vec<Worked<N>>) -> Result<Parts<N>, OutOfMemory>
+    ensures passes { IfOk result (λ p. p.passes.items ≡ map (λ w. w.pass) workers.items) }
+    ensures drawers { IfOk result (λ p. p.drawers.items ≡ map (λ w. w.drawer) workers.items) }
+    ensures journals { IfOk result (λ p. p.journals.items ≡ map (λ w. w.journal) workers.items) }
+{
+    let mut passes = Vec::with_capacity(alloc, workers.len())?;
+    let mut drawers = Vec::with_capacity(alloc, workers.len())?;
+    let mut journals = Vec::with_capacity(alloc, workers.len())?;
+    for worker in workers {
+        let Worked {
+            pass,
+            drawer,
+            journal,
+        } = worker;
+        passes.push_reserved(pass);
+        drawers.push_reserved(drawer);
+        journals.push_reserved(journal);
+    }
+    Ok(Parts {
+        passes,
+        drawers,
+        journals,
+    })
+}
+
+/// Runs the lines of a script on these passes, a worker for each: the records in the order of the lines, and the passes. Checks offer
+/// `start`, ticks their number.
+pub fn run_lines<N: CellNaming, G: Gate<N>, R: Wait>(
+    rt: &R,
+    alloc: Global,
+    limiter: &Limiter<N>,
+    passes: Vec<Pass<N>>,
+    lines: &[Line],
+    start: Seconds,
+    gate: &G,
+) -> Result<(Records, Vec<Pass<N>>), OutOfMemory>
+    requires passes { All (λ p. p.limiter ≡ limiter.now.id) passes.items }
+    requires started { All (λ p. start ≤ p.cells.moment) passes.items }
+    requires workers { (1 ≤ vec_len passes) × (vec_len passes ≤ MOST_WORKERS) }
+    requires lines { length lines.now ≤ MOST_LINES }
+    ensures run { IfOk result (λ r. HaveRun (bounds_of N.setup.cells limiter.now) limiter.now start (map line_view lines.now) passes.items
+        r.1.items r.0) }
+    ensures records { IfOk result (λ r. AreInOrder (vec_len passes) start (map line_view lines.now) r.0) }
+    ensures passes { IfOk result (λ r. All (λ p. p.limiter ≡ limiter.now.id) r.1.items) }
+{
+    let count = lines.len() as u32;
+    let (numbers, drawers) = LineNumbers::make(alloc, u64::from(count), passes.len() as u32)?;
+    let workers = workers_of(alloc, limiter, &numbers, passes, drawers)?;
+    let run = Shared {
+        limiter,
+        numbers: &numbers,
+        lines,
+        gate,
+        start,
+    };
+    let done = work_all(rt, alloc, &run, workers);
+    let Shared {
+        limiter: _,
+        numbers: _,
+        lines: _,
+        gate: _,
+        start: _,
+    } = run;
+    let Parts {
+        passes,
+        drawers,
+        journals,
+    } = parts_of(alloc, done?)?;
+    numbers.close(drawers);
+    let records = merge(alloc, count, journals)?;
+    Ok((records, passes))
+}

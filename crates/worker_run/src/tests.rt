@@ -1,0 +1,172 @@
+ghost use Rattle.std.specs.Prelude.{◌≡◌, ◌≤◌, ◌<◌, IfOk, length};
+ghost use Rattle.rate_types.specs.declared.limits.TheConstants.{MOST_LINES};
+ghost use Rattle.descriptor_tree.specs.Trees.{node_view};
+ghost use Rattle.descriptor_tree.specs.Config.{IsWellFormedBranch};
+ghost use Rattle.counter_cells.specs.Opened.{table_of, setup_of};
+
+use crate::{Open, run_lines};
+use counter_cells::{CellNaming, OpenedCells};
+use descriptor_tree::{Config, Forest, Node, Policy, Texts, Tree};
+use rate_limiter::{Limiter, Limits};
+use rate_types::{Descriptor, Entries, Entry, Place, Refused, Request, Seconds, Text, Unit};
+use reply_text::{Outcome, Record, Records};
+use rls_core::{Count, Status};
+use script_run::Line;
+use std::alloc::Global;
+use std::hash::RandomState;
+use std::marker::Brand;
+use std::process::Abort;
+use std::random::RandomSource;
+use std::sync::{Arc, Wait};
+use std::test::Fail;
+
+// The node that limits each value of key `k` to so many hits a minute.
+fn node(alloc: Global, limit: u32) -> Result<Node, Fail>
+    ensures { IfOk result (λ n. IsWellFormedBranch (node_view n)) }
+{
+    Ok(Node {
+        key: Text::new(alloc, "k")?,
+        value: None,
+        policy: Some(Policy::Limited {
+            limit,
+            unit: Unit::Minute,
+        }),
+        name: None,
+        replaces: Texts::new(alloc),
+        shadow: false,
+        below: Forest::of(Vec::new(alloc)),
+    })
+}
+
+// Domain `d` with this node.
+fn config(alloc: Global, limit: u32) -> Result<Arc<Config>, Fail> {
+    let mut nodes = Vec::new(alloc);
+    nodes.push(node(alloc, limit)?)?;
+    let mut trees = Vec::new(alloc);
+    trees.push(Tree {
+        domain: Text::new(alloc, "d")?,
+        forest: Forest::of(nodes),
+    })?;
+    match Config::build(alloc, trees) {
+        Ok(config) => Ok(Arc::new(alloc, config)?),
+        Err(_) => Err(Fail::new("refused")),
+    }
+}
+
+// A check of one hit on k=a.
+fn check(alloc: Global) -> Result<Line, Fail> {
+    let mut entries = Vec::new(alloc);
+    entries.push(Entry {
+        key: Text::new(alloc, "k")?,
+        value: Text::new(alloc, "a")?,
+    })?;
+    let mut descriptors = Vec::new(alloc);
+    descriptors.push(Descriptor {
+        entries: Entries::build(entries)?,
+        own: None,
+        hits: None,
+    })?;
+    Ok(Line::Check(Request::build(Text::new(alloc, "d")?, descriptors, 1)?))
+}
+
+// tick 65, a check, a check, a reload with limit 5, a check, a bad line.
+fn script(alloc: Global) -> Result<Vec<Line>, Fail> {
+    let mut lines = Vec::new(alloc);
+    lines.push(Line::Tick(Seconds::capped(65)))?;
+    lines.push(check(alloc)?)?;
+    lines.push(check(alloc)?)?;
+    lines.push(Line::Reload(config(alloc, 5)?))?;
+    lines.push(check(alloc)?)?;
+    lines.push(Line::Bad(Refused {
+        at: Place::empty(alloc),
+        number: 1,
+    }))?;
+    Ok(lines)
+}
+
+// What a record shows: the hits before a check, or a number for each other outcome.
+fn shown(record: &Record) -> u64 {
+    match &record.outcome {
+        Outcome::Checked(answer) => match answer.items() {
+            [
+                Status {
+                    count: Count::Before(before),
+                    ..
+                },
+            ] => *before,
+            _ => 99,
+        },
+        Outcome::Ticked(now) => now.get(),
+        Outcome::Installed => 100,
+        Outcome::Bad(refused) => u64::from(refused.number).saturating_add(200),
+        _ => 99,
+    }
+}
+
+fn run<N: CellNaming, R: Abort + RandomSource + Wait>(
+    rt: &R,
+    alloc: Global,
+    opened: OpenedCells,
+) -> Result<Records, Fail>
+    requires name { (table_of opened ≡ N.table) × (setup_of opened ≡ N.setup) }
+    requires passes { (1 ≤ N.setup.passes) × (N.setup.passes ≤ 2) × (N.setup.start ≡ 0) }
+{
+    let limits = Limits {
+        claims_max: 100,
+        global_shadow: false,
+    };
+    let seed = RandomState::new(rt)?;
+    let (limiter, passes) = Limiter::<N>::make(alloc, config(alloc, 1)?, opened, limits, seed)?;
+    let lines = script(alloc)?;
+    if lines.len() > 100 {
+        return Err(Fail::new("a short script"));
+    }
+    let (records, _) = run_lines(
+        rt,
+        alloc,
+        &limiter,
+        passes,
+        lines.as_slice(),
+        Seconds::capped(0),
+        &Open,
+    )?;
+    Ok(records)
+}
+
+#[test]
+fn one_worker_runs_line_after_line(rt: HostRuntime) -> Result<(), Fail> {
+    let opened = OpenedCells::make(rt.alloc(), 8, 1, Seconds::capped(0))?;
+    let records = run::<Brand, _>(&rt, rt.alloc(), opened)?;
+    let records = records.items();
+    assert_eq!(rt; records.len(), 6);
+    for (i, (moment, version, outcome)) in [
+        (65, 0, 65),
+        (65, 0, 0),
+        (65, 0, 1),
+        (65, 1, 100),
+        (65, 1, 2),
+        (65, 1, 201),
+    ]
+    .iter()
+    .enumerate()
+    {
+        let Some(found) = records.get(i) else {
+            return Err(Fail::new("a record"));
+        };
+        assert_eq!(rt; (found.moment.get(), found.version), (*moment, *version));
+        assert_eq!(rt; shown(found), *outcome);
+    }
+    Ok(())
+}
+
+#[test]
+fn two_workers_run_each_line_once(rt: HostRuntime) -> Result<(), Fail> {
+    let opened = OpenedCells::make(rt.alloc(), 8, 2, Seconds::capped(0))?;
+    let records = run::<Brand, _>(&rt, rt.alloc(), opened)?;
+    let mut sum = 0u64;
+    for found in records.items() {
+        sum = sum.wrapping_add(shown(found));
+    }
+    assert_eq!(rt; sum, 65 + 1 + 2 + 100 + 201);
+    Ok(())
+}

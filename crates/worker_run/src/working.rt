@@ -1,0 +1,108 @@
+// A worker that runs the lines that it draws.
+ghost use Rattle.std.specs.Prelude.{◌≡◌, ◌≤◌, ◌<◌, ◌+◌, ℕ, IfOk, length, map};
+ghost use Rattle.rate_types.specs.declared.limits.TheConstants.{MOST_LINES};
+ghost use Rattle.descriptor_tree.specs.Trees.{DomainTree};
+ghost use Rattle.rate_limiter.specs.Passes.{bounds_of};
+ghost use Rattle.line_numbers.specs.Drawers.{numbers_id, numbers_of, lines_of, IsFresh};
+ghost use Rattle.script_run.specs.Views.{line_view};
+ghost use Rattle.worker_run.specs.LineSteps.{IsRecordStep};
+ghost use Rattle.worker_run.specs.Journal.{HasWorked};
+
+use crate::gate::Gate;
+use crate::lines::run_line;
+use counter_cells::CellNaming;
+use line_numbers::{Drawer, LineNumbers};
+use rate_limiter::{Limiter, Pass};
+use rate_types::{OutOfMemory, Seconds};
+use reply_text::{Record, Records};
+use script_run::Line;
+use std::alloc::Global;
+use std::sync::Wait;
+
+/// A worker: its number, its pass, and what it draws lines with.
+#[derive(Drop)]
+pub struct Worker<N: CellNaming> {
+    pub number: u32,
+    pub pass: Pass<N>,
+    pub drawer: Drawer,
+}
+
+/// A worker that is done: its pass, its drawer, and the records of the lines that it drew, in order.
+#[derive(Drop)]
+pub struct Worked<N: CellNaming> {
+    pub pass: Pass<N>,
+    pub drawer: Drawer,
+    pub journal: Records,
+}
+
+/// What all workers of a run share.
+pub struct Shared<'a, N: CellNaming, G: Gate<N>> {
+    pub limiter: &'a Limiter<N>,
+    pub numbers: &'a LineNumbers,
+    pub lines: &'a [Line],
+    pub gate: &'a G,
+    pub start: Seconds,
+}
+
+// Runs the line with this number, counted from 0, and answers its record.
+fn run_drawn<N: CellNaming, G: Gate<N>, R: Wait>(
+    rt: &R,
+    alloc: Global,
+    run: &Shared<'_, N, G>,
+    worker: u32,
+    pass: &mut Pass<N>,
+    number: u64,
+) -> Result<Record, OutOfMemory>
+    requires pass { pass.old.limiter ≡ run.now.limiter.now.id }
+    requires lines { length run.now.lines.now ≤ MOST_LINES }
+    requires number { number < length run.now.lines.now }
+    ensures pass { pass.new.limiter ≡ run.now.limiter.now.id }
+    ensures line { IfOk result (λ r. r.line ≡ number + 1) }
+    ensures step { IfOk result (λ r. IsRecordStep (bounds_of N.setup.cells run.now.limiter.now) run.now.limiter.now run.now.start worker
+        (map line_view run.now.lines.now) pass.old r pass.new) }
+{
+    let line = &run.lines[number as usize];
+    let number = number as u32 + 1;
+    run.gate.before(worker, number);
+    let outcome = run_line(rt, alloc, run.limiter, pass, line, run.start)?;
+    let record = Record {
+        line: number,
+        worker,
+        version: pass.version(),
+        moment: pass.moment(),
+        outcome,
+    };
+    run.gate.after(worker, line, &record, pass);
+    Ok(record)
+}
+
+/// Runs the lines that the worker draws, until there are no more.
+pub fn work<N: CellNaming, G: Gate<N>, R: Wait>(
+    rt: &R,
+    alloc: Global,
+    run: &Shared<'_, N, G>,
+    worker: Worker<N>,
+) -> Result<Worked<N>, OutOfMemory>
+    requires pass { worker.pass.limiter ≡ run.now.limiter.now.id }
+    requires drawer { (numbers_of worker.drawer ≡ numbers_id run.now.numbers.now) × IsFresh worker.drawer }
+    requires lines { (length run.now.lines.now ≤ MOST_LINES) × (lines_of run.now.numbers.now ≡ length run.now.lines.now) }
+    ensures drawer { IfOk result (λ w. numbers_of w.drawer ≡ numbers_id run.now.numbers.now) }
+    ensures worked { IfOk result (λ w. HasWorked (bounds_of N.setup.cells run.now.limiter.now) run.now.limiter.now run.now.start worker.number
+        (map line_view run.now.lines.now) worker.pass w.journal w.pass w.drawer) }
+{
+    let Worker {
+        number: worker,
+        mut pass,
+        mut drawer,
+    } = worker;
+    let mut journal = Records::new(alloc);
+    'lines: while let Some(number) = run.numbers.draw(&mut drawer) {
+        let record = run_drawn(rt, alloc, run, worker, &mut pass, number)?;
+        journal.push(record)?;
+    }
+    Ok(Worked {
+        pass,
+        drawer,
+        journal,
+    })
+}
