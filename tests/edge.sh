@@ -111,6 +111,33 @@ judge lookup-of-no-request $? 0 "$none"
 run lookup </dev/null >"$out" 2>"$err"
 judge lookup-without-file $? 1 "$none"
 
+run quota --settings "$top/examples/quota.json" "$top/examples/quota.jsonl" </dev/null >"$out" 2>"$err"
+judge quota $? 0 "$here/quota.out"
+
+run quota "$top/examples/quota.jsonl" --workers=1 --settings="$top/examples/quota.json" <&- >"$out" 2>"$err"
+judge quota-of-one-worker-without-input $? 0 "$here/quota.out"
+
+# The second stream has the index 1.
+{ cat "$here/quota.out"; sed 's/"stream":0/"stream":1/' "$here/quota.out"; } >"$work/twice"
+run quota --settings "$top/examples/quota.json" --workers 64 "$top/examples/quota.jsonl" "$top/examples/quota.jsonl" \
+    </dev/null >"$out" 2>"$err"
+judge quota-of-two-streams $? 0 "$work/twice"
+
+run quota --settings "$top/examples/quota.json" </dev/null >"$out" 2>"$err"
+judge quota-without-stream $? 1 "$none" 'ratelimit: usage'
+
+run quota --settings "$top/examples/quota.json" --workers 65 "$top/examples/quota.jsonl" </dev/null >"$out" 2>"$err"
+judge quota-of-too-many-workers $? 1 "$none" 'ratelimit: usage'
+
+run quota --settings "$config" "$top/examples/quota.jsonl" </dev/null >"$out" 2>"$err"
+judge quota-of-other-settings $? 9 "$none" 'ratelimit: settings: refused 3 at /descriptors'
+
+run quota --settings "$config" "$work/missing" </dev/null >"$out" 2>"$err"
+judge missing-stream-after-refused-settings $? 6 "$none" 'file 1'
+
+run quota --settings "$top/examples/quota.json" "$top/examples/quota.jsonl" </dev/null 2>"$err" >/dev/full
+judge quota-output-full $? 5 -
+
 run drive "$config" -x <"$script" >"$out" 2>"$err"
 judge option-after-file $? 1 "$none"
 
@@ -234,5 +261,8 @@ judge most-lines "$status" 0 "$work/last"
 yes '' | head -n 1048577 >"$work/lines"
 run drive "$config" <"$work/lines" >"$out" 2>"$err"
 judge too-many-lines $? 3 "$none"
+
+run quota --settings "$top/examples/quota.json" "$top/examples/quota.jsonl" "$work/lines" </dev/null >"$out" 2>"$err"
+judge stream-of-too-many-lines $? 3 "$none"
 
 exit "$failed"

@@ -10,6 +10,7 @@ use rate_types::{Names, Word};
 use ratelimit_cli::{Exit, ratelimit};
 use std::alloc::Global;
 use std::process::ExitCode;
+use std::thread::Threads;
 use std::{env, io};
 
 fn words_of(rt: &HostRuntime, alloc: Global) -> io::Result<Names> {
@@ -20,13 +21,13 @@ fn words_of(rt: &HostRuntime, alloc: Global) -> io::Result<Names> {
     Ok(Names::of(words))
 }
 
-// Does the command of the words over the real files, input and output.
-fn run(rt: &HostRuntime, alloc: Global) -> io::Result<Exit> {
+// Does the command of the words over the real files, input and output, with threads where it takes workers.
+fn run<R: Threads + Sync>(rt: &HostRuntime, threads: &R, alloc: Global) -> io::Result<Exit> {
     let words = words_of(rt, alloc)?;
     let mut files = HostFiles::new(rt.clone()?);
     let mut source = ReaderSource::new(rt.stdin());
     let mut sink = WriterSink::new(rt.stdout());
-    Ok(ratelimit(alloc, &words, &mut files, &mut source, &mut sink))
+    Ok(ratelimit(threads, alloc, &words, &mut files, &mut source, &mut sink))
 }
 
 // The exit where the words couldn't be had: there was no memory for them, or one of them isn't UTF-8.
@@ -55,7 +56,7 @@ fn end(rt: &HostRuntime, exit: &Exit) -> ExitCode
 }
 
 fn main(rt: HostRuntime) -> ExitCode {
-    match run(&rt, rt.alloc()) {
+    match run(&rt, &rt, rt.alloc()) {
         Ok(exit) => end(&rt, &exit),
         Err(error) => end(&rt, &exit_before(error)),
     }

@@ -2,7 +2,7 @@
 use Rattle.std.proofs.Common.{◌≡◌, List, [], ◌∷◌, ℕ, Bool, true, false, ◌&&◌, Option, Some, None, refl, sym, ap, subst, true≢false}
 use Rattle.clap.specs.Words.{App, is_simple, is_simple_and_free, fault_of}
 use Rattle.clap.specs.Kinds.{Kinds}
-use Rattle.ratelimit_cli.specs.Words.{drive_app, lookup_app, if_taken}
+use Rattle.ratelimit_cli.specs.Words.{drive_app, lookup_app, quota_app, if_taken}
 
 pub drive_simple : is_simple_and_free drive_app ≡ true
 unfolding drive_app
@@ -11,6 +11,10 @@ drive_simple = refl
 pub lookup_simple : is_simple_and_free lookup_app ≡ true
 unfolding lookup_app
 lookup_simple = refl
+
+pub quota_simple : is_simple_and_free quota_app ≡ true
+unfolding quota_app
+quota_simple = refl
 
 pub first_holds : (a b : Bool) → (a && b) ≡ true → a ≡ true
 first_holds true b h = refl

@@ -1,18 +1,29 @@
 -- Where nothing but want of memory stands against it, the exit is Done.
 use Rattle.std.proofs.Common.{◌≡◌, ℕ, ◌<◌, ◌≤◌, ◌⊎◌, ◌||◌, List, [], ◌∷◌, ◌++◌, Bool, true, false, map, take}
-use Rattle.std.proofs.Common.{length, Option, Some, Result, Ok, Err, inl, inr, refl, sym, ap, ◌∙◌, subst, arith, true≢false}
+use Rattle.std.proofs.Common.{zero, suc, length, Option, Some, slice_get, Result, Ok, Err, inl, inr, refl, sym, ap, ◌∙◌, subst, arith, true≢false}
 use Rattle.std.specs.List.{AllByRecursion}
 use Rattle.std.proofs.lemmas.Option.{same_Some, none-some}
 use Rattle.std.proofs.lemmas.List.Folds.{list_any-append}
 use Rattle.rate_types.specs.declared.limits.TheConstants.{MOST_BYTES}
 use Rattle.rate_types.specs.declared.refused.At.{At}
+use Rattle.rate_types.specs.declared.refused.Refused.{Refused}
 use Rattle.rate_io.specs.Events.{Event, wrote, write_failed, FileEvent, given, has_failed, has_write_failed, is_write_failed}
 use Rattle.config_json.specs.Reading.{reading_of}
-use Rattle.ratelimit_cli.specs.Jobs.{configs_of}
+use Rattle.quota_settings.specs.Covering.{AllSettings}
+use Rattle.quota_stream.specs.Tasks.{IsShort}
+use Rattle.quota_stream.specs.Runs.{HasTooLong}
+use Rattle.ratelimit_cli.specs.Words.{command_of}
+use Rattle.ratelimit_cli.specs.Jobs.{files_of, ReadsConfigs}
 use Rattle.ratelimit_cli.specs.declared.command.Command.{Command}
-use Rattle.ratelimit_cli.specs.Exits.{World, AreFilesOf, FilesSay, StopsAt, IsLong, IsUnread, HasNoCause, WroteUpTo, Explains, IsExitOf}
+use Rattle.ratelimit_cli.specs.declared.command.Command.TheVariants.{Plain, Quota, Threads, Help, Version}
+use Rattle.ratelimit_cli.specs.declared.command.QuotaJob.{QuotaJob}
+use Rattle.ratelimit_cli.specs.World.{World, AreFilesOf, StopsAt, IsLong, IsUnread, WroteUpTo}
+use Rattle.ratelimit_cli.specs.Configured.{FilesSay}
+use Rattle.ratelimit_cli.specs.Exits.{HasNoCause, Explains, IsExitOf, AreLawful}
+use Rattle.ratelimit_cli.specs.Replayed.{QuotaSays, AreReplayable}
 use Rattle.ratelimit_cli.specs.declared.exit.Exit.{Exit}
-use Rattle.ratelimit_cli.specs.declared.exit.Exit.TheVariants.{Done, Usage, ConfigRefused, TooLong, ReadFault, WriteFault, FileFault, OutOfMemory}
+use Rattle.ratelimit_cli.specs.declared.exit.Exit.TheVariants.{Done, Usage, ConfigRefused, TooLong, ReadFault, WriteFault, FileFault}
+use Rattle.ratelimit_cli.specs.declared.exit.Exit.TheVariants.{OutOfMemory, SettingsRefused}
 
 -- the bytes of the files are those that their reads handed out
 same_files : (content : List ℕ → Option (List ℕ)) (names : List (List ℕ)) (calls : List FileEvent) (files : List (List ℕ)) → AreFilesOf content names calls files
@@ -46,11 +57,40 @@ write_fails pieces writes h =
     ap has_write_failed h.each ∙ list_any-append is_write_failed (map wrote (take h.count pieces)) (write_failed h.piece ∷ [])
     ∙ or_true (has_write_failed (map wrote (take h.count pieces)))
 
+-- files that are no configuration's are those of another command
+lawful_at : (command : Command) (files : List (List ℕ)) → ReadsConfigs command → AreLawful command files → (at : At) → reading_of files ≡ Err at → ⊥
+lawful_at (Plain configs) files kind lawful at is = lawful at is
+lawful_at (Threads run) files kind lawful at is = lawful at is
+lawful_at (Quota job) files kind lawful at is = absurd kind
+lawful_at Help files kind lawful at is = absurd kind
+lawful_at Version files kind lawful at is = absurd kind
+
+-- what holds of all holds at each place
+short_at : (streams : List (List ℕ)) (i : ℕ) (bytes : List ℕ) → AllByRecursion IsShort streams → slice_get streams i ≡ Some bytes → IsShort bytes
+short_at [] i bytes all is = absurd (none-some bytes is)
+short_at (s ∷ streams) zero bytes all is = subst IsShort (same_Some s bytes is) all.0
+short_at (s ∷ streams) (suc i) bytes all is = short_at streams i bytes all.1 is
+
+not_too_long : (streams : List (List ℕ)) (read : ℕ) → AllByRecursion IsShort streams → HasTooLong streams read → ⊥
+not_too_long streams read all long =
+    let short = short_at streams long.index long.bytes all long.stream in
+    elim long.long [ inl many ↦ omega (arith, many.0, short.few_bytes) | inr many ↦ omega (arith, many.1, many.2, short.few_lines) ]
+
 module _ (w : World) (no : HasNoCause w) where
+  same_command : (command : Command) → command_of w.words ≡ Some command → AreLawful command (map (λ call. given call.1) w.files)
+  same_command command is =
+      subst (λ (c : Command). AreLawful c (map (λ call. given call.1) w.files)) (same_Some no.command command (sym no.named ∙ is)) no.lawful
+
+  replayable : (job : QuotaJob) (reading : Result (Option AllSettings) Refused) (says : QuotaSays w job reading) → AreReplayable (says.file ∷ says.streams)
+  replayable job reading says =
+      subst AreReplayable (sym (same_files w.content (files_of (Quota job)) w.files (says.file ∷ says.streams) says.contents))
+      (same_command (Quota job) says.named)
+
   not_refused : (at : At) (command : Command) → FilesSay w command (Err at) → ⊥
   not_refused at command say =
-      no.lawful at (subst (λ (files : List (List ℕ)). reading_of files ≡ Err at)
-      (same_files w.content (configs_of command) w.files say.files say.contents) say.spells)
+      lawful_at command (map (λ call. given call.1) w.files) say.kind (same_command command say.named) at
+      (subst (λ (files : List (List ℕ)). reading_of files ≡ Err at)
+      (same_files w.content (files_of command) w.files say.files say.contents) say.spells)
 
   not_long : (names : List (List ℕ)) (index : ℕ) → StopsAt w.content names w.files index (IsLong w.content) → ⊥
   not_long names index s =
@@ -65,11 +105,15 @@ module _ (w : World) (no : HasNoCause w) where
   complete_exit OutOfMemory h = inr (λ i. OutOfMemory)
   complete_exit Usage h = absurd (none-some no.command (sym h.0 ∙ no.named))
   complete_exit (ConfigRefused at) h = absurd (not_refused at h.0.0 h.0.1)
-  complete_exit TooLong (inl long, none) = absurd (not_long (configs_of long.0.0) long.0.2.0 long.0.2.1)
+  complete_exit TooLong (inl (inl long, unread), none) = absurd (not_long (files_of long.0) long.2.0 long.2.1)
+  complete_exit TooLong (inl (inr long, unread), none) =
+      absurd (not_too_long long.1.1.0.streams long.1.1.1.0 (replayable long.0 (Ok (Some long.1.0)) long.1.1.0).1 long.1.1.1.1)
+  complete_exit (SettingsRefused refused) h =
+      absurd ((replayable h.0.0 (Err refused) h.0.1).0 refused h.0.1.spells)
   complete_exit TooLong (inr long, none) = absurd (no.fits long.1)
   complete_exit ReadFault h = absurd (true≢false (sym h.1 ∙ no.read))
   complete_exit WriteFault h = absurd (true≢false (sym (write_fails _ w.writes h.0.each) ∙ no.written))
-  complete_exit (FileFault index) h = absurd (not_unread (configs_of h.0.0) index h.0.2)
+  complete_exit (FileFault index) h = absurd (not_unread (files_of h.0.0) index h.0.2)
 
 pub answers : (e : Exit) (w : World) → Explains e w → IsExitOf e w
 answers e w h = record { cause = h; complete = λ no. complete_exit w no e h }

@@ -1,26 +1,40 @@
 -- From what the parts of the top call answer to what its exit says.
-use Rattle.std.proofs.Common.{◌≡◌, ℕ, List, [], ◌∷◌, Some, Ok, Bool, inl, inr, refl, subst, sym}
+use Rattle.std.proofs.Common.{◌≡◌, ℕ, List, [], ◌∷◌, Some, Result, Ok, Bool, inl, inr, refl, subst, sym, ◌∙◌}
 use Rattle.std.specs.Io.KnownBytes.{IsAtEnd}
+use Rattle.rate_types.specs.declared.refused.At.{At}
 use Rattle.descriptor_tree.specs.Trees.{DomainTree}
 use Rattle.rate_io.specs.Events.{given}
+use Rattle.quota_settings.specs.Covering.{AllSettings}
+use Rattle.ratelimit_cli.specs.Quota.{settings_of}
 use Rattle.ratelimit_cli.specs.Words.{command_of}
-use Rattle.ratelimit_cli.specs.Jobs.{configs_of, command_with}
-use Rattle.ratelimit_cli.specs.Exits.{World, FilesSay, IsInput, IsMade, IsOutput, HasRead, NothingRead, NothingWritten, Explains}
-use Rattle.ratelimit_cli.specs.Parts.{IsOfFiles, IsOfConfig, IsOfInput, IsOfOutput, IsOfWork, Sinks}
+use Rattle.ratelimit_cli.specs.Jobs.{files_of, ReadsConfigs, command_with}
+use Rattle.ratelimit_cli.specs.World.{World, AreFilesOf, NothingRead, NothingWritten}
+use Rattle.ratelimit_cli.specs.Configured.{FilesSay, IsInput, IsMade, HasRead}
+use Rattle.ratelimit_cli.specs.Replayed.{QuotaSays}
+use Rattle.ratelimit_cli.specs.Exits.{IsOutput, Explains}
+use Rattle.ratelimit_cli.specs.Parts.{IsOfFiles, IsOfConfig, IsOfInput, IsOfOutput, IsOfWork, IsOfSettings, IsOfStreams, IsOfReplay, Replays, Sinks}
 use Rattle.ratelimit_cli.specs.declared.command.Command.{Command}
+use Rattle.ratelimit_cli.specs.declared.command.Command.TheVariants.{Quota}
+use Rattle.ratelimit_cli.specs.declared.command.QuotaJob.{QuotaJob}
 use Rattle.ratelimit_cli.specs.declared.work.Work.{Work}
 use Rattle.ratelimit_cli.specs.declared.work.Work.TheVariants.{Lookup, Drive}
 use Rattle.ratelimit_cli.specs.declared.exit.Exit.{Exit}
-use Rattle.ratelimit_cli.specs.declared.exit.Exit.TheVariants.{Done, Usage, ConfigRefused, TooLong, ReadFault, WriteFault, FileFault, OutOfMemory}
+use Rattle.ratelimit_cli.specs.declared.exit.Exit.TheVariants.{Done, Usage, ConfigRefused, TooLong, ReadFault, WriteFault, FileFault}
+use Rattle.ratelimit_cli.specs.declared.exit.Exit.TheVariants.{OutOfMemory, SettingsRefused}
 
 -- a command by its work reads these files
-pub configs_same : (configs : List (List ℕ)) (work : Work) → configs ≡ configs_of (command_with configs work)
+pub configs_same : (configs : List (List ℕ)) (work : Work) → configs ≡ files_of (command_with configs work)
 configs_same configs Lookup = refl
 configs_same configs (Drive workers cells start global_shadow) = refl
 
+-- such a command reads configuration files
+pub reads_configs : (configs : List (List ℕ)) (work : Work) → ReadsConfigs (command_with configs work)
+reads_configs configs Lookup = tt
+reads_configs configs (Drive workers cells start global_shadow) = tt
+
 pub explain_files : (w : World) (command : Command) → command_of w.words ≡ Some command → NothingRead w → NothingWritten w
-    → (e : Exit) → IsOfFiles w.content (configs_of command) w.file_faults e w.files → Explains e w
-explain_files w command is unread none TooLong h = (inl ((command, is, h), unread), none)
+    → (e : Exit) → IsOfFiles w.content (files_of command) w.file_faults e w.files → Explains e w
+explain_files w command is unread none TooLong h = (inl (inl (command, is, h), unread), none)
 explain_files w command is unread none (FileFault index) h = ((command, is, h.0), h.1, unread, none)
 explain_files w command is unread none OutOfMemory h = (inl (command, is), none)
 explain_files w command is unread none Done h = absurd h
@@ -28,6 +42,24 @@ explain_files w command is unread none Usage h = absurd h
 explain_files w command is unread none (ConfigRefused at) h = absurd h
 explain_files w command is unread none ReadFault h = absurd h
 explain_files w command is unread none WriteFault h = absurd h
+explain_files w command is unread none (SettingsRefused refused) h = absurd h
+
+-- what the files of a command spell, and why they are no configuration
+pub explain_config : (w : World) (command : Command) (reading : Result (List DomainTree) At) → FilesSay w command reading → NothingRead w → NothingWritten w
+    → (e : Exit) → IsOfConfig reading e → Explains e w
+explain_config w command reading say unread none (ConfigRefused at) h = (
+  (command, record { named = say.named; kind = say.kind; files = say.files; contents = say.contents; spells = say.spells ∙ h }),
+  unread,
+  none,
+)
+explain_config w command reading say unread none OutOfMemory h = (inl (command, say.named), none)
+explain_config w command reading say unread none Done h = absurd h
+explain_config w command reading say unread none Usage h = absurd h
+explain_config w command reading say unread none TooLong h = absurd h
+explain_config w command reading say unread none ReadFault h = absurd h
+explain_config w command reading say unread none WriteFault h = absurd h
+explain_config w command reading say unread none (SettingsRefused refused) h = absurd h
+explain_config w command reading say unread none (FileFault index) h = absurd h
 
 module _ (w : World) (command : Command) (config : List DomainTree) (say : FilesSay w command (Ok config)) where
   pub explain_input : NothingWritten w → (e : Exit) → IsOfInput w.left w.source_faults e w.reads → Explains e w
@@ -38,6 +70,7 @@ module _ (w : World) (command : Command) (config : List DomainTree) (say : Files
   explain_input none Usage h = absurd h
   explain_input none (ConfigRefused at) h = absurd h
   explain_input none WriteFault h = absurd h
+  explain_input none (SettingsRefused refused) h = absurd h
   explain_input none (FileFault index) h = absurd h
 
 abbrev pub sinks : World → Sinks
@@ -57,6 +90,7 @@ module _ (w : World) (command : Command) (named : command_of w.words ≡ Some co
   explain_output (ConfigRefused at) h = absurd h
   explain_output TooLong h = absurd h
   explain_output ReadFault h = absurd h
+  explain_output (SettingsRefused refused) h = absurd h
   explain_output (FileFault index) h = absurd h
 
 -- what a work makes is the output of its command
@@ -73,3 +107,53 @@ made_output w configs (Drive workers cells start global_shadow) config bytes rea
   read = read;
   made = subst (λ (b : List ℕ). IsOfWork (Drive workers cells start global_shadow) config b pieces) (sym are) made;
 }
+
+-- what a settings file says, and what its streams say
+pub settings_fault : (file : List ℕ) (streams : List (List ℕ)) (e : Exit) → IsOfSettings (settings_of file) e → IsOfReplay file streams e
+settings_fault file streams (SettingsRefused refused) h = h
+settings_fault file streams OutOfMemory h = h
+settings_fault file streams TooLong h = absurd h
+settings_fault file streams Done h = absurd h
+settings_fault file streams Usage h = absurd h
+settings_fault file streams (ConfigRefused at) h = absurd h
+settings_fault file streams ReadFault h = absurd h
+settings_fault file streams WriteFault h = absurd h
+settings_fault file streams (FileFault index) h = absurd h
+
+pub streams_fault : (file : List ℕ) (streams : List (List ℕ)) (settings : AllSettings) → settings_of file ≡ Ok (Some settings)
+    → (e : Exit) → IsOfStreams streams e → IsOfReplay file streams e
+streams_fault file streams settings spells TooLong h = (settings, spells, h)
+streams_fault file streams settings spells OutOfMemory h = h
+streams_fault file streams settings spells (SettingsRefused refused) h = absurd h
+streams_fault file streams settings spells Done h = absurd h
+streams_fault file streams settings spells Usage h = absurd h
+streams_fault file streams settings spells (ConfigRefused at) h = absurd h
+streams_fault file streams settings spells ReadFault h = absurd h
+streams_fault file streams settings spells WriteFault h = absurd h
+streams_fault file streams settings spells (FileFault index) h = absurd h
+
+-- `quota` read its settings file and its streams
+module _ (w : World) (job : QuotaJob) (is : command_of w.words ≡ Some (Quota job)) (file : List ℕ) (streams : List (List ℕ))
+    (contents : AreFilesOf w.content (files_of (Quota job)) w.files (file ∷ streams)) (unread : NothingRead w) where
+  pub explain_replay : NothingWritten w → (e : Exit) → IsOfReplay file streams e → Explains e w
+  explain_replay none TooLong h =
+      let says : QuotaSays w job (Ok (Some h.0)) = record { named = is; file = file; streams = streams; contents = contents; spells = h.1 } in
+      (inl (inr (job, (h.0, (says, h.2))), unread), none)
+  explain_replay none (SettingsRefused refused) h =
+      ((job, record { named = is; file = file; streams = streams; contents = contents; spells = h }), unread, none)
+  explain_replay none OutOfMemory h = (inl (Quota job, is), none)
+  explain_replay none Done h = absurd h
+  explain_replay none Usage h = absurd h
+  explain_replay none (ConfigRefused at) h = absurd h
+  explain_replay none ReadFault h = absurd h
+  explain_replay none WriteFault h = absurd h
+  explain_replay none (FileFault index) h = absurd h
+
+  pub replay_output : (pieces : List (List ℕ)) → Replays file streams pieces → IsOutput w (Quota job) pieces
+  replay_output pieces h = record {
+    settings = h.settings;
+    says = record { named = is; file = file; streams = streams; contents = contents; spells = h.spells };
+    short = h.short;
+    unread = unread;
+    replayed = h.replayed;
+  }

@@ -7,3 +7,4 @@ pub mod Apps
 pub mod Numbers
 pub mod Founds
 pub mod Lines
+pub mod Lining

@@ -1,8 +1,9 @@
 -- Bytes that are written line by line.
-use Rattle.std.proofs.Common.{◌≡◌, ℕ, ◌+◌, ◌<◌, List, [], ◌∷◌, ◌++◌, take, drop, length, Option, Some, None, get_or, refl, sym, ap, ◌∙◌, append_assoc, take-append-drop}
+use Rattle.std.proofs.Common.{◌≡◌, ℕ, ◌+◌, ◌<◌, List, [], ◌∷◌, ◌++◌, map, take, drop, length, Option, Some, None, get_or, refl, sym, ap, ◌∙◌, append_assoc, take-append-drop}
 use Rattle.std.specs.List.{concat}
-use Rattle.std.proofs.lemmas.List.{take_more, append-nil}
+use Rattle.std.proofs.lemmas.List.{take_more, append-nil, map-append}
 use Rattle.rate_io.specs.Content.{Appends, AppendsPart}
+use Rattle.rate_io.specs.Events.{Event, wrote}
 use Rattle.ratelimit_cli.specs.Output.{AppendsFront}
 
 pub appends_more : (a b c : Option (List ℕ)) (xs ys : List ℕ) → Appends a b xs → Appends b c ys → Appends a c (xs ++ ys)
@@ -38,3 +39,9 @@ front_of a b c before p after so_far part = (
 -- a list, cut at one of its elements
 pub cut_list : {X : Type 0} (xs : List X) (i : ℕ) (d : X) → i < length xs → xs ≡ take i xs ++ get_or xs i d ∷ drop (i + 1) xs
 cut_list xs i d h = sym (take-append-drop (i + 1) xs) ∙ ap (λ l. l ++ drop (i + 1) xs) (take_more xs i d h) ∙ append_assoc (take i xs) (get_or xs i d ∷ []) (drop (i + 1) xs)
+
+-- one more piece was written
+pub one_more : (old mid new : List Event) (pieces : List (List ℕ)) (piece : List ℕ) → mid ≡ old ++ map wrote pieces → new ≡ mid ++ wrote piece ∷ []
+    → new ≡ old ++ map wrote (pieces ++ piece ∷ [])
+one_more old mid new pieces piece so_far is =
+    is ∙ ap (λ l. l ++ wrote piece ∷ []) so_far ∙ append_assoc old (map wrote pieces) (wrote piece ∷ []) ∙ ap (λ l. old ++ l) (sym (map-append wrote pieces (piece ∷ [])))

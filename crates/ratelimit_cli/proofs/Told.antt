@@ -2,7 +2,7 @@
 use Rattle.std.proofs.Common.{◌≡◌, ℕ, ◌≤◌, List, [], ◌∷◌, ◌++◌, Option, Some, None, refl}
 use Rattle.rate_io.specs.Content.{Told}
 use Rattle.rate_io.specs.Events.{Event, FileEvent}
-use Rattle.ratelimit_cli.specs.Exits.{AreFilesOf, IsFileOf}
+use Rattle.ratelimit_cli.specs.World.{AreFilesOf, IsFileOf}
 
 pub told_map : (o : Option (List ℕ)) (P Q : List ℕ → Type 0) → ((bytes : List ℕ) → P bytes → Q bytes) → Told o P → Told o Q
 told_map None P Q f h = tt

@@ -1,17 +1,24 @@
 -- What a command reads and does.
-use Rattle.std.specs.Prelude.{ℕ, List, []}
+use Rattle.std.specs.Prelude.{ℕ, List, [], ◌∷◌, ⊤}
 use Rattle.ratelimit_cli.specs.declared.command.Command.{Command}
-use Rattle.ratelimit_cli.specs.declared.command.Command.TheVariants.{Plain, Threads, Help, Version}
+use Rattle.ratelimit_cli.specs.declared.command.Command.TheVariants.{Plain, Quota, Threads, Help, Version}
 use Rattle.ratelimit_cli.specs.declared.command.ThreadJob.TheVariants as job
 use Rattle.ratelimit_cli.specs.declared.work.Work.{Work}
 use Rattle.ratelimit_cli.specs.declared.work.Work.TheVariants.{Lookup, Drive}
 
--- the names of the configuration files that a command reads
-abbrev pub configs_of : Command → List (List ℕ)
-configs_of (Plain configs) = configs
-configs_of (Threads (job.Drive configs workers cells start global_shadow)) = configs
-configs_of Help = []
-configs_of Version = []
+-- the names of the files that a command reads: its configuration files, or its settings file and then its streams
+abbrev pub files_of : Command → List (List ℕ)
+files_of (Plain configs) = configs
+files_of (Quota replay) = replay.settings ∷ replay.streams
+files_of (Threads (job.Drive configs workers cells start global_shadow)) = configs
+files_of Help = []
+files_of Version = []
+
+-- a command that reads configuration files
+abbrev pub ReadsConfigs : Command → Type 0
+ReadsConfigs (Plain configs) = ⊤
+ReadsConfigs (Threads run) = ⊤
+ReadsConfigs other = ⊥
 
 -- the command that does this work by these configuration files
 abbrev pub command_with : List (List ℕ) → Work → Command

@@ -2,6 +2,10 @@ pub mod Output
 pub mod Words
 pub mod Jobs
 pub mod Lookup
+pub mod Quota
+pub mod World
+pub mod Configured
+pub mod Replayed
 pub mod Exits
 pub mod Parts
 pub mod Reports

@@ -1,18 +1,25 @@
 -- Inside: what the parts of the top call answer: reading the files, the configuration and the input, and writing the output.
-use Rattle.std.specs.Prelude.{◌≡◌, ℕ, List, [], map, true, Option, Result, Err, ⊤}
+use Rattle.std.specs.Prelude.{◌≡◌, ℕ, List, [], map, true, Option, Some, Result, Ok, Err, All, ⊤}
 use Rattle.std.specs.List.{concat}
 use Rattle.rate_types.specs.declared.refused.At.{At}
+use Rattle.rate_types.specs.declared.refused.Refused.{Refused}
 use Rattle.rate_io.specs.Causes.{Rose}
 use Rattle.rate_io.specs.Content.{Told, Appends}
 use Rattle.rate_io.specs.Events.{Event, wrote, FileEvent, given, has_failed}
 use Rattle.descriptor_tree.specs.Trees.{DomainTree}
+use Rattle.quota_settings.specs.Covering.{AllSettings}
+use Rattle.quota_stream.specs.Tasks.{IsShort}
+use Rattle.quota_stream.specs.Runs.{HasTooLong}
 use Rattle.ratelimit_cli.specs.Output.{AppendsFront}
 use Rattle.ratelimit_cli.specs.Lookup.{lookup_output}
-use Rattle.ratelimit_cli.specs.Exits.{StopsAt, IsLong, IsUnread, IsTooLong, IsRunText, WroteUpTo}
+use Rattle.ratelimit_cli.specs.Quota.{settings_of, streams_output}
+use Rattle.ratelimit_cli.specs.World.{StopsAt, IsLong, IsUnread, IsTooLong, WroteUpTo}
+use Rattle.ratelimit_cli.specs.Configured.{IsRunText}
 use Rattle.ratelimit_cli.specs.declared.work.Work.{Work}
 use Rattle.ratelimit_cli.specs.declared.work.Work.TheVariants.{Lookup, Drive}
 use Rattle.ratelimit_cli.specs.declared.exit.Exit.{Exit}
-use Rattle.ratelimit_cli.specs.declared.exit.Exit.TheVariants.{Done, ConfigRefused, TooLong, ReadFault, WriteFault, FileFault, OutOfMemory}
+use Rattle.ratelimit_cli.specs.declared.exit.Exit.TheVariants.{Done, ConfigRefused, TooLong, ReadFault, WriteFault, FileFault}
+use Rattle.ratelimit_cli.specs.declared.exit.Exit.TheVariants.{OutOfMemory, SettingsRefused}
 
 -- why the files of these names weren't read, after these calls for them
 abbrev pub IsOfFiles : (List ℕ → Option (List ℕ)) → List (List ℕ) → ℕ × ℕ → Exit → List FileEvent → Type 0
@@ -65,3 +72,30 @@ IsOfOutput Is s Done writes = Wrote Is s writes
 IsOfOutput Is s WriteFault writes = WroteFront Is s writes × Rose s.faults.0 s.faults.1
 IsOfOutput Is s OutOfMemory writes = (writes ≡ []) × (s.after ≡ s.written)
 IsOfOutput Is s other writes = ⊥
+
+-- why a settings file is none, by what it spells
+abbrev pub IsOfSettings : Result (Option AllSettings) Refused → Exit → Type 0
+IsOfSettings reading (SettingsRefused refused) = reading ≡ Err refused
+IsOfSettings reading OutOfMemory = ⊤
+IsOfSettings reading other = ⊥
+
+-- why these streams weren't replayed
+abbrev pub IsOfStreams : List (List ℕ) → Exit → Type 0
+IsOfStreams streams TooLong = (read : ℕ) × HasTooLong streams read
+IsOfStreams streams OutOfMemory = ⊤
+IsOfStreams streams other = ⊥
+
+-- why these streams weren't replayed by this settings file
+abbrev pub IsOfReplay : List ℕ → List (List ℕ) → Exit → Type 0
+IsOfReplay file streams (SettingsRefused refused) = settings_of file ≡ Err refused
+IsOfReplay file streams TooLong =
+    (settings : AllSettings) × (settings_of file ≡ Ok (Some settings)) × ((read : ℕ) × HasTooLong streams read)
+IsOfReplay file streams OutOfMemory = ⊤
+IsOfReplay file streams other = ⊥
+
+-- these are the lines of the outputs of these streams by this settings file
+pub record Replays (file : List ℕ) (streams pieces : List (List ℕ)) : Type 0 where
+  pub settings : AllSettings
+  pub spells : settings_of file ≡ Ok (Some settings)
+  pub short : All IsShort streams
+  pub replayed : pieces ≡ streams_output settings streams

@@ -6,7 +6,7 @@ use Rattle.std.specs.Char.{encode_utf8, is_control}
 use Rattle.rate_types.specs.declared.refused.At.{At}
 use Rattle.ratelimit_cli.specs.declared.exit.Exit.{Exit}
 use Rattle.ratelimit_cli.specs.declared.exit.Exit.TheVariants.{Done, Usage, ConfigRefused, TooLong, ReadFault, WriteFault, FileFault}
-use Rattle.ratelimit_cli.specs.declared.exit.Exit.TheVariants.{OutOfMemory}
+use Rattle.ratelimit_cli.specs.declared.exit.Exit.TheVariants.{OutOfMemory, SettingsRefused}
 
 -- the exit status
 abbrev pub status_of : Exit → ℕ
@@ -18,6 +18,7 @@ status_of ReadFault = 4
 status_of WriteFault = 5
 status_of (FileFault index) = 6
 status_of OutOfMemory = 7
+status_of (SettingsRefused refused) = 9
 
 -- a hexadecimal digit
 abbrev pub hex_digit : ℕ → ℕ
@@ -42,3 +43,5 @@ text_of ReadFault = Some (codes "ratelimit: read failed")
 text_of WriteFault = Some (codes "ratelimit: write failed")
 text_of (FileFault index) = Some (codes "ratelimit: file " ++ decimal index ++ codes ": read failed")
 text_of OutOfMemory = Some (codes "ratelimit: out of memory")
+text_of (SettingsRefused refused) = Some (codes "ratelimit: settings: refused " ++ decimal refused.number ++ codes " at "
+    ++ shown_place refused.at)

@@ -1,16 +1,18 @@
 -- The words of the program: which of them are a command.
-use Rattle.std.specs.Prelude.{ℕ, ◌<◌, ◌&&◌, ◌||◌, List, [], ◌∷◌, length, Bool, true, false, nat_lt, Option, None, Some, option_map, option_and_then, unwrap_or, if◌then◌else◌, codes}
+use Rattle.std.specs.Prelude.{ℕ, ◌<◌, ◌&&◌, ◌||◌, List, [], ◌∷◌, length, Bool, true, false, nat_lt, Option, None, Some}
+use Rattle.std.specs.Prelude.{option_map, option_and_then, unwrap_or, if◌then◌else◌, codes}
 use Rattle.std.specs.List.{list_all}
 use Rattle.std.specs.Str.{bytes_eq}
 use Rattle.std.specs.Str.Parse.{digits_value, without_leading_plus}
 use Rattle.std.specs.Char.{digit_value}
-use Rattle.rate_types.specs.declared.limits.TheConstants.{DEFAULT_CELLS, LATEST_MOMENT, MOST_CELLS}
+use Rattle.rate_types.specs.declared.limits.TheConstants.{DEFAULT_CELLS, LATEST_MOMENT, MOST_CELLS, MOST_WORKERS}
 use Rattle.clap.specs.Words.{App, Row, Rule, new_app, new_rule, with_rule, first_of, all_of, matches_of, fault_of, rows_of, found_of}
 use Rattle.clap.specs.Kinds.{Kinds}
 use Rattle.clap.specs.declared.parser.matches.ArgMatches.{ArgMatches}
 use Rattle.clap.specs.declared.builder.action.ArgAction.TheVariants.{Append, SetTrue}
 use Rattle.ratelimit_cli.specs.declared.command.Command.{Command}
-use Rattle.ratelimit_cli.specs.declared.command.Command.TheVariants.{Plain, Threads, Help, Version}
+use Rattle.ratelimit_cli.specs.declared.command.Command.TheVariants.{Plain, Quota, Threads, Help, Version}
+use Rattle.ratelimit_cli.specs.declared.command.TheConstants.{QUOTA_WORKERS}
 use Rattle.ratelimit_cli.specs.declared.command.ThreadJob.TheVariants.{Drive}
 
 -- ---- what each command takes
@@ -23,18 +25,27 @@ option_named name = record (new_rule name) { long = Some name }
 abbrev pub flag_named : List ℕ → Rule
 flag_named name = record (new_rule name) { long = Some name; action = Some SetTrue }
 
--- the names of the configuration files, one or more
-abbrev pub configs_rule : Rule
-configs_rule = record (new_rule (codes "configs")) { required = true; action = Some Append }
+-- the names of files, one or more
+abbrev pub files_named : List ℕ → Rule
+files_named name = record (new_rule name) { required = true; action = Some Append }
 
 -- `drive [--workers N] [--cells N] [--start T] [--global-shadow] CONFIG..`
 unfoldable pub drive_app : App
 drive_app = with_rule (with_rule (with_rule (with_rule (with_rule (new_app (codes "drive")) (option_named (codes "workers")))
-    (option_named (codes "cells"))) (option_named (codes "start"))) (flag_named (codes "global-shadow"))) configs_rule
+    (option_named (codes "cells"))) (option_named (codes "start"))) (flag_named (codes "global-shadow"))) (files_named (codes "configs"))
 
 -- `lookup CONFIG..`
 unfoldable pub lookup_app : App
-lookup_app = with_rule (new_app (codes "lookup")) configs_rule
+lookup_app = with_rule (new_app (codes "lookup")) (files_named (codes "configs"))
+
+-- an option with a value that has to be there
+abbrev pub required_named : List ℕ → Rule
+required_named name = record (option_named name) { required = true }
+
+-- `quota --settings F [--workers N] STREAM..`
+unfoldable pub quota_app : App
+quota_app = with_rule (with_rule (with_rule (new_app (codes "quota")) (required_named (codes "settings")))
+    (option_named (codes "workers"))) (files_named (codes "streams"))
 
 -- what is made of the words where a command takes them: where it has no fault in them
 abbrev pub if_taken : {X : Type 0} → Kinds → Option X → Option X
@@ -90,6 +101,25 @@ drive_of words = if_taken (fault_of drive_app words) (drive_job (matches_of driv
 abbrev pub lookup_of : List (List ℕ) → Option Command
 lookup_of words = if_taken (fault_of lookup_app words) (Some (Plain (configs_in (matches_of lookup_app words))))
 
+-- the names of the stream files
+abbrev pub streams_in : List Row → List (List ℕ)
+streams_in rows = unwrap_or (all_of (codes "streams") rows) []
+
+-- a replay by these, where all are there
+abbrev pub quota_job_of : Option (List ℕ) → List (List ℕ) → Option ℕ → Option Command
+quota_job_of (Some settings) streams (Some workers) =
+    Some (Quota (record { settings = settings; streams = streams; workers = workers }))
+quota_job_of settings streams workers = None
+
+-- the replay that `quota` makes: `--workers` is 1 to 64
+abbrev pub quota_job : List Row → Option Command
+quota_job rows = quota_job_of (first_of (codes "settings") rows) (streams_in rows)
+    (number_in 1 MOST_WORKERS QUOTA_WORKERS (first_of (codes "workers") rows))
+
+-- the words of `quota`
+abbrev pub quota_of : List (List ℕ) → Option Command
+quota_of words = if_taken (fault_of quota_app words) (quota_job (matches_of quota_app words))
+
 -- a command of one word
 abbrev pub alone : List (List ℕ) → Command → Option Command
 alone (word ∷ []) command = Some command
@@ -99,8 +129,9 @@ alone words command = None
 abbrev pub command_named : List ℕ → List (List ℕ) → Option Command
 command_named name words = if bytes_eq name (codes "drive") then drive_of words
     else (if bytes_eq name (codes "lookup") then lookup_of words
+    else (if bytes_eq name (codes "quota") then quota_of words
     else (if bytes_eq name (codes "--help") then alone words Help
-    else (if bytes_eq name (codes "--version") then alone words Version else None)))
+    else (if bytes_eq name (codes "--version") then alone words Version else None))))
 
 -- The command that the words are: the first names it, and it takes the rest.
 abbrev pub command_of : List (List ℕ) → Option Command

@@ -3,7 +3,7 @@ ghost use Rattle.std.specs.Prelude.{◌≡◌, Ok, IfOk, IfErr};
 ghost use Rattle.config_json.specs.Reading.{reading_of};
 ghost use Rattle.descriptor_tree.specs.Views.{config_view};
 ghost use Rattle.rate_io.specs.Events.{Grew};
-ghost use Rattle.ratelimit_cli.specs.Exits.{AreFilesOf};
+ghost use Rattle.ratelimit_cli.specs.World.{AreFilesOf};
 ghost use Rattle.ratelimit_cli.specs.Parts.{IsOfFiles, IsOfConfig};
 
 use crate::Exit;

@@ -1,7 +1,7 @@
 ghost use Rattle.std.specs.Prelude.{◌≡◌};
 ghost use Rattle.ratelimit_cli.specs.Reports as reports;
 
-use rate_types::At;
+use rate_types::{At, Refused};
 
 /// How the program ended.
 #[derive(Drop)]
@@ -12,7 +12,7 @@ pub enum Exit {
     Usage,
     /// A configuration file is refused: its index, from 0, the place and the number of its first fault.
     ConfigRefused(At),
-    /// A file or the input has more than 67,108,864 bytes, or the script has more than 1,048,576 lines.
+    /// A file or the input has more than 67,108,864 bytes, or the input or a stream has more than 1,048,576 lines.
     TooLong,
     /// The input couldn't be read.
     ReadFault,
@@ -22,6 +22,8 @@ pub enum Exit {
     FileFault(u64),
     /// There was no memory, and nothing was written.
     OutOfMemory,
+    /// A settings file is refused: the place and the number of its first fault.
+    SettingsRefused(Refused),
 }
 
 impl Exit {
@@ -38,6 +40,7 @@ impl Exit {
             Exit::WriteFault => 5,
             Exit::FileFault(_) => 6,
             Exit::OutOfMemory => 7,
+            Exit::SettingsRefused(_) => 9,
         }
     }
 }

@@ -14,13 +14,18 @@ ratelimit: a rate limiter after Envoy's rate limit service, over recorded traffi
   lookup CONFIG..
       Reads configuration files and then requests from standard input, one a line, and prints which rule each descriptor
       of each request finds.
+  quota --settings F [--workers N] STREAM..
+      Reads quota settings and recorded streams of a quota filter, and prints for each stream, in order, what a lawful
+      client would have done: decisions, assignments with their effect, usage reports.
+        --settings F       the settings file
+        --workers N        workers: 1 to 64 (default 4); the output is the same for every number
   --help
       Prints this text.
   --version
       Prints the version.
 
 Exits: 0 done, 1 usage, 2 a configuration file is refused, 3 a file or the input is too long, 4 reading the input failed,
-5 writing the output failed, 6 reading a file failed, 7 out of memory.
+5 writing the output failed, 6 reading a file failed, 7 out of memory, 9 quota settings are refused.
 ";
 
 /// What `--version` prints.

@@ -4,7 +4,7 @@ ghost use Rattle.std.specs.Io.KnownBytes.{IsAtEnd};
 ghost use Rattle.rate_types.specs.declared.limits.TheConstants.{MOST_LINES};
 ghost use Rattle.rate_io.specs.Events.{Grew, given};
 ghost use Rattle.text_lines.specs.Lines.{cut};
-ghost use Rattle.ratelimit_cli.specs.Exits.{IsInput};
+ghost use Rattle.ratelimit_cli.specs.Configured.{IsInput};
 ghost use Rattle.ratelimit_cli.specs.Parts.{IsOfInput};
 
 use crate::Exit;

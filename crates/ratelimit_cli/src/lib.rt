@@ -3,7 +3,8 @@
 //! `specs/Words.antt` says which words are a command. `specs/Exits.antt` says when each exit comes, in the histories of what
 //! was handed in: with `Done` the writes are the output of the command: the texts of a lawful run of the script that the
 //! reads of the source handed out, by the configuration of the files that were read, and of its totals; or what each
-//! descriptor of the requests finds (`specs/Lookup.antt`); or the help or the version. Every other exit says what was asked
+//! descriptor of the requests finds (`specs/Lookup.antt`); or the output of each recorded stream, in order (`specs/Quota.antt`);
+//! or the help or the version. Every other exit says what was asked
 //! for, read and written before its cause, and that nothing was after it. `specs/Reports.antt` says which status and which
 //! line an exit has.
 #![tactic(auto)]
@@ -18,14 +19,16 @@ mod lookup;
 mod making;
 mod number;
 mod output;
+mod output_lines;
 mod parsers;
+mod quota;
 mod report;
 mod texts;
 mod top;
 mod words;
 mod work;
 
-pub use command::{Command, ThreadJob};
+pub use command::{Command, QuotaJob, ThreadJob};
 pub use exit::Exit;
 pub use top::ratelimit;
 pub use words::{WordsFault, read_words};

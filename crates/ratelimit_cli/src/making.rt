@@ -3,7 +3,7 @@ ghost use Rattle.std.specs.Prelude.{◌≡◌, ◌≤◌, IfOk, map, length, str
 ghost use Rattle.rate_types.specs.declared.limits.TheConstants.{MOST_LINES};
 ghost use Rattle.descriptor_tree.specs.Views.{config_view};
 ghost use Rattle.text_lines.specs.Lines.{cut};
-ghost use Rattle.ratelimit_cli.specs.Exits.{IsRunText};
+ghost use Rattle.ratelimit_cli.specs.Configured.{IsRunText};
 ghost use Rattle.ratelimit_cli.specs.Lookup.{lookup_output};
 ghost use Rattle.ratelimit_cli.specs.Parts.{IsOfWork};
 

@@ -5,7 +5,7 @@ ghost use Rattle.rate_io.specs.Causes.{HasCause};
 ghost use Rattle.rate_io.specs.Content.{Appends};
 ghost use Rattle.reply_text.specs.Texts.{record_text_of, total_text_of};
 ghost use Rattle.rate_io.specs.Events.{Grew, wrote};
-ghost use Rattle.ratelimit_cli.specs.Exits.{WroteUpTo};
+ghost use Rattle.ratelimit_cli.specs.World.{WroteUpTo};
 ghost use Rattle.ratelimit_cli.specs.Output.{AppendsFront, lines_of, with_line_feed};
 
 use rate_io::{Failed, Sink};

@@ -25,12 +25,12 @@ fn flag_arg<'a>(alloc: Global, name: &'a str) -> Arg<'a>
     Arg::new(alloc, name).long(name).action(ArgAction::SetTrue)
 }
 
-// The names of configuration files.
-fn configs_arg<'a>(alloc: Global) -> Arg<'a>
-    ensures rule { rule_of result ≡ spec.configs_rule }
+// The names of files, one or more.
+fn files_arg<'a>(alloc: Global, name: &'a str) -> Arg<'a>
+    ensures rule { rule_of result ≡ spec.files_named name.entry.now }
     ensures local { result.global ≡ false }
 {
-    Arg::new(alloc, "configs")
+    Arg::new(alloc, name)
         .required(true)
         .action(ArgAction::Append)
 }
@@ -43,7 +43,7 @@ pub fn drive_parser<'a>(alloc: Global) -> Result<Command<'a>, AllocError>
     let cells = option_arg(alloc, "cells");
     let start = option_arg(alloc, "start");
     let shadow = flag_arg(alloc, "global-shadow");
-    let configs = configs_arg(alloc);
+    let configs = files_arg(alloc, "configs");
     let one = Command::new(alloc, "drive").arg(workers)?;
     let two = one.arg(cells)?;
     let three = two.arg(start)?;
@@ -56,8 +56,29 @@ pub fn drive_parser<'a>(alloc: Global) -> Result<Command<'a>, AllocError>
 pub fn lookup_parser<'a>(alloc: Global) -> Result<Command<'a>, AllocError>
     ensures { IfOk result (λ c. app_of c ≡ spec.lookup_app) }
 {
-    let configs = configs_arg(alloc);
+    let configs = files_arg(alloc, "configs");
     let command = Command::new(alloc, "lookup").arg(configs)?;
+    Ok(command)
+}
+
+// An option with a value that has to be there.
+fn required_arg<'a>(alloc: Global, name: &'a str) -> Arg<'a>
+    ensures rule { rule_of result ≡ spec.required_named name.entry.now }
+    ensures local { result.global ≡ false }
+{
+    Arg::new(alloc, name).long(name).required(true)
+}
+
+/// `quota --settings F [--workers N] STREAM..`
+pub fn quota_parser<'a>(alloc: Global) -> Result<Command<'a>, AllocError>
+    ensures { IfOk result (λ c. app_of c ≡ spec.quota_app) }
+{
+    let settings = required_arg(alloc, "settings");
+    let workers = option_arg(alloc, "workers");
+    let streams = files_arg(alloc, "streams");
+    let one = Command::new(alloc, "quota").arg(settings)?;
+    let two = one.arg(workers)?;
+    let command = two.arg(streams)?;
     Ok(command)
 }
 

@@ -5,7 +5,7 @@ ghost use Rattle.std.specs.Str.{chars};
 ghost use Rattle.ratelimit_cli.specs.Reports as reports;
 
 use crate::Exit;
-use rate_types::{At, OutOfMemory};
+use rate_types::{At, OutOfMemory, Refused};
 use std::alloc::Global;
 
 fn hex_digit(n: u8) -> u8
@@ -54,6 +54,17 @@ fn refused_text(alloc: Global, at: &At) -> Result<String, OutOfMemory>
     Ok(text)
 }
 
+// The line of refused settings.
+#[tactic(auto, unfolding(crate::specs::Reports::text_of))]
+fn settings_text(alloc: Global, refused: &Refused) -> Result<String, OutOfMemory>
+    ensures { IfOk result (λ t. Some (string_bytes t) ≡ reports.text_of (Exit.SettingsRefused refused.now)) }
+{
+    let number = refused.number;
+    let mut text = format!(in alloc; "ratelimit: settings: refused {number} at ")?;
+    push_place(&mut text, refused.at.as_str())?;
+    Ok(text)
+}
+
 impl Exit {
     /// The line on standard error, without its line feed; none after a whole run. It has no control character.
     #[tactic(auto, unfolding(crate::specs::Reports::text_of))]
@@ -71,6 +82,7 @@ impl Exit {
                 return Ok(Some(format!(in alloc; "ratelimit: file {index}: read failed")?));
             }
             Exit::OutOfMemory => "ratelimit: out of memory",
+            Exit::SettingsRefused(refused) => return Ok(Some(settings_text(alloc, refused)?)),
         };
         Ok(Some(String::from_str(alloc, text)?))
     }

@@ -1,5 +1,6 @@
 mod limits;
 mod lines;
+mod quota;
 mod reports;
 mod rows;
 
@@ -9,6 +10,7 @@ use rate_types::{Blob, Names, Word};
 use std::alloc::Global;
 use std::str;
 use std::test::Fail;
+use std::thread::Threads;
 
 // A limit of 2 a minute for each value of k.
 const A: &str =
@@ -88,12 +90,20 @@ fn exit_text(alloc: Global, exit: &Exit) -> Result<String, Fail> {
         Exit::WriteFault => "write fault",
         Exit::FileFault(index) => return Ok(format!(in alloc; "file {}: fault", index)?),
         Exit::OutOfMemory => "out of memory",
+        Exit::SettingsRefused(refused) => {
+            return Ok(format!(in alloc;
+                "settings: {} at {}",
+                refused.number,
+                refused.at.as_str()
+            )?);
+        }
     };
     Ok(String::from_str(alloc, name)?)
 }
 
 // The exit and then the output of a run of these words over files with the names a, b and c.
-fn said(
+fn said<R: Threads + Sync>(
+    rt: &R,
     alloc: Global,
     words: &[&str],
     contents: &[&str],
@@ -115,7 +125,14 @@ fn said(
     let mut files = MemFiles::new(files, numbers(alloc, failing.file)?);
     let mut source = MemSource::new(bytes, numbers(alloc, failing.read)?);
     let mut sink = MemSink::new(alloc, numbers(alloc, failing.write)?);
-    let exit = ratelimit(alloc, &Names::of(names), &mut files, &mut source, &mut sink);
+    let exit = ratelimit(
+        rt,
+        alloc,
+        &Names::of(names),
+        &mut files,
+        &mut source,
+        &mut sink,
+    );
     let mut text = exit_text(alloc, &exit)?;
     text.push('\n')?;
     text.push_str(str::from_utf8(sink.bytes()).unwrap_or("no UTF-8"))?;
@@ -185,7 +202,15 @@ fn scripts_are_answered(rt: HostRuntime) -> Result<(), Fail> {
         text.push_str(joined(alloc, want)?.as_str())?;
         let files = [config];
         assert_eq!(rt;
-            said(alloc, &["drive", "a"], &files, script.as_str(), NONE)?.as_str(),
+            said(
+                &rt,
+                rt.alloc(),
+                &["drive", "a"],
+                &files,
+                script.as_str(),
+                NONE
+            )?
+            .as_str(),
             text.as_str()
         );
     }
@@ -214,7 +239,10 @@ fn each_exit_has_its_cause(rt: HostRuntime) -> Result<(), Fail> {
         (&["drive", "a"], &[A], read, "read fault\n"),
     ];
     for (words, files, failing, want) in rows {
-        assert_eq!(rt; said(alloc, words, files, "", failing)?.as_str(), want);
+        assert_eq!(rt;
+            said(&rt, rt.alloc(), words, files, "", failing)?.as_str(),
+            want
+        );
     }
     Ok(())
 }

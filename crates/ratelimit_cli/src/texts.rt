@@ -27,6 +27,16 @@ fn copies(alloc: Global, texts: &[&str]) -> Result<Names, OutOfMemory>
     Ok(Names::of(words))
 }
 
+/// The word of a text, none where there is none.
+pub fn word_of(alloc: Global, text: Option<&str>) -> Result<Option<Word>, OutOfMemory>
+    ensures { IfOk result (λ w. w ≡ option_map (λ t. t.now) text.entry) }
+{
+    match text {
+        Some(text) => Ok(Some(Word::of(String::from_str(alloc, text)?))),
+        None => Ok(None),
+    }
+}
+
 /// Words with these texts, none where there are none.
 pub fn names_of(alloc: Global, texts: Option<&[&str]>) -> Result<Names, OutOfMemory>
     ensures { IfOk result (λ n. n ≡ unwrap_or (option_map (λ ts. map (λ t. t.now) ts.now) texts.entry) []) }

@@ -3,7 +3,8 @@ ghost use Rattle.rate_types.specs.declared.limits.TheConstants.{MOST_LINES};
 ghost use Rattle.rate_io.specs.Events.{Continues, Grew, since};
 ghost use Rattle.descriptor_tree.specs.Views.{config_view};
 ghost use Rattle.text_lines.specs.Lines.{cut};
-ghost use Rattle.ratelimit_cli.specs.Exits.{Explains, IsExitOf, exit_of};
+ghost use Rattle.ratelimit_cli.specs.World.{exit_of};
+ghost use Rattle.ratelimit_cli.specs.Exits.{Explains, IsExitOf};
 ghost use Rattle.ratelimit_cli.specs.Jobs.{command_with};
 ghost use Rattle.ratelimit_cli.specs.Words.{command_of};
 ghost use Rattle.ratelimit_cli.specs.Parts.{IsOfOutput, IsOfWork};
@@ -15,12 +16,14 @@ use crate::help::{HELP, VERSION};
 use crate::input::read_input;
 use crate::making::made_lines;
 use crate::output::write_lines;
+use crate::quota::run_quota;
 use crate::words::{WordsFault, read_words};
 use crate::work::Work;
 use descriptor_tree::Config;
 use rate_io::{Files, Sink, Source};
 use rate_types::Names;
 use std::alloc::Global;
+use std::thread::Threads;
 
 // Makes the lines of the output of this work, and writes them.
 fn make_and_write<K: Sink>(
@@ -111,7 +114,8 @@ fn run_work<F: Files, S: Source, K: Sink>(
 }
 
 // Does the command that the words name.
-fn run_command<F: Files, S: Source, K: Sink>(
+fn run_command<R: Threads + Sync, F: Files, S: Source, K: Sink>(
+    rt: &R,
     alloc: Global,
     words: &Names,
     files: &mut F,
@@ -159,6 +163,7 @@ fn run_command<F: Files, S: Source, K: Sink>(
             };
             run_work(alloc, &configs, work, files, source, sink)
         }
+        Ok(Command::Quota(job)) => run_quota(rt, alloc, job, files, sink),
         Ok(Command::Help) => write_text(alloc, HELP, sink),
         Ok(Command::Version) => write_text(alloc, VERSION, sink),
         Err(WordsFault::Usage) => Err(Exit::Usage),
@@ -168,12 +173,13 @@ fn run_command<F: Files, S: Source, K: Sink>(
 
 /// Does the command that the words name. `drive` reads configuration files and a script from the source, and writes one
 /// record per line of the script and then one total per counter whose window is open at its end; `lookup` reads
-/// configuration files and requests, and writes what each of their descriptors finds; `--help` and `--version` write their
-/// text.
+/// configuration files and requests, and writes what each of their descriptors finds; `quota` reads a settings file and
+/// recorded streams, and writes what a lawful client would have done; `--help` and `--version` write their text.
 ///
-/// The order of work is: the words, the files in order, the first refusal of a file, the input, its number of lines, the
+/// The order of work is: the words, the files in order, the first refusal of a file, the input, the numbers of lines, the
 /// run or the look-ups, the output. Each exit comes where its cause is the first.
-pub fn ratelimit<F: Files, S: Source, K: Sink>(
+pub fn ratelimit<R: Threads + Sync, F: Files, S: Source, K: Sink>(
+    rt: &R,
     alloc: Global,
     words: &Names,
     files: &mut F,
@@ -198,7 +204,7 @@ pub fn ratelimit<F: Files, S: Source, K: Sink>(
     ensures source { Continues (S.history source.old) (S.history source.new) }
     ensures sink { Continues (K.history sink.old) (K.history sink.new) }
 {
-    match run_command(alloc, words, files, source, sink) {
+    match run_command(rt, alloc, words, files, source, sink) {
         Ok(()) => Exit::Done,
         Err(exit) => exit,
     }

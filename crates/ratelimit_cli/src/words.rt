@@ -4,12 +4,12 @@ ghost use Rattle.std.specs.Str.{bytes_eq};
 ghost use Rattle.ratelimit_cli.specs.Words as spec;
 ghost use Rattle.ratelimit_cli.specs.declared.words.WordsFault.TheVariants.{Usage};
 
-use crate::command::{Command, ThreadJob};
+use crate::command::{Command, QUOTA_WORKERS, QuotaJob, ThreadJob};
 use crate::number::{count_in, number_in};
-use crate::parsers::{all_in, drive_parser, first_in, lookup_parser, parse};
-use crate::texts::{names_of, texts_of};
+use crate::parsers::{all_in, drive_parser, first_in, lookup_parser, parse, quota_parser};
+use crate::texts::{names_of, texts_of, word_of};
 use clap::ArgMatches;
-use rate_types::limits::{DEFAULT_CELLS, LATEST_MOMENT, MOST_CELLS};
+use rate_types::limits::{DEFAULT_CELLS, LATEST_MOMENT, MOST_CELLS, MOST_WORKERS};
 use rate_types::{Names, OutOfMemory, Seconds, Word};
 use std::alloc::{AllocError, Global};
 use thiserror::Error;
@@ -126,6 +126,52 @@ fn read_lookup(alloc: Global, words: &[Word]) -> Result<Command, WordsFault>
     Ok(Command::Plain(configs))
 }
 
+// A replay by these, where all are there.
+fn quota_job_of(settings: Option<Word>, streams: Names, workers: Option<u32>) -> Option<Command>
+    ensures { result ≡ spec.quota_job_of settings streams workers }
+{
+    let Some(settings) = settings else {
+        return None;
+    };
+    let Some(workers) = workers else {
+        return None;
+    };
+    Some(Command::Quota(QuotaJob {
+        settings,
+        streams,
+        workers,
+    }))
+}
+
+// The replay that these matches ask for.
+fn quota_job(alloc: Global, matches: &ArgMatches<'_>) -> Result<Command, WordsFault>
+    ensures command { IfOk result (λ c. spec.quota_job (spec.rows_in matches.now) ≡ Some c) }
+    ensures usage { result ≡ Err Usage → spec.quota_job (spec.rows_in matches.now) ≡ None }
+{
+    let settings = word_of(alloc, first_in(matches, "settings"))?;
+    let streams = names_of(alloc, all_in(matches, "streams"))?;
+    let workers = count_in(first_in(matches, "workers"), 1, MOST_WORKERS, QUOTA_WORKERS);
+    match quota_job_of(settings, streams, workers) {
+        Some(job) => Ok(job),
+        None => Err(WordsFault::Usage),
+    }
+}
+
+// The words of `quota`.
+fn read_quota(alloc: Global, words: &[Word]) -> Result<Command, WordsFault>
+    ensures command { IfOk result (λ c. spec.quota_of words.now ≡ Some c) }
+    ensures usage { result ≡ Err Usage → spec.quota_of words.now ≡ None }
+{
+    let texts = texts_of(alloc, words)?;
+    let command = quota_parser(alloc)?;
+    let matches = match parse(command, texts.as_slice()) {
+        Ok(matches) => matches,
+        Err(fault) => return Err(fault),
+    };
+    let job = quota_job(alloc, &matches)?;
+    Ok(job)
+}
+
 // A command of one word.
 fn alone(words: &[Word], command: Command) -> Result<Command, WordsFault>
     ensures command { IfOk result (λ c. spec.alone words.now command ≡ Some c) }
@@ -137,8 +183,8 @@ fn alone(words: &[Word], command: Command) -> Result<Command, WordsFault>
     }
 }
 
-/// The command that the words name: the first is `drive`, `lookup`, `--help` or `--version`, and the rest is read by that
-/// command.
+/// The command that the words name: the first is `drive`, `lookup`, `quota`, `--help` or `--version`, and the rest is read by
+/// that command.
 pub fn read_words(alloc: Global, words: &Names) -> Result<Command, WordsFault>
     ensures command { IfOk result (λ c. spec.command_of words.now ≡ Some c) }
     ensures usage { result ≡ Err Usage → spec.command_of words.now ≡ None }
@@ -153,6 +199,9 @@ pub fn read_words(alloc: Global, words: &Names) -> Result<Command, WordsFault>
     }
     if first == "lookup" {
         return read_lookup(alloc, words);
+    }
+    if first == "quota" {
+        return read_quota(alloc, words);
     }
     if first == "--help" {
         return alone(words, Command::Help);

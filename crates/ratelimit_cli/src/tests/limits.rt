@@ -14,7 +14,14 @@ const FIRST_TOTAL: &str =
 fn a_script_of_too_many_lines_is_too_long(rt: HostRuntime) -> Result<(), Fail> {
     let alloc = rt.alloc();
     let script = "\n".repeat(alloc, 1_048_577)?;
-    let answer = said(alloc, &["drive", "a"], &[A], script.as_str(), NONE)?;
+    let answer = said(
+        &rt,
+        rt.alloc(),
+        &["drive", "a"],
+        &[A],
+        script.as_str(),
+        NONE,
+    )?;
     assert_eq!(rt; answer.as_str(), "too long\n");
     Ok(())
 }
@@ -23,7 +30,14 @@ fn a_script_of_too_many_lines_is_too_long(rt: HostRuntime) -> Result<(), Fail> {
 fn a_script_of_too_many_bytes_is_too_long(rt: HostRuntime) -> Result<(), Fail> {
     let alloc = rt.alloc();
     let script = "x".repeat(alloc, 67_108_865)?;
-    let answer = said(alloc, &["drive", "a"], &[A], script.as_str(), NONE)?;
+    let answer = said(
+        &rt,
+        rt.alloc(),
+        &["drive", "a"],
+        &[A],
+        script.as_str(),
+        NONE,
+    )?;
     assert_eq!(rt; answer.as_str(), "too long\n");
     Ok(())
 }
@@ -32,7 +46,7 @@ fn a_script_of_too_many_bytes_is_too_long(rt: HostRuntime) -> Result<(), Fail> {
 fn a_file_of_too_many_bytes_is_too_long(rt: HostRuntime) -> Result<(), Fail> {
     let alloc = rt.alloc();
     let file = " ".repeat(alloc, 67_108_865)?;
-    let answer = said(alloc, &["drive", "a"], &[file.as_str()], "", NONE)?;
+    let answer = said(&rt, rt.alloc(), &["drive", "a"], &[file.as_str()], "", NONE)?;
     assert_eq!(rt; answer.as_str(), "too long\n");
     Ok(())
 }
@@ -47,11 +61,25 @@ fn each_read_of_the_script_can_fail(rt: HostRuntime) -> Result<(), Fail> {
             read: number,
             ..NONE
         };
-        let answer = said(alloc, &["drive", "a"], &[A], script.as_str(), failing)?;
+        let answer = said(
+            &rt,
+            rt.alloc(),
+            &["drive", "a"],
+            &[A],
+            script.as_str(),
+            failing,
+        )?;
         assert_eq!(rt; answer.as_str(), "read fault\n");
     }
     let failing = Failing { read: 5, ..NONE };
-    let answer = said(alloc, &["drive", "a"], &[A], script.as_str(), failing)?;
+    let answer = said(
+        &rt,
+        rt.alloc(),
+        &["drive", "a"],
+        &[A],
+        script.as_str(),
+        failing,
+    )?;
     assert_eq!(rt; answer.lines().next(), Some("done"));
     Ok(())
 }
@@ -72,7 +100,7 @@ fn each_read_of_a_file_can_fail(rt: HostRuntime) -> Result<(), Fail> {
             file: number,
             ..NONE
         };
-        let answer = said(alloc, &words, &files, "", failing)?;
+        let answer = said(&rt, rt.alloc(), &words, &files, "", failing)?;
         assert_eq!(rt; answer.as_str(), want);
     }
     Ok(())
@@ -105,7 +133,14 @@ fn a_failed_write_leaves_the_lines_before_it(rt: HostRuntime) -> Result<(), Fail
             want.push_str(line)?;
             want.push('\n')?;
         }
-        let answer = said(alloc, &["drive", "a"], &[A], script.as_str(), failing)?;
+        let answer = said(
+            &rt,
+            rt.alloc(),
+            &["drive", "a"],
+            &[A],
+            script.as_str(),
+            failing,
+        )?;
         assert_eq!(rt; answer.as_str(), want.as_str());
     }
     Ok(())
@@ -122,7 +157,14 @@ fn the_first_counter_past_the_cells_is_refused(rt: HostRuntime) -> Result<(), Fa
         )?;
         script.push_str(line.as_str())?;
     }
-    let answer = said(alloc, &["drive", "a"], &[A], script.as_str(), NONE)?;
+    let answer = said(
+        &rt,
+        rt.alloc(),
+        &["drive", "a"],
+        &[A],
+        script.as_str(),
+        NONE,
+    )?;
     assert_eq!(rt; answer.lines().next(), Some("done"));
     assert_eq!(rt; answer.lines().nth(262_145), Some(FULL));
     assert_eq!(rt; answer.lines().nth(262_146), Some(FIRST_TOTAL));

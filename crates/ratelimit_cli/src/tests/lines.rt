@@ -37,7 +37,7 @@ fn lines_are_refused_by_number(rt: HostRuntime) -> Result<(), Fail> {
     let alloc = rt.alloc();
     for row in REFUSED.lines() {
         let (line, at) = row.split_once(" => ").ok_or("a row")?;
-        let answer = said(alloc, &["drive", "a"], &[A], line, NONE)?;
+        let answer = said(&rt, rt.alloc(), &["drive", "a"], &[A], line, NONE)?;
         assert_eq!(rt; answer.as_str(), refused(alloc, at)?.as_str(), "at {line}");
     }
     Ok(())
@@ -56,7 +56,7 @@ fn the_greatest_tick_and_a_name_given_twice_are_read(rt: HostRuntime) -> Result<
         ),
     ];
     for (line, want) in rows {
-        let answer = said(rt.alloc(), &["drive", "a"], &[A], line, NONE)?;
+        let answer = said(&rt, rt.alloc(), &["drive", "a"], &[A], line, NONE)?;
         assert_eq!(rt; answer.as_str(), want, "at {line}");
     }
     Ok(())
@@ -74,10 +74,24 @@ fn check_of_length(alloc: Global, bytes: usize) -> Result<String, Fail> {
 fn a_text_has_at_most_1024_bytes(rt: HostRuntime) -> Result<(), Fail> {
     let alloc = rt.alloc();
     let longest = check_of_length(alloc, 1024)?;
-    let answer = said(alloc, &["drive", "a"], &[A], longest.as_str(), NONE)?;
+    let answer = said(
+        &rt,
+        rt.alloc(),
+        &["drive", "a"],
+        &[A],
+        longest.as_str(),
+        NONE,
+    )?;
     assert!(rt; answer.starts_with("done\n{\"counts\":[{\"before\":0}],\"line\":1,"));
     let longer = check_of_length(alloc, 1025)?;
-    let answer = said(alloc, &["drive", "a"], &[A], longer.as_str(), NONE)?;
+    let answer = said(
+        &rt,
+        rt.alloc(),
+        &["drive", "a"],
+        &[A],
+        longer.as_str(),
+        NONE,
+    )?;
     let at = r#""at":"/check/descriptors/0/entries/0/value","number":26"#;
     assert_eq!(rt; answer.as_str(), refused(alloc, at)?.as_str());
     Ok(())
@@ -90,7 +104,7 @@ fn a_check_without_a_rule_is_answered(rt: HostRuntime) -> Result<(), Fail> {
     let unknown_key =
         r#"{"check":{"domain":"d","descriptors":[{"entries":[{"key":"x","value":"a"}]}]}}"#;
     for line in [unknown_domain, unknown_key] {
-        let found = said(rt.alloc(), &["drive", "a"], &[A], line, NONE)?;
+        let found = said(&rt, rt.alloc(), &["drive", "a"], &[A], line, NONE)?;
         assert_eq!(rt; found.as_str(), WITHOUT_RULE, "at {line}");
     }
     Ok(())

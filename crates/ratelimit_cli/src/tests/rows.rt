@@ -2,13 +2,15 @@
 use super::{A, A0, CHECK_A, CHECK_B, NONE, joined, said};
 use std::alloc::Global;
 use std::test::Fail;
+use std::thread::Threads;
 
 // A limit of 1 a minute for each value of k.
 const A1: &str =
     r#"{"domain":"d","descriptors":[{"key":"k","rateLimit":{"unit":"MINUTE","requestsPerUnit":1}}]}"#;
 
 // The exit and the output of a command over one file, and those of a whole run that writes these lines.
-fn run(
+fn run<R: Threads + Sync>(
+    rt: &R,
     alloc: Global,
     words: &[&str],
     config: &str,
@@ -18,6 +20,7 @@ fn run(
     let mut want = String::from_str(alloc, "done\n")?;
     want.push_str(joined(alloc, lines)?.as_str())?;
     let found = said(
+        rt,
         alloc,
         words,
         &[config],
@@ -30,6 +33,7 @@ fn run(
 #[test]
 fn a_reload_installs_the_next_version(rt: HostRuntime) -> Result<(), Fail> {
     let (found, want) = run(
+        &rt,
         rt.alloc(),
         &["drive", "a"],
         A1,
@@ -56,6 +60,7 @@ fn a_reload_installs_the_next_version(rt: HostRuntime) -> Result<(), Fail> {
 #[test]
 fn a_counter_without_a_cell_is_refused(rt: HostRuntime) -> Result<(), Fail> {
     let (found, want) = run(
+        &rt,
         rt.alloc(),
         &["drive", "--cells", "1", "a"],
         A,
@@ -75,6 +80,7 @@ fn a_counter_without_a_cell_is_refused(rt: HostRuntime) -> Result<(), Fail> {
 #[test]
 fn a_run_starts_where_it_is_told_to(rt: HostRuntime) -> Result<(), Fail> {
     let (found, want) = run(
+        &rt,
         rt.alloc(),
         &["drive", "--start", "60", "a"],
         A,
@@ -91,6 +97,7 @@ fn a_run_starts_where_it_is_told_to(rt: HostRuntime) -> Result<(), Fail> {
 #[test]
 fn global_shadow_leaves_the_statuses(rt: HostRuntime) -> Result<(), Fail> {
     let (found, want) = run(
+        &rt,
         rt.alloc(),
         &["drive", "a", "--global-shadow"],
         A0,
@@ -107,6 +114,7 @@ fn global_shadow_leaves_the_statuses(rt: HostRuntime) -> Result<(), Fail> {
 #[test]
 fn requests_are_looked_up(rt: HostRuntime) -> Result<(), Fail> {
     let (found, want) = run(
+        &rt,
         rt.alloc(),
         &["lookup", "a"],
         r#"{"domain":"d","descriptors":[{"key":"n","value":"u*","rateLimit":{"unit":"MINUTE","requestsPerUnit":1}},{"key":"n","value":"us*","rateLimit":{"unit":"MINUTE","requestsPerUnit":2}},{"key":"n","rateLimit":{"unit":"MINUTE","requestsPerUnit":3}},{"key":"f","rateLimit":{"unlimited":true}}]}"#,
@@ -128,6 +136,7 @@ fn requests_are_looked_up(rt: HostRuntime) -> Result<(), Fail> {
 #[test]
 fn nested_rules_answer_each_descriptor(rt: HostRuntime) -> Result<(), Fail> {
     let (found, want) = run(
+        &rt,
         rt.alloc(),
         &["drive", "a"],
         r#"{"domain":"messaging","descriptors":[{"key":"message_type","value":"marketing","descriptors":[{"key":"to_number","rate_limit":{"unit":"day","requests_per_unit":5}}]},{"key":"to_number","rate_limit":{"unit":"day","requests_per_unit":100}}]}"#,
@@ -149,6 +158,7 @@ fn shadow_is_charged_and_unlimited_is_not(rt: HostRuntime) -> Result<(), Fail> {
     let shadow =
         r#"{"check":{"domain":"d","descriptors":[{"entries":[{"key":"sh","value":"x"}]}]}}"#;
     let (found, want) = run(
+        &rt,
         rt.alloc(),
         &["drive", "a"],
         r#"{"domain":"d","descriptors":[{"key":"sh","shadowMode":true,"rateLimit":{"unit":"MINUTE","requestsPerUnit":1}},{"key":"un","rateLimit":{"unlimited":true}}]}"#,
@@ -173,6 +183,7 @@ fn shadow_is_charged_and_unlimited_is_not(rt: HostRuntime) -> Result<(), Fail> {
 #[test]
 fn a_replaced_rule_counts_nothing(rt: HostRuntime) -> Result<(), Fail> {
     let (found, want) = run(
+        &rt,
         rt.alloc(),
         &["drive", "a"],
         r#"{"domain":"d","descriptors":[{"key":"a","rateLimit":{"unit":"MINUTE","requestsPerUnit":10,"name":"base"}},{"key":"b","rateLimit":{"unit":"MINUTE","requestsPerUnit":5,"replaces":[{"name":"base"}]}}]}"#,
@@ -205,6 +216,7 @@ fn hits_of_0_only_read(rt: HostRuntime) -> Result<(), Fail> {
     let zero = check_of(alloc, r#","hitsAddend":0"#)?;
     let two = check_of(alloc, r#","hitsAddend":"2""#)?;
     let (found, want) = run(
+        &rt,
         rt.alloc(),
         &["drive", "a"],
         A,
@@ -224,6 +236,7 @@ fn hits_of_0_only_read(rt: HostRuntime) -> Result<(), Fail> {
 #[test]
 fn descriptors_of_one_counter_count_one_after_the_other(rt: HostRuntime) -> Result<(), Fail> {
     let (found, want) = run(
+        &rt,
         rt.alloc(),
         &["drive", "a"],
         A1,
@@ -244,6 +257,7 @@ fn the_greatest_hits_are_counted(rt: HostRuntime) -> Result<(), Fail> {
     let most =
         r#"{"check":{"domain":"d","descriptors":[{"entries":[{"key":"k","value":"a"}]}],"hitsAddend":4294967295}}"#;
     let (found, want) = run(
+        &rt,
         rt.alloc(),
         &["drive", "a"],
         r#"{"domain":"d","descriptors":[{"key":"k","rateLimit":{"unit":"MINUTE","requestsPerUnit":4294967295}}]}"#,
@@ -273,7 +287,14 @@ fn lines_are_refused_at_their_places(rt: HostRuntime) -> Result<(), Fail> {
         let want = format!(in alloc;
             r#"{{"line":1,"moment":0,"refused":{{{at}}},"version":0,"worker":0}}"#
         )?;
-        let (found, want) = run(alloc, &["drive", "a"], A, &[line], &[want.as_str()])?;
+        let (found, want) = run(
+            &rt,
+            rt.alloc(),
+            &["drive", "a"],
+            A,
+            &[line],
+            &[want.as_str()],
+        )?;
         assert_eq!(rt; found.as_str(), want.as_str());
     }
     Ok(())
@@ -292,7 +313,14 @@ fn files_are_refused_at_their_places(rt: HostRuntime) -> Result<(), Fail> {
         let (nodes, refusal) = row.split_once(" => ").ok_or("a row")?;
         let file = format!(in alloc; r#"{{"domain":"d","descriptors":[{nodes}]}}"#)?;
         let want = format!(in alloc; "file 0: {refusal}\n")?;
-        let found = said(alloc, &["lookup", "a"], &[file.as_str()], "", NONE)?;
+        let found = said(
+            &rt,
+            rt.alloc(),
+            &["lookup", "a"],
+            &[file.as_str()],
+            "",
+            NONE,
+        )?;
         assert_eq!(rt; found.as_str(), want.as_str());
     }
     Ok(())
@@ -324,7 +352,7 @@ fn other_words_are_no_command(rt: HostRuntime) -> Result<(), Fail> {
     let alloc = rt.alloc();
     for row in NO_COMMANDS.lines() {
         let words: Vec<&str> = row.split(' ').collect(alloc)?;
-        let found = said(alloc, words.as_slice(), &[A], "", NONE)?;
+        let found = said(&rt, rt.alloc(), words.as_slice(), &[A], "", NONE)?;
         assert_eq!(rt; found.as_str(), "usage\n", "at {row}");
     }
     Ok(())
@@ -333,7 +361,7 @@ fn other_words_are_no_command(rt: HostRuntime) -> Result<(), Fail> {
 #[test]
 fn help_and_version_are_printed(rt: HostRuntime) -> Result<(), Fail> {
     let alloc = rt.alloc();
-    let help = said(alloc, &["--help"], &[], "", NONE)?;
+    let help = said(&rt, rt.alloc(), &["--help"], &[], "", NONE)?;
     for text in [
         "done\n",
         "drive [--workers N]",
@@ -343,7 +371,7 @@ fn help_and_version_are_printed(rt: HostRuntime) -> Result<(), Fail> {
     ] {
         assert!(rt; help.contains(text), "{text}");
     }
-    let version = said(alloc, &["--version"], &[], "", NONE)?;
+    let version = said(&rt, rt.alloc(), &["--version"], &[], "", NONE)?;
     assert_eq!(rt; version.as_str(), "done\nratelimit 0.1.0\n");
     Ok(())
 }

@@ -1,6 +1,6 @@
 use Rattle.std.proofs.Common.{◌≡◌, ◌≤◌, take}
 use Rattle.rate_io.specs.Events.{Grew}
-use Rattle.ratelimit_cli.specs.Exits.{AreFilesOf}
+use Rattle.ratelimit_cli.specs.World.{AreFilesOf}
 use Rattle.ratelimit_cli.proofs.configs.read_files.Given as goal
 
 abbrev pub invariant-names : goal.invariant-names

@@ -1,5 +1,5 @@
 use Rattle.std.proofs.Common.{◌≤◌, length, inl, arith, rules}
-use Rattle.ratelimit_cli.specs.Exits.{IsTooLong}
+use Rattle.ratelimit_cli.specs.World.{IsTooLong}
 use Rattle.ratelimit_cli.proofs.Told.{told_map}
 use Rattle.ratelimit_cli.proofs.input.read_input.Goals as goal
 

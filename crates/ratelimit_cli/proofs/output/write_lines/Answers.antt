@@ -2,8 +2,8 @@ use Rattle.std.proofs.Common.{◌≡◌, ◌++◌, ◌∷◌, [], ℕ, ◌+◌, 
 use Rattle.std.specs.declared.alloc.Global.{Global}
 use Rattle.std.proofs.lemmas.List.{take_more, take-map, map-append}
 use Rattle.std.proofs.lemmas.Option.{slice_get-map, slice_get_read}
-use Rattle.rate_io.specs.Events.{Event, wrote, write_failed}
-use Rattle.ratelimit_cli.proofs.Pieces.{appends_more, concat_push, front_of, cut_list}
+use Rattle.rate_io.specs.Events.{wrote, write_failed}
+use Rattle.ratelimit_cli.proofs.Pieces.{appends_more, concat_push, front_of, cut_list, one_more}
 use Rattle.ratelimit_cli.proofs.output.write_lines.Goals as goal
 
 abbrev texts_of : List (String Global) → List (List ℕ)
@@ -11,12 +11,6 @@ texts_of ts = map (λ t. string_bytes t) ts
 
 pushed : (ts : List (String Global)) (t : String Global) → texts_of (ts ++ t ∷ []) ≡ texts_of ts ++ string_bytes t ∷ []
 pushed ts t = map-append (λ (t : String Global). string_bytes t) ts (t ∷ [])
-
--- one more piece was written
-one_more : (old mid new : List Event) (pieces : List (List ℕ)) (piece : List ℕ) → mid ≡ old ++ map wrote pieces → new ≡ mid ++ wrote piece ∷ []
-    → new ≡ old ++ map wrote (pieces ++ piece ∷ [])
-one_more old mid new pieces piece so_far is =
-    is ∙ ap (λ l. l ++ wrote piece ∷ []) so_far ∙ append_assoc old (map wrote pieces) (wrote piece ∷ []) ∙ ap (λ l. old ++ l) (sym (map-append wrote pieces (piece ∷ [])))
 
 pub lines-preserved : goal.lines-preserved
 lines-preserved g c =

@@ -6,7 +6,7 @@ use Rattle.ratelimit_cli.proofs.parsers.drive_parser.Goals as goal
 pub returns : goal.returns
 unfolding drive_app
 returns c =
-    c.in_ok-command.ensures.shape c.configs_arg-configs.ensures.local ∙ ap₂ with_rule (
+    c.in_ok-command.ensures.shape c.files_arg-configs.ensures.local ∙ ap₂ with_rule (
     c.in_ok-four.ensures.shape c.flag_arg-shadow.ensures.local ∙ ap₂ with_rule (
     c.in_ok-three.ensures.shape c.option_arg-start.ensures.local ∙ ap₂ with_rule (
     c.in_ok-two.ensures.shape c.option_arg-cells.ensures.local ∙ ap₂ with_rule (
@@ -14,4 +14,4 @@ returns c =
     c.option_arg-cells.ensures.rule)
     c.option_arg-start.ensures.rule)
     c.flag_arg-shadow.ensures.rule)
-    c.configs_arg-configs.ensures.rule
+    c.files_arg-configs.ensures.rule

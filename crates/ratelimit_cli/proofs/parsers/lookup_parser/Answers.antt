@@ -5,4 +5,4 @@ use Rattle.ratelimit_cli.proofs.parsers.lookup_parser.Goals as goal
 
 pub returns : goal.returns
 unfolding lookup_app
-returns c = c.in_ok-command.ensures.shape c.configs_arg-configs.ensures.local ∙ ap₂ with_rule c.new.ensures.app c.configs_arg-configs.ensures.rule
+returns c = c.in_ok-command.ensures.shape c.files_arg-configs.ensures.local ∙ ap₂ with_rule c.new.ensures.app c.files_arg-configs.ensures.rule

@@ -1,12 +1,14 @@
 use Rattle.std.proofs.Common.{◌≡◌, ℕ, List, Some, Ok, refl, subst, sym, ◌∙◌, rules}
 use Rattle.rate_io.specs.Events.{since, given}
 use Rattle.descriptor_tree.specs.Views.{config_view}
+use Rattle.config_json.specs.Reading.{reading_of}
 use Rattle.ratelimit_cli.specs.Words.{command_of}
-use Rattle.ratelimit_cli.specs.Jobs.{configs_of, command_with}
-use Rattle.ratelimit_cli.specs.Exits.{World, FilesSay, AreFilesOf, IsInput, HasRead, exit_of}
+use Rattle.ratelimit_cli.specs.Jobs.{files_of, command_with}
+use Rattle.ratelimit_cli.specs.World.{World, AreFilesOf, exit_of}
+use Rattle.ratelimit_cli.specs.Configured.{FilesSay, IsInput, HasRead}
 use Rattle.ratelimit_cli.specs.Parts.{IsOfFiles, IsOfInput, IsOfOutput, IsOfWork}
 use Rattle.ratelimit_cli.proofs.Histories.{none_since, grew_since}
-use Rattle.ratelimit_cli.proofs.Explaining.{explain_files, explain_input, explain_output, made_output, configs_same, sinks}
+use Rattle.ratelimit_cli.proofs.Explaining.{explain_files, explain_config, explain_input, explain_output, made_output, configs_same, reads_configs, sinks}
 use Rattle.ratelimit_cli.proofs.top.run_work.Goals as goal
 
 pub returns-in-Err-clause-exit : goal.returns-in-Err-clause-exit
@@ -26,12 +28,41 @@ returns-in-Err-clause-exit g c = λ words is.
       written = g.K.Sink.written c.args.sink.now;
       after = g.K.Sink.written c.args.sink.now;
     } in
-    let names : c.items.result.now ≡ configs_of (command_with c.args.configs.now c.args.work) = search rules in
+    let names : c.items.result.now ≡ files_of (command_with c.args.configs.now c.args.work) = search rules in
     explain_files w (command_with c.args.configs.now c.args.work) is (none_since (g.S.Source.history c.args.source.now))
     (none_since (g.K.Sink.history c.args.sink.now), refl) c.in-Err.exit
     (subst (λ (ns : List (List ℕ)). IsOfFiles (g.F.Files.content c.args.files.now) ns faults c.in-Err.exit w.files) names
     (grew_since (g.F.Files.history c.args.files.now) (g.F.Files.history c.read_files.new.files)
     (IsOfFiles (g.F.Files.content c.args.files.now) c.items.result.now faults c.in-Err.exit) c.in-Err.ensures.fault))
+
+pub returns-in-Err-configuration-clause-exit : goal.returns-in-Err-configuration-clause-exit
+returns-in-Err-configuration-clause-exit g c = λ words is.
+    let w : World = record {
+      words = words;
+      files = since (g.F.Files.history c.args.files.now) (g.F.Files.history c.read_files.new.files);
+      reads = since (g.S.Source.history c.args.source.now) (g.S.Source.history c.args.source.now);
+      writes = since (g.K.Sink.history c.args.sink.now) (g.K.Sink.history c.args.sink.now);
+      file_faults = (g.F.Files.faults c.args.files.now, g.F.Files.faults c.read_files.new.files);
+      source_faults = (g.S.Source.faults c.args.source.now, g.S.Source.faults c.args.source.now);
+      sink_faults = (g.K.Sink.faults c.args.sink.now, g.K.Sink.faults c.args.sink.now);
+      content = g.F.Files.content c.args.files.now;
+      left = g.S.Source.left c.args.source.now;
+      rest = g.S.Source.left c.args.source.now;
+      written = g.K.Sink.written c.args.sink.now;
+      after = g.K.Sink.written c.args.sink.now;
+    } in
+    let names : c.items.result.now ≡ files_of (command_with c.args.configs.now c.args.work) = search rules in
+    let say : FilesSay w (command_with c.args.configs.now c.args.work) (reading_of c.in-Ok.blobs) = record {
+      named = is;
+      kind = reads_configs c.args.configs.now c.args.work;
+      files = c.in-Ok.blobs;
+      contents = subst (λ (ns : List (List ℕ)). AreFilesOf w.content ns w.files c.in-Ok.blobs) names
+          (grew_since (g.F.Files.history c.args.files.now) (g.F.Files.history c.read_files.new.files)
+          (λ calls. AreFilesOf (g.F.Files.content c.args.files.now) c.items.result.now calls c.in-Ok.blobs) c.in-Ok.ensures.contents);
+      spells = refl;
+    } in
+    explain_config w (command_with c.args.configs.now c.args.work) (reading_of c.in-Ok.blobs) say (none_since (g.S.Source.history c.args.source.now))
+    (none_since (g.K.Sink.history c.args.sink.now), refl) c.in-Err-configuration.exit c.in-Err-configuration.ensures.fault
 
 pub returns-in-Err-read_input-clause-exit : goal.returns-in-Err-read_input-clause-exit
 returns-in-Err-read_input-clause-exit g c = λ words is.
@@ -50,9 +81,10 @@ returns-in-Err-read_input-clause-exit g c = λ words is.
       written = g.K.Sink.written c.args.sink.now;
       after = g.K.Sink.written c.args.sink.now;
     } in
-    let names : c.items.result.now ≡ configs_of (command_with c.args.configs.now c.args.work) = search rules in
+    let names : c.items.result.now ≡ files_of (command_with c.args.configs.now c.args.work) = search rules in
     let say : FilesSay w (command_with c.args.configs.now c.args.work) (Ok (config_view c.in-Ok-configuration.config)) = record {
       named = is;
+      kind = reads_configs c.args.configs.now c.args.work;
       files = c.in-Ok.blobs;
       contents = subst (λ (ns : List (List ℕ)). AreFilesOf w.content ns w.files c.in-Ok.blobs) names
           (grew_since (g.F.Files.history c.args.files.now) (g.F.Files.history c.read_files.new.files)
@@ -80,9 +112,10 @@ returns-clause-exit g c = λ words is.
       written = g.K.Sink.written c.args.sink.now;
       after = g.K.Sink.written c.make_and_write.new.sink;
     } in
-    let names : c.items.result.now ≡ configs_of (command_with c.args.configs.now c.args.work) = search rules in
+    let names : c.items.result.now ≡ files_of (command_with c.args.configs.now c.args.work) = search rules in
     let say : FilesSay w (command_with c.args.configs.now c.args.work) (Ok (config_view c.in-Ok-configuration.config)) = record {
       named = is;
+      kind = reads_configs c.args.configs.now c.args.work;
       files = c.in-Ok.blobs;
       contents = subst (λ (ns : List (List ℕ)). AreFilesOf w.content ns w.files c.in-Ok.blobs) names
           (grew_since (g.F.Files.history c.args.files.now) (g.F.Files.history c.read_files.new.files)

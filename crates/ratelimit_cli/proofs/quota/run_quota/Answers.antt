@@ -1,0 +1,74 @@
+use Rattle.std.proofs.Common.{◌≡◌, ◌<◌, ℕ, List, [], ◌∷◌, length, Some, Ok, Option, refl, sym, ap, subst, ◌∙◌, arith, rules, map}
+use Rattle.std.specs.List.{concat, AllByRecursion}
+use Rattle.rate_io.specs.Events.{Event, FileEvent, since}
+use Rattle.quota_stream.specs.Output.{AreLines}
+use Rattle.ratelimit_cli.specs.Words.{command_of}
+use Rattle.ratelimit_cli.specs.Jobs.{files_of}
+use Rattle.ratelimit_cli.specs.World.{World, AreFilesOf, exit_of}
+use Rattle.ratelimit_cli.specs.Parts.{IsOfOutput, Replays}
+use Rattle.ratelimit_cli.specs.Replayed.{IsReplayed}
+use Rattle.ratelimit_cli.specs.Quota.{in_order}
+use Rattle.ratelimit_cli.specs.declared.command.Command.TheVariants.{Quota}
+use Rattle.ratelimit_cli.proofs.Histories.{none_since, grew_since}
+use Rattle.ratelimit_cli.proofs.Explaining.{explain_replay, explain_output, replay_output, sinks}
+use Rattle.ratelimit_cli.proofs.quota.run_quota.Goals as goal
+
+-- the settings are refused, or a stream is too long
+pub returns-in-Err-replayed-clause-exit : goal.returns-in-Err-replayed-clause-exit
+returns-in-Err-replayed-clause-exit g c = λ words source_faults left is.
+    let w : World = record {
+      words = words;
+      files = since (g.F.Files.history c.args.files.now) (g.F.Files.history c.read_files.new.files);
+      reads = [];
+      writes = since (g.K.Sink.history c.args.sink.now) (g.K.Sink.history c.args.sink.now);
+      file_faults = (g.F.Files.faults c.args.files.now, g.F.Files.faults c.read_files.new.files);
+      source_faults = source_faults;
+      sink_faults = (g.K.Sink.faults c.args.sink.now, g.K.Sink.faults c.args.sink.now);
+      content = g.F.Files.content c.args.files.now;
+      left = left;
+      rest = left;
+      written = g.K.Sink.written c.args.sink.now;
+      after = g.K.Sink.written c.args.sink.now;
+    } in
+    let names : c.items.result.now ≡ files_of (Quota c.args.job) = c.items.ensures ∙ c.in-Ok.ensures in
+    let contents : AreFilesOf w.content (files_of (Quota c.args.job)) w.files (c.first_of-file.result.0 ∷ c.first_of-file.result.1) =
+    subst (λ (ns : List (List ℕ)). AreFilesOf w.content ns w.files (c.first_of-file.result.0 ∷ c.first_of-file.result.1)) names
+    (subst (AreFilesOf w.content c.items.result.now w.files) c.first_of-file.ensures
+    (grew_since (g.F.Files.history c.args.files.now) (g.F.Files.history c.read_files.new.files)
+    (λ calls. AreFilesOf (g.F.Files.content c.args.files.now) c.items.result.now calls c.in-Ok-read_files.blobs) c.in-Ok-read_files.ensures.contents)) in
+    explain_replay w c.args.job is c.first_of-file.result.0 c.first_of-file.result.1 contents (λ i. []) (none_since (g.K.Sink.history c.args.sink.now), refl)
+    c.in-Err-replayed.exit (rw (← c.bytes.ensures) c.in-Err-replayed.ensures.fault)
+
+-- the outputs were written, or the first of their lines
+pub returns-clause-exit : goal.returns-clause-exit
+returns-clause-exit g c = λ words source_faults left is.
+    let w : World = record {
+      words = words;
+      files = since (g.F.Files.history c.args.files.now) (g.F.Files.history c.read_files.new.files);
+      reads = [];
+      writes = since (g.K.Sink.history c.args.sink.now) (g.K.Sink.history c.write_texts.new.sink);
+      file_faults = (g.F.Files.faults c.args.files.now, g.F.Files.faults c.read_files.new.files);
+      source_faults = source_faults;
+      sink_faults = (g.K.Sink.faults c.args.sink.now, g.K.Sink.faults c.write_texts.new.sink);
+      content = g.F.Files.content c.args.files.now;
+      left = left;
+      rest = left;
+      written = g.K.Sink.written c.args.sink.now;
+      after = g.K.Sink.written c.write_texts.new.sink;
+    } in
+    let names : c.items.result.now ≡ files_of (Quota c.args.job) = c.items.ensures ∙ c.in-Ok.ensures in
+    let contents : AreFilesOf w.content (files_of (Quota c.args.job)) w.files (c.first_of-file.result.0 ∷ c.first_of-file.result.1) =
+    subst (λ (ns : List (List ℕ)). AreFilesOf w.content ns w.files (c.first_of-file.result.0 ∷ c.first_of-file.result.1)) names
+    (subst (AreFilesOf w.content c.items.result.now w.files) c.first_of-file.ensures
+    (grew_since (g.F.Files.history c.args.files.now) (g.F.Files.history c.read_files.new.files)
+    (λ calls. AreFilesOf (g.F.Files.content c.args.files.now) c.items.result.now calls c.in-Ok-read_files.blobs) c.in-Ok-read_files.ensures.contents)) in
+    let texts = c.in-Ok-replayed.ensures.texts in
+    let each : List (List (List ℕ)) = texts.0 in
+    let replays : Replays c.first_of-file.result.0 c.first_of-file.result.1 (in_order each) = rw (← c.bytes.ensures) texts.3 in
+    explain_output w (Quota c.args.job) is (λ pieces. pieces ≡ in_order each)
+    (λ pieces same. subst (λ (ps : List (List ℕ)). IsReplayed w c.args.job ps) (sym same)
+    (replay_output w c.args.job is c.first_of-file.result.0 c.first_of-file.result.1 contents (λ i. []) (in_order each) replays))
+    (exit_of c.write_texts.result)
+    (grew_since (g.K.Sink.history c.args.sink.now) (g.K.Sink.history c.write_texts.new.sink)
+    (IsOfOutput (λ pieces. pieces ≡ in_order each) (sinks w) (exit_of c.write_texts.result))
+    (c.write_texts.ensures each texts.1 texts.2))

@@ -1,0 +1,104 @@
+-- What the top call found and did: words, files, reads and writes.
+use Rattle.std.specs.Prelude.{◌≡◌, ℕ, ◌<◌, ◌≤◌, ◌⊎◌, List, [], ◌∷◌, ◌++◌, length, map, take, true, Option, Some, slice_get, Result, Ok}
+use Rattle.std.specs.Prelude.{Err, ⊤}
+use Rattle.rate_types.specs.declared.limits.TheConstants.{MOST_BYTES, MOST_LINES}
+use Rattle.rate_io.specs.Content.{Told}
+use Rattle.rate_io.specs.Events.{Event, wrote, write_failed, FileEvent, given, has_ended, has_failed}
+use Rattle.text_lines.specs.Lines.{cut}
+use Rattle.ratelimit_cli.specs.Words.{command_of}
+use Rattle.ratelimit_cli.specs.Jobs.{files_of}
+use Rattle.ratelimit_cli.specs.declared.command.Command.{Command}
+use Rattle.ratelimit_cli.specs.declared.exit.Exit.{Exit}
+use Rattle.ratelimit_cli.specs.declared.exit.Exit.TheVariants.{Done}
+
+-- What the call found and did: the words; its calls for files, its reads of the source and its writes to the sink, as their
+-- histories have them, in order; the counts of faults before and after; and what versions in memory tell besides of files,
+-- source and sink, before and after.
+pub record World : Type 0 where
+  pub words : List (List ℕ)
+  pub files : List FileEvent
+  pub reads : List Event
+  pub writes : List Event
+  pub file_faults : ℕ × ℕ
+  pub source_faults : ℕ × ℕ
+  pub sink_faults : ℕ × ℕ
+  pub content : List ℕ → Option (List ℕ)
+  pub left : Option (List ℕ)
+  pub rest : Option (List ℕ)
+  pub written : Option (List ℕ)
+  pub after : Option (List ℕ)
+
+-- The reads of a file handed out these bytes, at most 67,108,864 of them, and then answered the end. Where its content is told,
+-- it is these bytes.
+abbrev pub IsFileOf : Option (List ℕ) → List Event → List ℕ → Type 0
+IsFileOf content reads bytes =
+    (given reads ≡ bytes) × (has_ended reads ≡ true) × (length bytes ≤ MOST_BYTES) × Told content (λ told. bytes ≡ told)
+
+-- these calls asked for the files of these names, in order, and these are their bytes
+abbrev pub AreFilesOf : (List ℕ → Option (List ℕ)) → List (List ℕ) → List FileEvent → List (List ℕ) → Type 0
+AreFilesOf content [] [] [] = ⊤
+AreFilesOf content (name ∷ names) (call ∷ calls) (bytes ∷ files) =
+    (call.0 ≡ name) × IsFileOf (content name) call.1 bytes × AreFilesOf content names calls files
+AreFilesOf content names calls files = ⊥
+
+-- The files before the one of this index were read, then it was asked for, and this holds of its reads; no other was asked for.
+pub record StopsAt (content : List ℕ → Option (List ℕ)) (names : List (List ℕ)) (calls : List FileEvent) (index : ℕ)
+    (P : List ℕ → List Event → Type 0) : Type 0 where
+  pub files : List (List ℕ)
+  pub earlier : List FileEvent
+  pub read : AreFilesOf content (take index names) earlier files
+  pub name : List ℕ
+  pub named : slice_get names index ≡ Some name
+  pub reads : List Event
+  pub last : calls ≡ earlier ++ (name, reads) ∷ []
+  pub stops : P name reads
+
+-- the reads of a file handed out more than 67,108,864 bytes
+abbrev pub IsLong : (List ℕ → Option (List ℕ)) → List ℕ → List Event → Type 0
+IsLong content name reads = (MOST_BYTES < length (given reads)) × Told (content name) (λ bytes. MOST_BYTES < length bytes)
+
+-- a read of a file failed
+abbrev pub IsUnread : List ℕ → List Event → Type 0
+IsUnread name reads = has_failed reads ≡ true
+
+-- the input has more bytes, or more lines, than may be
+abbrev pub IsTooLong : List ℕ → Type 0
+IsTooLong bytes = (MOST_BYTES < length bytes) ⊎ (MOST_LINES < length (cut bytes))
+
+-- a file has more bytes than may be, and those before it were read
+abbrev pub HasLongFile : World → Type 0
+HasLongFile w = (command : Command) × (command_of w.words ≡ Some command)
+    × ((index : ℕ) × StopsAt w.content (files_of command) w.files index (IsLong w.content))
+
+-- the file of this index couldn't be read, and those before it were
+abbrev pub FileFails : World → ℕ → Type 0
+FileFails w index = (command : Command) × (command_of w.words ≡ Some command)
+    × StopsAt w.content (files_of command) w.files index IsUnread
+
+-- no file was asked for
+abbrev pub NoFileAsked : World → Type 0
+NoFileAsked w = w.files ≡ []
+
+-- the source wasn't read
+abbrev pub NothingRead : World → Type 0
+NothingRead w = w.reads ≡ []
+
+-- nothing was written
+abbrev pub NothingWritten : World → Type 0
+NothingWritten w = (w.writes ≡ []) × (w.after ≡ w.written)
+
+-- the words are a command
+abbrev pub IsCommand : World → Type 0
+IsCommand w = (command : Command) × (command_of w.words ≡ Some command)
+
+-- so many of these pieces were written, each by one call, and then the write of the next one failed
+pub record WroteUpTo (pieces : List (List ℕ)) (writes : List Event) : Type 0 where
+  pub count : ℕ
+  pub piece : List ℕ
+  pub next : slice_get pieces count ≡ Some piece
+  pub each : writes ≡ map wrote (take count pieces) ++ write_failed piece ∷ []
+
+-- the exit of steps that all succeeded, or of the first that failed
+abbrev pub exit_of : Result ⊤ Exit → Exit
+exit_of (Ok done) = Done
+exit_of (Err exit) = exit
