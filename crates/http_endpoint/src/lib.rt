@@ -26,6 +26,3 @@ pub use checks::Checks;
 pub use lines::{link_end_line, listening_line};
 pub use link_end::{LinkCause, LinkEnd};
 pub use serve::serve_link;
-
-#[cfg(test)]
-mod tests;

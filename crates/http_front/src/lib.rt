@@ -21,6 +21,3 @@ pub use answer::{Allow, Body, HttpAnswer};
 pub use front::Front;
 pub use part::{Part, read_front};
 pub use print::{out_of_memory_answer, print_answer};
-
-#[cfg(test)]
-mod tests;

@@ -1,7 +1,9 @@
 ghost use Rattle.std.specs.Prelude.{⊤};
 
-use crate::{Buffers, Checks, LinkCause, LinkEnd, link_end_line, listening_line, serve_link};
 use arrayvec::ArrayVec;
+use http_endpoint::{
+    Buffers, Checks, LinkCause, LinkEnd, link_end_line, listening_line, serve_link,
+};
 use rate_io::{FixedClock, MemLink};
 use rate_types::{OwnLimit, Request, Seconds, Unit};
 use rls_core::{CheckFault, Code, Count, Reply, Status};

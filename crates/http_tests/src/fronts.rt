@@ -1,5 +1,5 @@
-use crate::{Front, HttpAnswer, Part, out_of_memory_answer, print_answer, read_front};
 use http::StatusCode;
+use http_front::{Front, HttpAnswer, Part, out_of_memory_answer, print_answer, read_front};
 use std::alloc::Global;
 use std::test::Fail;
 
