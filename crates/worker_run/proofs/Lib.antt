@@ -2,3 +2,4 @@ pub mod Journals
 pub mod Gathering
 pub mod Ordering
 pub mod Clauses
+pub mod Ledger

@@ -12,6 +12,7 @@
 //! The limits: 1 to 64 workers, 1,048,576 lines. The workers run one after the other; the contract doesn't say so.
 #![tactic(auto)]
 
+mod finishing;
 mod gate;
 mod lines;
 mod running;
@@ -19,6 +20,7 @@ mod running;
 mod tests;
 mod working;
 
+pub use finishing::{Finished, run_script};
 pub use gate::{Gate, Open};
 pub use running::run_lines;
 pub use working::{Shared, Worked, Worker, work};
