@@ -140,9 +140,9 @@ module _ (b : Bounds) (limiter : LimiterView) (start : ℕ) (lines : List Script
       let more = journal_charges w mid rs q h.2 in
       let known = journal_claims w mid rs q h.2 in
       let shown : charges_shown s.line mid.cells.moment r.outcome ≡ charges_by lines r =
-          ap (λ (m : ℕ). charges_shown s.line m r.outcome) (sym s.at) ∙ ap (λ (o : Option ScriptLine). found_charges o r) (sym s.there) in
+      ap (λ (m : ℕ). charges_shown s.line m r.outcome) (sym s.at) ∙ ap (λ (o : Option ScriptLine). found_charges o r) (sym s.there) in
       let first = subst (λ (cs : List (Charge CounterKey)). AreNamed q.claims.known (map charge_of one.added) cs) shown
-          (named_grows mid.claims.known q.claims.known known (map charge_of one.added) _ one.named) in
+      (named_grows mid.claims.known q.claims.known known (map charge_of one.added) _ one.named) in
       record {
         added = one.added ++ more.added;
         grew = more.grew ∙ ap (λ l. l ++ more.added) one.grew ∙ append_assoc p.cells.charges one.added more.added;
@@ -154,7 +154,7 @@ module _ (b : Bounds) (limiter : LimiterView) (start : ℕ) (lines : List Script
   all_named : (claims : List Claim) (before after : List PassView) (journals : List (List Record)) → length after ≡ length before → length journals ≡ length before
       → AllByRecursion (λ (p : PassView). p.cells.charges ≡ []) before → AllByRecursion (λ (q : PassView). IsPrefix q.claims.known claims) after
       → ((i : ℕ) (p : PassView) (rs : List Record) (q : PassView) → get_elem? before i ≡ some p → get_elem? journals i ≡ some rs → get_elem? after i ≡ some q
-          → (w : ℕ) × Journal b limiter start w lines p rs q)
+      → (w : ℕ) × Journal b limiter start w lines p rs q)
       → AreNamed claims (cells.ledger_of (cells_of after)) (charges_all lines journals)
   all_named claims [] [] [] a j none known each = tt
   all_named claims [] (q ∷ qs) js a j none known each = absurd (omega arith)
@@ -166,7 +166,7 @@ module _ (b : Bounds) (limiter : LimiterView) (start : ℕ) (lines : List Script
       let g = journal_charges w.0 p rs q w.1 in
       let all : q.cells.charges ≡ g.added = g.grew ∙ ap (λ l. l ++ g.added) none.0 in
       let mine = subst (λ (l : List cell_charge.Charge). AreNamed claims (map charge_of l) (charges_in lines rs)) (sym all)
-          (named_grows q.claims.known claims known.0 (map charge_of g.added) _ g.named) in
+      (named_grows q.claims.known claims known.0 (map charge_of g.added) _ g.named) in
       let others = all_named claims ps qs js (omega arith) (omega arith) none.1 known.1 (λ i p' rs' q' x y z. each (suc i) p' rs' q' x y z) in
       named_append claims (map charge_of q.cells.charges) _ (cells.ledger_of (cells_of qs)) _ mine others
 
