@@ -32,20 +32,20 @@ use Rattle.worker_run.specs.LineSteps.{LineStep, IsRecordStep}
 use Rattle.worker_run.specs.Journal.{Journal}
 use Rattle.worker_run.specs.Work.{HaveRun}
 
-prefix_self : {A : Type 0} (xs : List A) → IsPrefix xs xs
+pub prefix_self : {A : Type 0} (xs : List A) → IsPrefix xs xs
 prefix_self [] = ([], refl)
 prefix_self (x ∷ xs) = (let r = prefix_self xs in r.0, ap (λ ys. x ∷ ys) (prefix_self xs).1)
 
-prefix_same : {A : Type 0} (xs ys : List A) → ys ≡ xs → IsPrefix xs ys
+pub prefix_same : {A : Type 0} (xs ys : List A) → ys ≡ xs → IsPrefix xs ys
 prefix_same xs ys e = subst (λ (l : List _). IsPrefix xs l) (sym e) (prefix_self xs)
 
-prefix_on : {A : Type 0} (xs ys zs : List A) → IsPrefix xs ys → IsPrefix ys zs → IsPrefix xs zs
+pub prefix_on : {A : Type 0} (xs ys zs : List A) → IsPrefix xs ys → IsPrefix ys zs → IsPrefix xs zs
 prefix_on xs ys zs p q = (p.0 ++ q.0, sym (append_assoc xs p.0 q.0) ∙ ap (λ l. l ++ q.0) p.1 ∙ q.1)
 
 prefix_added : {A : Type 0} (xs ys zs ws : List A) → IsPrefix xs ys → ws ≡ ys ++ zs → IsPrefix xs ws
 prefix_added xs ys zs ws p e = (p.0 ++ zs, sym (append_assoc xs p.0 zs) ∙ ap (λ l. l ++ zs) p.1 ∙ sym e)
 
-claimed_grows : (q : CounterKey) (n : ℕ) (xs ys : List Claim) → IsPrefix xs ys → claimed_as q n xs ≤ claimed_as q n ys
+pub claimed_grows : (q : CounterKey) (n : ℕ) (xs ys : List Claim) → IsPrefix xs ys → claimed_as q n xs ≤ claimed_as q n ys
 claimed_grows q n xs ys p =
     let a = total_append (λ (x : Claim). one_if (same_counter x.key q && (x.claim == n))) xs p.0 in
     let e = ap (claimed_as q n) p.1 in
@@ -69,23 +69,23 @@ named_append c (u ∷ us) [] us' vs' a b = absurd a
 named_append c (u ∷ us) (v ∷ vs) us' vs' a b = (a.0, named_append c us vs us' vs' a.1 b)
 
 -- the charges that a record shows, of the line with its number
-abbrev found_charges : Option ScriptLine → Record → List (Charge CounterKey)
+abbrev pub found_charges : Option ScriptLine → Record → List (Charge CounterKey)
 found_charges None r = []
 found_charges (Some l) r = charges_shown l r.moment r.outcome
 
-abbrev charges_by : List ScriptLine → Record → List (Charge CounterKey)
+abbrev pub charges_by : List ScriptLine → Record → List (Charge CounterKey)
 charges_by lines r = found_charges (slice_get lines (r.line - 1)) r
 
-abbrev charges_in : List ScriptLine → List Record → List (Charge CounterKey)
+abbrev pub charges_in : List ScriptLine → List Record → List (Charge CounterKey)
 charges_in lines [] = []
 charges_in lines (r ∷ rs) = charges_by lines r ++ charges_in lines rs
 
-abbrev charges_all : List ScriptLine → List (List Record) → List (Charge CounterKey)
+abbrev pub charges_all : List ScriptLine → List (List Record) → List (Charge CounterKey)
 charges_all lines [] = []
 charges_all lines (js ∷ jss) = charges_in lines js ++ charges_all lines jss
 
 -- the pass has charged these, and no others
-record Grows (claims : List Claim) (p q : PassView) (charges : List (Charge CounterKey)) : Type 0 where
+pub record Grows (claims : List Claim) (p q : PassView) (charges : List (Charge CounterKey)) : Type 0 where
   pub added : List cell_charge.Charge
   pub grew : q.cells.charges ≡ p.cells.charges ++ added
   pub named : AreNamed claims (map charge_of added) charges
@@ -97,7 +97,7 @@ append_nil (x ∷ xs) = ap (λ (l : List _). x ∷ l) (append_nil xs)
 none_charged : (claims : List Claim) (p q : PassView) → q.cells.charges ≡ p.cells.charges → Grows claims p q []
 none_charged claims p q e = record { added = []; grew = e ∙ append_nil p.cells.charges; named = tt }
 
-step_claims : (b : Bounds) (limiter : LimiterView) (start : ℕ) (l : ScriptLine) (o : Outcome) (p q : PassView) → LineStep b limiter start l p o q → IsPrefix p.claims.known q.claims.known
+pub step_claims : (b : Bounds) (limiter : LimiterView) (start : ℕ) (l : ScriptLine) (o : Outcome) (p q : PassView) → LineStep b limiter start l p o q → IsPrefix p.claims.known q.claims.known
 step_claims b limiter start (check request) (outcome.Checked answer) p q s = let c = s.1.claims in prefix_added p.claims.known c.found c.added q.claims.known c.knew c.known
 step_claims b limiter start (check request) (outcome.Full live held wanted) p q s = s.0.claims
 step_claims b limiter start (check request) (outcome.Spent claims wanted) p q s = s.0.claims
@@ -107,7 +107,7 @@ step_claims b limiter start (tick now) (outcome.Ticked shown) p q s = prefix_sam
 step_claims b limiter start (bad refused) (outcome.Bad shown) p q s = prefix_same _ _ (ap (λ (x : PassView). x.claims.known) s.1)
 step_claims b limiter start l o p q s = absurd s
 
-step_charges : (b : Bounds) (limiter : LimiterView) (start : ℕ) (l : ScriptLine) (o : Outcome) (p q : PassView) → LineStep b limiter start l p o q
+pub step_charges : (b : Bounds) (limiter : LimiterView) (start : ℕ) (l : ScriptLine) (o : Outcome) (p q : PassView) → LineStep b limiter start l p o q
     → Grows q.claims.known p q (charges_shown l q.cells.moment o)
 step_charges b limiter start (check request) (outcome.Checked answer) p q s =
     let c = s.1.charged in
@@ -151,7 +151,7 @@ module _ (b : Bounds) (limiter : LimiterView) (start : ℕ) (lines : List Script
       }
 
   -- the charges of all passes, one pass after the other
-  all_named : (claims : List Claim) (before after : List PassView) (journals : List (List Record)) → length after ≡ length before → length journals ≡ length before
+  pub all_named : (claims : List Claim) (before after : List PassView) (journals : List (List Record)) → length after ≡ length before → length journals ≡ length before
       → AllByRecursion (λ (p : PassView). p.cells.charges ≡ []) before → AllByRecursion (λ (q : PassView). IsPrefix q.claims.known claims) after
       → ((i : ℕ) (p : PassView) (rs : List Record) (q : PassView) → get_elem? before i ≡ some p → get_elem? journals i ≡ some rs → get_elem? after i ≡ some q
       → (w : ℕ) × Journal b limiter start w lines p rs q)
@@ -190,12 +190,12 @@ total_over f lines (rs ∷ js) =
 
 module _ (all : List ScriptLine) where
   -- lines from a place on, and their records
-  record IsFrom (n : ℕ) (ls : List ScriptLine) (rs : List Record) : Type 0 where
+  pub record IsFrom (n : ℕ) (ls : List ScriptLine) (rs : List Record) : Type 0 where
     pub lines : (i : ℕ) (l : ScriptLine) → slice_get ls i ≡ Some l → slice_get all (n + i) ≡ Some l
     pub records : (i : ℕ) (r : Record) → get_elem? rs i ≡ some r → r.line ≡ n + i + 1
     pub as_many : length rs ≡ length ls
 
-  from_next : (n : ℕ) (l : ScriptLine) (ls : List ScriptLine) (r : Record) (rs : List Record) → IsFrom n (l ∷ ls) (r ∷ rs) → IsFrom (suc n) ls rs
+  pub from_next : (n : ℕ) (l : ScriptLine) (ls : List ScriptLine) (r : Record) (rs : List Record) → IsFrom n (l ∷ ls) (r ∷ rs) → IsFrom (suc n) ls rs
   from_next n l ls r rs h = record {
     lines = λ i m e. let same : n + suc i ≡ suc n + i = omega arith in subst (λ (k : ℕ). slice_get all k ≡ Some m) same (h.lines (suc i) m e);
     records = λ i s e. let a = h.records (suc i) s e in omega arith;
@@ -261,7 +261,7 @@ weaker P Q f (x ∷ xs) h = (f x h.0, weaker P Q f xs h.1)
 
 module _ (b : Bounds) (limiter : LimiterView) (start : ℕ) (lines : List ScriptLine) (before after : List PassView) (records : List Record)
     (h : HaveRun b limiter start lines before after records) where
-  whole : IsFrom lines 0 lines records
+  pub whole : IsFrom lines 0 lines records
   whole = record {
     lines = λ i l e. subst (λ (k : ℕ). slice_get lines k ≡ Some l) (zero_plus i) e;
     records = λ i r e. let n = h.merges.numbered i r e in omega arith;
@@ -275,7 +275,7 @@ module _ (b : Bounds) (limiter : LimiterView) (start : ℕ) (lines : List Script
   same_total f =
       ledger_total lines f 0 lines records whole ∙ h.merges.sums (λ (r : Record). total f (charges_by lines r)) ∙ sym (total_over f lines h.journals)
 
-  same_sum : (f : Charge CounterKey → ℕ) → sum_by f (ledger_of lines records) ≡ sum_by f (charges_all lines h.journals)
+  pub same_sum : (f : Charge CounterKey → ℕ) → sum_by f (ledger_of lines records) ≡ sum_by f (charges_all lines h.journals)
   same_sum f = sum_total f (ledger_of lines records) ∙ same_total f ∙ sym (sum_total f (charges_all lines h.journals))
 
   moved : (P : Charge CounterKey → Type 0) → AllByRecursion P (charges_all lines h.journals) → AllByRecursion P (ledger_of lines records)

@@ -3,3 +3,4 @@ pub mod Gathering
 pub mod Ordering
 pub mod Clauses
 pub mod Ledger
+pub mod Sights

@@ -1,7 +1,7 @@
 // A script run to its end, and its limiter closed.
 ghost use Rattle.std.specs.Prelude.{◌≡◌, ◌≤◌, [], All, IfOk, length, map, vec_len};
 ghost use Rattle.rate_types.specs.declared.limits.TheConstants.{MOST_LINES, MOST_WORKERS};
-ghost use Rattle.script_run.specs.Charges.{ChargesFormLedger};
+ghost use Rattle.script_run.specs.Charges.{ChargesFormLedger, SightsLawful};
 ghost use Rattle.script_run.specs.Views.{line_view};
 ghost use Rattle.worker_run.specs.Clauses.{AreInOrder};
 
@@ -41,6 +41,7 @@ pub fn run_script<N: CellNaming, G: Gate<N>, R: Wait>(
     requires lines { length lines.now ≤ MOST_LINES }
     ensures records { IfOk result (λ f. AreInOrder (vec_len passes) start (map line_view lines.now) f.records) }
     ensures charges_form_ledger { IfOk result (λ f. ChargesFormLedger (map line_view lines.now) f.records) }
+    ensures sights_lawful { IfOk result (λ f. SightsLawful (map line_view lines.now) f.records) }
 {
     let (records, passes) = run_lines(rt, alloc, &limiter, passes, lines, start, gate)?;
     let closed = limiter.close(alloc, passes)?;
