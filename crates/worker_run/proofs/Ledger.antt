@@ -42,7 +42,7 @@ prefix_same xs ys e = subst (λ (l : List _). IsPrefix xs l) (sym e) (prefix_sel
 pub prefix_on : {A : Type 0} (xs ys zs : List A) → IsPrefix xs ys → IsPrefix ys zs → IsPrefix xs zs
 prefix_on xs ys zs p q = (p.0 ++ q.0, sym (append_assoc xs p.0 q.0) ∙ ap (λ l. l ++ q.0) p.1 ∙ q.1)
 
-prefix_added : {A : Type 0} (xs ys zs ws : List A) → IsPrefix xs ys → ws ≡ ys ++ zs → IsPrefix xs ws
+pub prefix_added : {A : Type 0} (xs ys zs ws : List A) → IsPrefix xs ys → ws ≡ ys ++ zs → IsPrefix xs ws
 prefix_added xs ys zs ws p e = (p.0 ++ zs, sym (append_assoc xs p.0 zs) ∙ ap (λ l. l ++ zs) p.1 ∙ sym e)
 
 pub claimed_grows : (q : CounterKey) (n : ℕ) (xs ys : List Claim) → IsPrefix xs ys → claimed_as q n xs ≤ claimed_as q n ys

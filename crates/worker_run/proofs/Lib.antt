@@ -4,3 +4,4 @@ pub mod Ordering
 pub mod Clauses
 pub mod Ledger
 pub mod Sights
+pub mod Replying

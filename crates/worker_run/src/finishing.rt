@@ -3,15 +3,18 @@ ghost use Rattle.std.specs.Prelude.{◌≡◌, ◌≤◌, [], All, IfOk, length,
 ghost use Rattle.rate_types.specs.declared.limits.TheConstants.{MOST_LINES, MOST_WORKERS};
 ghost use Rattle.script_run.specs.Charges.{ChargesFormLedger, SightsLawful};
 ghost use Rattle.script_run.specs.Views.{line_view};
-ghost use Rattle.worker_run.specs.Clauses.{AreInOrder};
+ghost use Rattle.script_run.specs.Replies.{RepliesByRule};
+ghost use Rattle.worker_run.specs.Clauses.{AreInOrder, config_at};
 
 use crate::gate::Gate;
 use crate::running::run_lines;
+use config_versions::VersionLog;
 use counter_cells::CellNaming;
 use rate_limiter::{Limiter, Pass};
 use rate_types::{OutOfMemory, Seconds};
 use reply_text::Records;
 use rls_core::Totals;
+use rule_lookup::Index;
 use script_run::Line;
 use std::alloc::Global;
 use std::sync::Wait;
@@ -21,6 +24,8 @@ use std::sync::Wait;
 pub struct Finished {
     pub records: Records,
     pub totals: Totals,
+    /// All versions, for contracts alone.
+    pub versions: VersionLog<Index>,
 }
 
 /// Runs the lines of a script on all passes of a limiter, which have charged nothing yet, and closes the limiter.
@@ -41,6 +46,8 @@ pub fn run_script<N: CellNaming, G: Gate<N>, R: Wait>(
     requires lines { length lines.now ≤ MOST_LINES }
     ensures records { IfOk result (λ f. AreInOrder (vec_len passes) start (map line_view lines.now) f.records) }
     ensures charges_form_ledger { IfOk result (λ f. ChargesFormLedger (map line_view lines.now) f.records) }
+    ensures replies_by_rule { IfOk result
+        (λ f. RepliesByRule (config_at f.versions) limiter.global_shadow (map line_view lines.now) f.records) }
     ensures sights_lawful { IfOk result (λ f. SightsLawful (map line_view lines.now) f.records) }
 {
     let (records, passes) = run_lines(rt, alloc, &limiter, passes, lines, start, gate)?;
@@ -48,5 +55,6 @@ pub fn run_script<N: CellNaming, G: Gate<N>, R: Wait>(
     Ok(Finished {
         records,
         totals: closed.totals,
+        versions: closed.versions,
     })
 }
