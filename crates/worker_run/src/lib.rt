@@ -7,11 +7,13 @@
 //!
 //! The promise of a worker (`specs/Journal.antt`): the records of its journal are, in order, the steps of its pass at the lines
 //! that it drew. None of it speaks of other workers. The promise of a run (`specs/Work.antt`, `specs/Clauses.antt`): each line has
-//! one record, by one of the workers, and along a worker's records versions and moments never fall.
+//! one record, by one of the workers, and along a worker's records versions and moments never fall. [`run_script`] closes the limiter:
+//! then the charges of all answered checks form one lawful ledger, and each reply is that of the version that its record shows.
 //!
 //! The limits: 1 to 64 workers, 1,048,576 lines. The workers run one after the other; the contract doesn't say so.
 #![tactic(auto)]
 
+mod finishing;
 mod gate;
 mod lines;
 mod running;
@@ -19,6 +21,7 @@ mod running;
 mod tests;
 mod working;
 
+pub use finishing::{Finished, run_script};
 pub use gate::{Gate, Open};
 pub use running::run_lines;
 pub use working::{Shared, Worked, Worker, work};

@@ -4,7 +4,7 @@ ghost use Rattle.descriptor_tree.specs.Trees.{node_view};
 ghost use Rattle.descriptor_tree.specs.Config.{IsWellFormedBranch};
 ghost use Rattle.counter_cells.specs.Opened.{table_of, setup_of};
 
-use crate::{Open, run_lines};
+use crate::{Open, run_script};
 use counter_cells::{CellNaming, OpenedCells};
 use descriptor_tree::{Config, Forest, Node, Policy, Texts, Tree};
 use rate_limiter::{Limiter, Limits};
@@ -121,16 +121,20 @@ fn run<N: CellNaming, R: Abort + RandomSource + Wait>(
     if lines.len() > 100 {
         return Err(Fail::new("a short script"));
     }
-    let (records, _) = run_lines(
+    let finished = run_script(
         rt,
         alloc,
-        &limiter,
+        limiter,
         passes,
         lines.as_slice(),
         Seconds::capped(0),
         &Open,
     )?;
-    Ok(records)
+    let [total] = finished.totals.items() else {
+        return Err(Fail::new("one total"));
+    };
+    assert_eq!(rt; total.charged, 3);
+    Ok(finished.records)
 }
 
 #[test]
