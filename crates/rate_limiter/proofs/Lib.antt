@@ -14,3 +14,4 @@ pub mod Sighting
 pub mod Parting
 pub mod Summing
 pub mod Totalling
+pub mod Knowing

@@ -25,10 +25,11 @@ all_tail P x xs h = (h 0 x (omega arith), λ k d l. h (suc k) d (omega arith))
 -- a pass of three new parts
 pub new_pass_of : (config : List DomainTree) (start : ℕ) (id : LimiterId) (s : PassState (List DomainTree)) (t : TokenView Claim) (v : CellView)
     → IsFirst config s → IsFresh [] t → IsNewCellPass start v
-    → IsNewPass config start (record { limiter = id; version = s; claims = t; cells = v; refused = 0 })
+    → IsNewPass config start (record { limiter = id; version = s; claims = t; cells = v; known = []; refused = 0 })
 new_pass_of config start id s t v first fresh new = record {
   version = first;
   claims = fresh;
   cells = new;
+  known = refl;
   refused = refl;
 }

@@ -237,7 +237,7 @@ module _ (limiter : LimiterView) (request : RequestParts) (now : ℕ) (p p1 p2 q
 
     -- the pass at the end of a refused check
     abbrev ended : ℕ → PassView
-    ended refused = record { limiter = p2.limiter; version = p2.version; claims = u; cells = w; refused = refused }
+    ended refused = record { limiter = p2.limiter; version = p2.version; claims = u; cells = w; known = q.known; refused = refused }
 
     cause_of : (fault : AcquireFault) → HasPinCause b names p2.cells fault w u → HasCause b request p (fault_of fault) (ended (refused_after fault p2.refused))
     cause_of OutOfMemory c = start_refused

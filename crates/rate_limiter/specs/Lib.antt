@@ -1,4 +1,5 @@
 pub mod Passes
+pub mod Known
 pub mod Named
 pub mod Values
 pub mod Counts

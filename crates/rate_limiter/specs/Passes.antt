@@ -10,6 +10,7 @@ use Rattle.counter_cells.specs.Steps.{number_of, fresh_pass}
 use Rattle.counter_cells.specs.declared.view.CellView.{CellView}
 use Rattle.counter_directory.specs.declared.claim.Claim.{Claim}
 use Rattle.counter_directory.specs.Acquired.{Bounds}
+use Rattle.over_cache.specs.Entries.{Entries}
 
 -- which objects belong together: the list of claims and the list of versions
 pub record LimiterId : Type 0 where
@@ -24,12 +25,13 @@ pub record LimiterView : Type 0 where
   pub global_shadow : Bool
 
 -- A pass: the limiter that it was made with; the version at which it is, and what it knows of the versions; what it knows of the claims;
--- what it did on the cells; and how many of its checks were refused for want of cells or of claims
+-- what it did on the cells; what it knows of its counters; and how many of its checks were refused for want of cells or of claims
 pub record PassView : Type 0 where
   pub limiter : LimiterId
   pub version : PassState (List DomainTree)
   pub claims : TokenView Claim
   pub cells : CellView
+  pub known : Entries
   pub refused : ℕ
 
 -- how many cells, claims and held cells there are at most
@@ -41,6 +43,7 @@ pub record IsNewPass (config : List DomainTree) (start : ℕ) (p : PassView) : T
   pub version : IsFirst config p.version
   pub claims : IsFresh [] p.claims
   pub cells : p.cells ≡ fresh_pass (number_of p.cells) start
+  pub known : p.known ≡ []
   pub refused : p.refused ≡ 0
 
 -- nothing of the pass changed but its version and what it knows of the versions

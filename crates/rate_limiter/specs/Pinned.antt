@@ -1,11 +1,12 @@
 -- Inside: what a check has after the counters of its request are pinned, or aren't.
-use Rattle.std.specs.Prelude.{◌≡◌, ℕ, List, [], length}
+use Rattle.std.specs.Prelude.{◌≡◌, ℕ, ◌<◌, List, [], length, All}
 use mathlib.Core.List.{IsPrefix}
 use mathlib.Core.Option.{some}
 use lib.ListN.{get_elem?}
 use Rattle.rate_types.specs.declared.counter_name.CounterName.{CounterName}
 use Rattle.told_list.specs.declared.rule.TokenView.{TokenView}
-use Rattle.counter_cells.specs.Views.{claim_on}
+use Rattle.counter_cells.specs.Views.{claim_on, good_on}
+use Rattle.counter_cells.specs.Steps.{number_of}
 use Rattle.counter_cells.specs.declared.view.CellView.{CellView}
 use Rattle.counter_cells.specs.declared.answers.Spot.{Spot}
 use Rattle.counter_directory.specs.declared.claim.Claim.{Claim}
@@ -13,7 +14,7 @@ use Rattle.counter_directory.specs.declared.acquired.AcquireFault.{AcquireFault}
 use Rattle.counter_directory.specs.declared.acquired.AcquireFault.TheVariants.{OutOfMemory, ClaimsSpent, CountersFull}
 use Rattle.counter_directory.specs.Acquired.{Bounds}
 use Rattle.counter_directory.specs.Keys.{keys_at}
-use Rattle.counter_directory.specs.Spots.{Bound}
+use Rattle.counter_directory.specs.Spots.{Bound, spots_on}
 use Rattle.rate_limiter.specs.Counts.{Keeps}
 use Rattle.rate_limiter.specs.Ticks.{HasTickedAlone}
 use Rattle.rate_limiter.specs.PassStep.{HasClaimed}
@@ -25,6 +26,25 @@ use Rattle.rate_limiter.specs.Refusals.{AreClaimsSpent, AreCountersFull, one_mor
 pub record HasWaited (v w : CellView) : Type 0 where
   pub ticked : HasTickedAlone v w
   pub keeps : Keeps v w
+
+-- nothing of the pass changed but its pins, and what they found
+pub record SameButPins (v w : CellView) : Type 0 where
+  pub number : number_of w ≡ number_of v
+  pub ticks : w.ticks ≡ v.ticks
+  pub moment : w.moment ≡ v.moment
+  pub looks : w.looks ≡ v.looks
+  pub charges : w.charges ≡ v.charges
+  pub held : w.held ≡ v.held
+
+-- the counters of the names, at the moment of the pass, are pinned on these spots, and nothing else was done
+pub record ArePinned (cells : ℕ) (claims : List Claim) (names : List CounterName) (spots : List Spot) (v w : CellView) : Type 0 where
+  pub same : SameButPins v w
+  pub within : All (λ (s : Spot). s.cell < cells) spots
+  pub pins : (cell : ℕ) → good_on cell w ≡ spots_on cell spots
+  pub held : length w.good ≡ length spots
+  pub count : length spots ≡ length names
+  pub bound : Bound claims (keys_at v.moment names) spots
+  pub under : (i : ℕ) (s : Spot) → get_elem? spots i ≡ some s → claim_on s.cell w.good ≡ s.claim
 
 -- the counters of the names are pinned on these spots, each under a claim that binds it
 pub record HasPins (names : List CounterName) (spots : List Spot) (v w : CellView) (t u : TokenView Claim) : Type 0 where

@@ -1,6 +1,5 @@
 ghost use Rattle.std.specs.Prelude.{◌≡◌};
 
-use crate::names::names_of;
 use crate::over::is_over;
 use crate::pinned::{count_pinned, refuse};
 use crate::plan::plan;
@@ -35,8 +34,17 @@ impl<N: CellNaming> Limiter<N> {
         self.renew(rt, pass)?;
         let descriptors = request.descriptors();
         let rules = find_rules(pass.version.index(), request.domain(), descriptors);
-        let names = names_of(alloc, request, descriptors, rules.as_slice())?;
-        match self.pin_names(rt, &mut pass.claims, &mut pass.cells, names.as_slice()) {
+        match self.pin_counters(
+            rt,
+            alloc,
+            &mut pass.claims,
+            &mut pass.cells,
+            &mut pass.known,
+            &mut pass.key,
+            request,
+            descriptors,
+            rules.as_slice(),
+        ) {
             Err(fault) => Err(refuse(&mut pass.refused, fault)),
             Ok(spots) => {
                 let moment = pass.cells.moment();

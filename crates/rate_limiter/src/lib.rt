@@ -7,12 +7,18 @@
 //! and of the counts that it found (`specs/Counts.antt`), and the pass charged exactly what the reply shows, each charge under
 //! a claim that binds its counter. A refused check charges nothing, leaves no pin, and has its cause (`specs/Refusals.antt`).
 //!
-//! The limits: `check` and `reload` may wait for other calls on the limiter.
+//! At the end [`Limiter::close`] puts the passes together: the charges of all are one lawful ledger (`specs/Closing.antt`).
+//!
+//! A pass keeps what it knows of its counters. A check whose counters it knows, and whose cells are theirs still, asks the directory
+//! for nothing.
+//!
+//! The limits: `check`, `reload` and `meet` may wait for other calls on the limiter.
 #![tactic(auto)]
 
 mod check;
 mod close;
 mod count_each;
+mod known;
 mod limiter;
 mod make;
 mod meet;

@@ -11,11 +11,14 @@ use config_versions::{VersionPass, Versions};
 use counter_cells::{CellNaming, CellPass, OpenedCells};
 use counter_directory::{Directory, DirectoryPass};
 use descriptor_tree::Config;
+use over_cache::OverCache;
 use rate_types::OutOfMemory;
 use rule_lookup::Index;
 use std::alloc::Global;
+use std::boxed::Box;
 use std::hash::RandomState;
 use std::sync::Arc;
+use window_keys::KeyBuffer;
 
 // The passes, each of one of each kind.
 fn passes_of<N: CellNaming>(
@@ -26,6 +29,7 @@ fn passes_of<N: CellNaming>(
     cell_passes: Vec<CellPass<N>>,
     mut claim_passes: Vec<DirectoryPass<N>>,
     mut version_passes: Vec<VersionPass<Index>>,
+    seed: RandomState,
 ) -> Result<Vec<Pass<N>>, OutOfMemory>
     requires cells { All (λ v. IsNewCellPass N.setup.start v) cell_passes.items }
     requires claims { All (λ s. (list_of s ≡ directory.now.list_id) × IsFresh [] (knows s)) claim_passes.items }
@@ -48,7 +52,9 @@ fn passes_of<N: CellNaming>(
         let Some(version) = version_passes.pop() else {
             unreachable!()
         };
-        let pass = Pass::new(version, claims, cells);
+        let known = OverCache::make(alloc, seed)?;
+        let key = Box::new(alloc, KeyBuffer::new())?;
+        let pass = Pass::new(version, claims, cells, known, key);
         passes.push_reserved(pass);
     }
     Ok(passes)
@@ -64,7 +70,7 @@ impl<N: CellNaming> Limiter<N> {
     ghost use Rattle.rate_limiter.specs.Passes.{IsNewPass};
 
     /// A limiter on these cells, whose version 0 is the configuration, with a pass for each that the cells were made for. The
-    /// hashes of the directory go by `seed`, so that nobody can choose names that collide.
+    /// hashes of the directory and of what passes know go by `seed`, so that nobody can choose names that collide.
     pub fn make(
         alloc: Global,
         config: Arc<Config>,
@@ -103,6 +109,7 @@ impl<N: CellNaming> Limiter<N> {
             cell_passes,
             claim_passes,
             version_passes,
+            seed,
         )?;
         let limiter = Limiter {
             cells,

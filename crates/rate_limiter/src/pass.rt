@@ -3,9 +3,12 @@ ghost use Rattle.std.specs.Prelude.{◌≡◌};
 use config_versions::VersionPass;
 use counter_cells::{CellNaming, CellPass};
 use counter_directory::DirectoryPass;
+use over_cache::OverCache;
 use rate_types::Seconds;
 use rule_lookup::Index;
+use std::boxed::Box;
 use std::marker::Model;
+use window_keys::KeyBuffer;
 
 /// What one worker has of a limiter. It goes with the [`Limiter`](crate::Limiter) that it was made with. Between two calls it
 /// holds no pin. Contracts see it as a `PassView`.
@@ -14,6 +17,8 @@ pub struct Pass<N: CellNaming> {
     pub(crate) version: VersionPass<Index>,
     pub(crate) claims: DirectoryPass<N>,
     pub(crate) cells: CellPass<N>,
+    pub(crate) known: OverCache,
+    pub(crate) key: Box<KeyBuffer>,
     pub(crate) refused: u64,
 }
 
@@ -22,6 +27,7 @@ impl<N: CellNaming> Model for Pass<N> {
     ghost use Rattle.told_list.specs.Tokens.{list_of, view as knows};
     ghost use Rattle.config_versions.specs.Passes.{pass_state, versions_of};
     ghost use Rattle.rate_limiter.specs.Passes.{PassView};
+    ghost use Rattle.rate_limiter.specs.Known.{AreBoundEntries};
     ghost use Rattle.std.specs.Coded.{codes};
     ghost use Rattle.rule_lookup.specs.Stored.{trees_code};
 
@@ -34,10 +40,11 @@ impl<N: CellNaming> Model for Pass<N> {
       version = pass_state p.version;
       claims = knows p.claims;
       cells = p.cells;
+      known = p.known;
       refused = p.refused;
     } };
 
-    ghost invariant = { λ p. p.cells.good ≡ [] };
+    ghost invariant = { λ p. (p.cells.good ≡ []) × AreBoundEntries N.setup.cells (knows p.claims).known p.known };
 }
 
 impl<N: CellNaming> Pass<N> {
@@ -49,13 +56,17 @@ impl<N: CellNaming> Pass<N> {
         version: VersionPass<Index>,
         claims: DirectoryPass<N>,
         cells: CellPass<N>,
+        known: OverCache,
+        key: Box<KeyBuffer>,
     ) -> Pass<N>
-        requires { cells.good ≡ [] }
+        requires bare { cells.good ≡ [] }
+        requires known { known ≡ [] }
         ensures { result ≡ record {
           limiter = record { claims = list_of claims; versions = versions_of version };
           version = pass_state version;
           claims = knows claims;
           cells = cells;
+          known = [];
           refused = 0;
         } }
     {
@@ -63,6 +74,8 @@ impl<N: CellNaming> Pass<N> {
             version,
             claims,
             cells,
+            known,
+            key,
             refused: 0,
         }
     }

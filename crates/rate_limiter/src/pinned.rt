@@ -9,22 +9,30 @@ ghost use Rattle.rate_limiter.specs.Pinned.{fault_of, refused_after};
 
 use crate::Limiter;
 use crate::count_each::count_each;
+use crate::known::{note_names, pin_known};
+use crate::names::names_of;
 use crate::planned::Planned;
 use arrayvec::ArrayVec;
 use counter_cells::{CellNaming, CellPass, Cells, Spot};
 use counter_directory::{AcquireFault, Acquired, DirectoryPass, give_back};
+use over_cache::OverCache;
 use rate_types::limits::MOST_DESCRIPTORS;
-use rate_types::{CounterName, Seconds};
+use rate_types::{CounterName, Descriptor, Request, Seconds};
 use rls_core::{CheckFault, Status};
+use rule_lookup::Found;
+use std::alloc::Global;
 use std::sync::Wait;
+use window_keys::KeyBuffer;
 
 impl<N: CellNaming> Limiter<N> {
     ghost use Rattle.std.specs.Prelude.{◌≡◌, ◌≤◌, ◌<◌, ℕ, [], All, IfOk, IfErr, length};
-    ghost use Rattle.rate_types.specs.declared.limits.TheConstants.{MOST_PINS};
+    ghost use Rattle.rate_types.specs.declared.limits.TheConstants.{MOST_PINS, MOST_DESCRIPTORS};
     ghost use Rattle.told_list.specs.Tokens.{list_of, view as knows};
     ghost use Rattle.counter_cells.specs.Views.{good_on};
     ghost use Rattle.counter_directory.specs.Spots.{spots_on};
     ghost use Rattle.rate_limiter.specs.Passes.{bounds_of};
+    ghost use Rattle.rate_limiter.specs.Known.{AreBoundEntries};
+    ghost use Rattle.rate_limiter.specs.Planned.{names_under};
     ghost use Rattle.rate_limiter.specs.Pinned.{HasPins, HasNoPins};
 
     // Pins the counters of the names, where there are any.
@@ -55,6 +63,66 @@ impl<N: CellNaming> Limiter<N> {
         {
             Ok(Acquired { moment: _, spots }) => Ok(spots),
             Err(fault) => Err(fault),
+        }
+    }
+
+    // Pins the counters of the descriptors that have a limit: without a turn at the directory where the pass knows each and its
+    // cell is the counter's still.
+    pub(crate) fn pin_counters<R: Wait>(
+        &self,
+        rt: &R,
+        alloc: Global,
+        claims: &mut DirectoryPass<N>,
+        cell_pass: &mut CellPass<N>,
+        known: &mut OverCache,
+        key: &mut KeyBuffer,
+        request: &Request,
+        descriptors: &[Descriptor],
+        rules: &[Found],
+    ) -> Result<ArrayVec<Spot, 32>, AcquireFault>
+        requires pass { list_of claims.old ≡ self.now.id.claims }
+        requires bare { cell_pass.old.good ≡ [] }
+        requires few { length descriptors.now ≤ MOST_DESCRIPTORS }
+        requires rules { length rules.now ≡ length descriptors.now }
+        requires known { AreBoundEntries N.setup.cells (knows claims.old).known known.old }
+        ensures pass { list_of claims.new ≡ self.now.id.claims }
+        ensures known { AreBoundEntries N.setup.cells (knows claims.new).known known.new }
+        ensures within { IfOk result (λ ss. All (λ s. s.cell < N.setup.cells) ss.items) }
+        ensures pins { IfOk result (λ ss. (cell : ℕ) → good_on cell cell_pass.new ≡ spots_on cell ss.items) }
+        ensures pinned { IfOk result (λ ss. HasPins (names_under request.now descriptors.now rules.now) ss.items
+            cell_pass.old cell_pass.new (knows claims.old) (knows claims.new)) }
+        ensures refused { IfErr result (λ f. HasNoPins (bounds_of N.setup.cells self.now)
+            (names_under request.now descriptors.now rules.now) f cell_pass.old cell_pass.new (knows claims.old) (knows claims.new)) }
+    {
+        if let Some(spots) = pin_known(
+            &self.cells,
+            claims,
+            cell_pass,
+            known,
+            key,
+            request,
+            descriptors,
+            rules,
+        ) {
+            return Ok(spots);
+        }
+        let Ok(names) = names_of(alloc, request, descriptors, rules) else {
+            return Err(AcquireFault::OutOfMemory);
+        };
+        match self.pin_names(rt, claims, cell_pass, names.as_slice()) {
+            Err(fault) => Err(fault),
+            Ok(spots) => {
+                let moment = cell_pass.moment();
+                note_names(
+                    claims,
+                    known,
+                    key,
+                    names.as_slice(),
+                    spots.as_slice(),
+                    moment,
+                );
+                Ok(spots)
+            }
         }
     }
 }

@@ -40,6 +40,8 @@ pub(crate) fn parts_of<N: CellNaming>(
             version,
             claims: claim_pass,
             cells: cell_pass,
+            known: _,
+            key: _,
             refused: _,
         } = pass;
         versions.push_reserved(version);

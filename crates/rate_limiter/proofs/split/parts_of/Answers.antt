@@ -27,7 +27,7 @@ loop-pass-preserved g c =
           ∙ ap (λ (x : PassView). map (λ p. p.cells) y ++ x.cells ∷ []) is
           ∙ sym (map-append (λ p. p.cells) y (p ∷ []));
       bare = subst (All (λ v. v.good ≡ [])) (sym c.push_reserved-in-loop-pass-2.ensures.items)
-          (All-push (λ v. v.good ≡ []) c.loop-pass.cells.items cell before.bare c.pass.invariant);
+          (All-push (λ v. v.good ≡ []) c.loop-pass.cells.items cell before.bare c.pass.invariant.0);
       claims =
           ap (map view) c.push_reserved-in-loop-pass.ensures.items
           ∙ map-append view cs (claim ∷ [])

@@ -15,7 +15,7 @@ use Rattle.rate_limiter.specs.Passes.{LimiterId, LimiterView, PassView, bounds_o
 use Rattle.rate_limiter.specs.PassStep.{HasRenewed}
 use Rattle.rate_limiter.specs.Planned.{names_under, planned_each, DoneEach, IsReady}
 use Rattle.rate_limiter.specs.Refusals.{HasRefused, HasCause}
-use Rattle.rate_limiter.proofs.Readying.{names_few, ready_all}
+use Rattle.rate_limiter.proofs.Readying.{ready_all}
 use Rattle.rate_limiter.proofs.Stepping.{early, refused_early, refusal_of, step_of}
 use Rattle.rate_limiter.proofs.limiter.Limiter.check.Goals as goal
 
@@ -31,12 +31,6 @@ returns-in_err-renew-clause-step g c =
     (refused_early limiter request c.args.now p c.tick.new.pass q q c.tick.ensures.offered c.tick.ensures.rest c.renew.ensures.rest
     refl c.renew.ensures.bare (omega (arith, v)) s.knows s.own)
 
-pub pin_names-requires-clause-few : goal.pin_names-requires-clause-few
-pin_names-requires-clause-few g c =
-    let few = names_few c.args.request.now c.descriptors-descriptors.result.now c.as_slice.result.now in
-    let names = ap length (c.as_slice-2.ensures.value ∙ c.in_ok-names.ensures.names) in
-    omega (arith, few, names, c.descriptors-descriptors.ensures.bounds)
-
 pub returns-in-Err-clause-step : goal.returns-in-Err-clause-step
 returns-in-Err-clause-step g c =
     let limiter = c.args.self.now in
@@ -49,6 +43,7 @@ returns-in-Err-clause-step g c =
       version = pass_state inside.version;
       claims = view inside.claims;
       cells = inside.cells;
+      known = inside.known;
       refused = inside.refused;
     } in
     let rest : KeepsAllButVersion p1 p2 = subst (KeepsAllButVersion p1) (sym c.pass.view_is) c.renew.ensures.rest in
@@ -57,27 +52,29 @@ returns-in-Err-clause-step g c =
     let rules = c.as_slice.result.now in
     let rules_are : rules ≡ map (found_for p2.version.index request) request.descriptors
     = c.as_slice.ensures.value ∙ c.find_rules-rules.ensures ∙ (λ i. map (found_among (c.index.ensures.same i) (c.domain.ensures.same i) (all i)) (all i)) in
-    let names_are : c.as_slice-2.result.now ≡ names_under request request.descriptors rules
-    = c.as_slice-2.ensures.value ∙ c.in_ok-names.ensures.names ∙ ap (λ (ds : List Descriptor). names_under request ds rules) all in
+    let names = names_under request c.descriptors-descriptors.result.now rules in
+    let names_are : names ≡ names_under request request.descriptors rules = ap (λ (ds : List Descriptor). names_under request ds rules) all in
     let id : p2.limiter ≡ limiter.id
     = ap (λ (x : PassView). x.limiter) rest ∙ ap (λ (x : PassView). x.limiter) c.tick.ensures.rest ∙ c.requires.pass in
-    let list : list_of c.pin_names.new.claims ≡ list_of inside.claims = c.in-Err.ensures.pass ∙ sym (ap (λ (x : LimiterId). x.claims) id) in
+    let list : list_of c.pin_counters.new.claims ≡ list_of inside.claims = c.in-Err.ensures.pass ∙ sym (ap (λ (x : LimiterId). x.claims) id) in
     let b = bounds_of g.N.CellNaming.setup.cells limiter in
     let q : PassView = record {
-      limiter = record { claims = list_of c.pin_names.new.claims; versions = versions_of inside.version };
+      limiter = record { claims = list_of c.pin_counters.new.claims; versions = versions_of inside.version };
       version = p2.version;
-      claims = view c.pin_names.new.claims;
-      cells = c.pin_names.new.cell_pass;
+      claims = view c.pin_counters.new.claims;
+      cells = c.pin_counters.new.cell_pass;
+      known = c.pin_counters.new.known;
       refused = c.refuse.new.refused;
     } in
     subst (λ (f : CheckFault). HasRefused c.args.now p q × HasCause b request p f q) (sym c.refuse.ensures.fault)
     (refusal_of limiter request c.args.now p p1 p2 q c.tick.ensures.offered c.tick.ensures.rest rest b
-    c.as_slice-2.result.now rules c.pin_names.new.cell_pass (view c.pin_names.new.claims) renewed rules_are names_are c.in-Err.fault c.in-Err.ensures.refused
+    names rules c.pin_counters.new.cell_pass (view c.pin_counters.new.claims) renewed rules_are names_are c.in-Err.fault c.in-Err.ensures.refused
     (λ i. record {
       limiter = record { claims = list i; versions = versions_of inside.version };
       version = p2.version;
-      claims = view c.pin_names.new.claims;
-      cells = c.pin_names.new.cell_pass;
+      claims = view c.pin_counters.new.claims;
+      cells = c.pin_counters.new.cell_pass;
+      known = c.pin_counters.new.known;
       refused = c.refuse.ensures.refused i;
     }))
 
@@ -85,20 +82,19 @@ pub count_pinned-statuses-requires-clause-ready : goal.count_pinned-statuses-req
 count_pinned-statuses-requires-clause-ready g c =
     let request = c.args.request.now in
     let cells = g.N.CellNaming.setup.cells in
-    let w = c.pin_names.new.cell_pass in
+    let w = c.pin_counters.new.cell_pass in
     let ds = c.descriptors-descriptors.result.now in
     let rules = c.as_slice-in-Ok.result.now in
     let spots = c.as_slice-in-Ok-2.result.now in
-    let names : c.as_slice-2.result.now ≡ names_under request ds rules
-    = c.as_slice-2.ensures.value ∙ c.in_ok-names.ensures.names
-    ∙ ap (λ (fs : List Found). names_under request ds fs) (c.as_slice.ensures.value ∙ sym c.as_slice-in-Ok.ensures.value) in
-    let count : length spots ≡ length (names_under request ds rules) = ap length c.as_slice-in-Ok-2.ensures.value ∙ c.in-Ok.ensures.pinned.count ∙ ap length names in
+    let count : length spots ≡ length (names_under request ds rules)
+    = ap length c.as_slice-in-Ok-2.ensures.value ∙ c.in-Ok.ensures.pinned.count
+    ∙ ap (λ (fs : List Found). length (names_under request ds fs)) (c.as_slice.ensures.value ∙ sym c.as_slice-in-Ok.ensures.value) in
     let within = subst (All (λ s. s.cell < cells)) (sym c.as_slice-in-Ok-2.ensures.value) c.in-Ok.ensures.within in
     let pins = λ (k : ℕ). c.in-Ok.ensures.pins k ∙ ap (spots_on k) (sym c.as_slice-in-Ok-2.ensures.value) in
     subst (All (IsReady cells w)) (sym (c.as_slice-in-Ok-3.ensures.value ∙ c.plan-plan.ensures)) (ready_all cells w request ds rules spots count within pins)
 
-pub returns-clause-step : goal.returns-clause-step
-returns-clause-step g c =
+pub returns-in-Ok-clause-step : goal.returns-in-Ok-clause-step
+returns-in-Ok-clause-step g c =
     let limiter = c.args.self.now in
     let request = c.args.request.now in
     let p = c.args.pass.now in
@@ -109,6 +105,7 @@ returns-clause-step g c =
       version = pass_state inside.version;
       claims = view inside.claims;
       cells = inside.cells;
+      known = inside.known;
       refused = inside.refused;
     } in
     let rest : KeepsAllButVersion p1 p2 = subst (KeepsAllButVersion p1) (sym c.pass.view_is) c.renew.ensures.rest in
@@ -117,17 +114,18 @@ returns-clause-step g c =
     let rules = c.as_slice.result.now in
     let rules_are : rules ≡ map (found_for p2.version.index request) request.descriptors
     = c.as_slice.ensures.value ∙ c.find_rules-rules.ensures ∙ (λ i. map (found_among (c.index.ensures.same i) (c.domain.ensures.same i) (all i)) (all i)) in
-    let names_are : c.as_slice-2.result.now ≡ names_under request request.descriptors rules
-    = c.as_slice-2.ensures.value ∙ c.in_ok-names.ensures.names ∙ ap (λ (ds : List Descriptor). names_under request ds rules) all in
+    let names = names_under request c.descriptors-descriptors.result.now rules in
+    let names_are : names ≡ names_under request request.descriptors rules = ap (λ (ds : List Descriptor). names_under request ds rules) all in
     let id : p2.limiter ≡ limiter.id
     = ap (λ (x : PassView). x.limiter) rest ∙ ap (λ (x : PassView). x.limiter) c.tick.ensures.rest ∙ c.requires.pass in
-    let list : list_of c.pin_names.new.claims ≡ list_of inside.claims = c.in-Ok.ensures.pass ∙ sym (ap (λ (x : LimiterId). x.claims) id) in
-    let w = c.pin_names.new.cell_pass in
+    let list : list_of c.pin_counters.new.claims ≡ list_of inside.claims = c.in-Ok.ensures.pass ∙ sym (ap (λ (x : LimiterId). x.claims) id) in
+    let w = c.pin_counters.new.cell_pass in
     let q : PassView = record {
-      limiter = record { claims = list_of c.pin_names.new.claims; versions = versions_of inside.version };
+      limiter = record { claims = list_of c.pin_counters.new.claims; versions = versions_of inside.version };
       version = p2.version;
-      claims = view c.pin_names.new.claims;
+      claims = view c.pin_counters.new.claims;
       cells = c.count_pinned-statuses.new.pass;
+      known = c.pin_counters.new.known;
       refused = inside.refused;
     } in
     let r : Reply = record { version = c.version.result; moment = c.moment-moment.result; over = c.is_over-over.result; statuses = c.count_pinned-statuses.result } in
@@ -143,5 +141,5 @@ returns-clause-step g c =
     let over : r.over ≡ (list_any (λ (s : Status). is_over_limit s.code) r.statuses.items && not limiter.global_shadow)
     = c.is_over-over.ensures ∙ (λ i. list_any (λ (s : Status). is_over_limit s.code) (c.as_slice-in-Ok-5.ensures.value i) && not (shadow i)) in
     step_of limiter request c.args.now p p1 p2 q c.tick.ensures.offered c.tick.ensures.rest rest
-    c.as_slice-2.result.now rules spots w did.0 r renewed rules_are names_are c.in-Ok.ensures.pinned done did.2
+    names rules spots w did.0 r renewed rules_are names_are c.in-Ok.ensures.pinned done did.2
     c.count_pinned-statuses.ensures.bare refl (λ i. record { claims = list i; versions = versions_of inside.version }) refl c.version.ensures c.moment-moment.ensures over

@@ -1,0 +1,384 @@
+-- Counters that are known, and their pins.
+use Rattle.std.proofs.Common.{◌≡◌, ◌⊎◌, inl, inr, ℕ, zero, suc, ◌+◌, ◌-◌, ◌≤◌, ◌<◌, ◌==◌, ◌&&◌, List, [], ◌∷◌, ◌++◌, length, map, take, get_or, cond}
+use Rattle.std.proofs.Common.{Bool, true, false, Option, Some, None, IfSome, refl, sym, ap, ◌∙◌, subst, arith, eq-eqb, length-append}
+use Rattle.std.proofs.lemmas.List.{append-nil, map-append, length-map}
+use Rattle.std.proofs.lemmas.List.Elements.{All-push}
+use Rattle.std.proofs.lemmas.Bool.Decides.{nat_tests}
+use Rattle.std.specs.Prelude.{Result, Ok, Err, OnOk, OnErr}
+use Rattle.std.specs.List.{AllByRecursion}
+use Rattle.std.specs.Map.{lookup, lookup_entry, remove_entry}
+use Rattle.std.specs.Option.{option_map_or}
+use Rattle.std.specs.Cmp.Lexicographic.{bytes_decides}
+use mathlib.Core.List.{IsPrefix}
+use mathlib.Core.Option.{some, some-injective, some-ne-none}
+use lib.ListN.{get_elem?}
+use Rattle.rate_types.specs.Sums.{total, one_if}
+use Rattle.rate_types.specs.Counters.{same_counter}
+use Rattle.rate_types.specs.declared.counter_key.CounterKey.{CounterKey}
+use Rattle.rate_types.specs.declared.counter_name.CounterName.{CounterName}
+use Rattle.rate_types.specs.declared.entries.Entry.{Entry}
+use Rattle.rate_types.specs.declared.request.Descriptor.{Descriptor}
+use Rattle.rate_types.specs.declared.unit.Unit.{Unit}
+use Rattle.window_keys.specs.Counter.{counter_of}
+use Rattle.window_keys.specs.Key.{key_bytes}
+use Rattle.window_keys.specs.Window.{window_start}
+use Rattle.window_keys.proofs.Counters.{same_is, is_same}
+use Rattle.told_list.specs.declared.rule.TokenView.{TokenView}
+use Rattle.counter_cells.specs.Views.{good_on, good_under, claim_on, held_on}
+use Rattle.counter_cells.specs.Steps.{number_of, last_moment, good_pin}
+use Rattle.counter_cells.specs.declared.view.CellView.{CellView}
+use Rattle.counter_cells.specs.declared.view.Tick.{Tick}
+use Rattle.counter_cells.specs.declared.answers.Spot.{Spot}
+use Rattle.counter_directory.specs.declared.claim.Claim.{Claim}
+use Rattle.counter_directory.specs.declared.acquired.AcquireFault.{AcquireFault}
+use Rattle.counter_directory.specs.declared.acquired.AcquireFault.TheVariants.{OutOfMemory, ClaimsSpent, CountersFull}
+use Rattle.counter_directory.specs.Acquired.{Bounds, OffersNothing}
+use Rattle.counter_directory.specs.Claims.{bindings_of}
+use Rattle.counter_directory.specs.Gates.{HeldSince}
+use Rattle.counter_directory.specs.Keys.{key_at, keys_at}
+use Rattle.counter_directory.specs.Spots.{Bound}
+use Rattle.over_cache.specs.Entries.{Entries, is_key, known_of, known_then, asked, noted, without}
+use Rattle.over_cache.specs.declared.known.Known.{Known}
+use Rattle.over_cache.specs.declared.over_cache.TheConstants.{MOST_KNOWN}
+use Rattle.rate_limiter.specs.Known.{key_of, key_bindings, IsBoundEntry, AreBoundEntries}
+use Rattle.rate_limiter.specs.PassStep.{HasClaimed}
+use Rattle.rate_limiter.specs.Pinned.{HasWaited, SameButPins, ArePinned, HasPins, HasPinCause, HasNoPins}
+use Rattle.rate_limiter.proofs.Lists.{total_more, total_at, each_more, prefix_self, prefix_then}
+
+-- ---- keys and counters
+
+same_bytes : (a b : List ℕ) → is_key a b ≡ true → a ≡ b
+same_bytes a b h = (bytes_decides a b).0 h
+
+one_less : (s t r : Bool) → (s ≡ true → t ≡ true) → one_if (s && r) ≤ one_if (t && r)
+one_less true t r h = subst (λ b. one_if r ≤ one_if (b && r)) (sym (h refl)) (omega arith)
+one_less false t r h = omega arith
+
+-- a claim that binds the counter with the key binds the one counter that has it
+pub key_bound : (q : CounterKey) (bytes : List ℕ) → ((x : CounterKey) → key_of x ≡ bytes → x ≡ q) → (cell number : ℕ) (claims : List Claim)
+    → key_bindings bytes cell number claims ≤ bindings_of q cell number claims
+key_bound q bytes only cell number [] = omega arith
+key_bound q bytes only cell number (x ∷ xs) =
+    let r = key_bound q bytes only cell number xs in
+    let o = one_less (is_key bytes (key_of x.key)) (same_counter x.key q) ((x.cell == cell) && (x.claim == number))
+    (λ h. is_same x.key q (only x.key (sym (same_bytes bytes (key_of x.key) h)))) in
+    omega arith
+
+pub one_counter : (q : CounterKey) (bytes : List ℕ)
+    → ((d : List ℕ) (es : List Entry) (u : Unit) (s : ℕ) → key_bytes d es u s ≡ bytes → (d ≡ q.name.domain) × (es ≡ q.name.entries) × (u ≡ q.name.unit) × (s ≡ q.start))
+    → (x : CounterKey) → key_of x ≡ bytes → x ≡ q
+one_counter q bytes f x e =
+    let r = f x.name.domain x.name.entries x.name.unit x.start e in
+    λ i. record { name = record { domain = r.0 i; entries = r.1 i; unit = r.2 i }; start = r.3 i }
+
+-- ---- entries
+
+module _ (P : List ℕ × Known → Type 0) where
+  entry_of : (test : List ℕ → Bool) (entries : Entries) → AllByRecursion P entries → IfSome (lookup_entry test entries) P
+  entry_of test [] h = tt
+  entry_of test (e ∷ entries) h = by (test e.0) (entry_of test entries h.1)
+    where
+      by : (b : Bool) → IfSome (lookup_entry test entries) P → IfSome (cond b (Some e) (lookup_entry test entries)) P
+      by true more = h.0
+      by false more = more
+
+  rest_of : (test : List ℕ → Bool) (entries : Entries) → AllByRecursion P entries → AllByRecursion P (remove_entry test entries)
+  rest_of test [] h = tt
+  rest_of test (e ∷ entries) h = by (test e.0) (rest_of test entries h.1)
+    where
+      by : (b : Bool) → AllByRecursion P (remove_entry test entries) → AllByRecursion P (cond b entries (e ∷ remove_entry test entries))
+      by true more = h.1
+      by false more = (h.0, more)
+
+  -- a question keeps what is known
+  pub asked_all : (key : List ℕ) (entries : Entries) → AllByRecursion P entries → AllByRecursion P (asked key entries)
+  asked_all key entries h = by (lookup_entry (is_key key) entries) (entry_of (is_key key) entries h)
+    where
+      by : (o : Option (List ℕ × Known)) → IfSome o P → AllByRecursion P (option_map_or (λ e. e ∷ without key entries) o entries)
+      by None p = h
+      by (Some e) p = (p, rest_of (is_key key) entries h)
+
+-- what is known of a key holds of it
+pub known_all : (P : List ℕ → Known → Type 0) (key : List ℕ) (entries : Entries) → AllByRecursion (λ e. P e.0 e.1) entries → (k : Known)
+    → known_of key entries ≡ Some k → P key k
+known_all P key [] h k e = absurd (cc)
+known_all P key (x ∷ entries) h k e = by (is_key key x.0) refl e (known_all P key entries h.1 k)
+  where
+    by : (b : Bool) → is_key key x.0 ≡ b → cond b (Some x.1) (lookup (is_key key) entries) ≡ Some k → (lookup (is_key key) entries ≡ Some k → P key k) → P key k
+    by true is f rest = let g : x.1 ≡ k = cc in subst (P key) g (subst (λ b. P b x.1) (sym (same_bytes key x.0 is)) h.0)
+    by false is f rest = rest f
+
+-- what is known of a counter's key is where a claim binds the counter
+pub entry_bound : (cells : ℕ) (claims : List Claim) (q : CounterKey) (bytes : List ℕ) → ((x : CounterKey) → key_of x ≡ bytes → x ≡ q) → (entries : Entries)
+    → AreBoundEntries cells claims entries → (k : Known) → known_of bytes entries ≡ Some k
+    → (k.spot.cell < cells) × (1 ≤ bindings_of q k.spot.cell k.spot.claim claims)
+entry_bound cells claims q bytes only entries h k e =
+    let b = known_all (λ key known. IsBoundEntry cells claims (key, known)) bytes entries h k e in
+    let n = key_bound q bytes only k.spot.cell k.spot.claim claims in
+    let m = b.bound in
+    (b.there, omega arith)
+
+-- what is found by the bytes that were written for a descriptor's counter
+pub found_bound : (cells : ℕ) (claims : List Claim) (named domain : List ℕ) (d : Descriptor) (unit : Unit) (moment begin : ℕ) (out bytes : List ℕ)
+    → ((n : List ℕ) (es : List Entry) (u : Unit) (s : ℕ) → key_bytes n es u s ≡ out → (n ≡ named) × (es ≡ d.entries) × (u ≡ unit) × (s ≡ begin))
+    → named ≡ domain → begin ≡ window_start unit moment → bytes ≡ out → (entries : Entries) → AreBoundEntries cells claims entries → (k : Known)
+    → known_of bytes entries ≡ Some k
+    → (k.spot.cell < cells) × (1 ≤ bindings_of (counter_of domain d unit moment) k.spot.cell k.spot.claim claims)
+found_bound cells claims named domain d unit moment begin out bytes of same at is entries h k e =
+    entry_bound cells claims (counter_of domain d unit moment) bytes
+    (one_counter (counter_of domain d unit moment) bytes (λ n es u s b. let r = of n es u s (b ∙ is) in (r.0 ∙ same, r.1, r.2, r.3 ∙ at))) entries h k e
+
+-- ---- pins
+
+under_in : (cell : ℕ) (ps : List (ℕ × ℕ)) → 1 ≤ total (λ (p : ℕ × ℕ). one_if (p.0 == cell)) ps
+    → 1 ≤ total (λ (p : ℕ × ℕ). one_if ((p.0 == cell) && (p.1 == claim_on cell ps))) ps
+under_in cell [] h = absurd (omega arith)
+under_in cell (p ∷ ps) h = pick (p.0 == cell) refl (under_in cell ps)
+  where
+    pick : (b : Bool) → (p.0 == cell) ≡ b
+        → (1 ≤ total (λ (q : ℕ × ℕ). one_if (q.0 == cell)) ps → 1 ≤ total (λ (q : ℕ × ℕ). one_if ((q.0 == cell) && (q.1 == claim_on cell ps))) ps)
+        → 1 ≤ one_if ((p.0 == cell) && (p.1 == cond (p.0 == cell) p.1 (claim_on cell ps)))
+        + total (λ (q : ℕ × ℕ). one_if ((q.0 == cell) && (q.1 == cond (p.0 == cell) p.1 (claim_on cell ps)))) ps
+    pick true is rest =
+        let o : one_if ((p.0 == cell) && (p.1 == cond (p.0 == cell) p.1 (claim_on cell ps))) ≡ 1
+        = (λ i. one_if (is i && (p.1 == cond (is i) p.1 (claim_on cell ps)))) ∙ ap one_if (eq-eqb p.1 p.1 refl) in
+        omega arith
+    pick false is rest =
+        let z : one_if (p.0 == cell) ≡ 0 = ap one_if is in
+        let r = rest (omega arith) in
+        let e : total (λ (q : ℕ × ℕ). one_if ((q.0 == cell) && (q.1 == cond (p.0 == cell) p.1 (claim_on cell ps)))) ps
+        ≡ total (λ (q : ℕ × ℕ). one_if ((q.0 == cell) && (q.1 == claim_on cell ps))) ps
+        = λ i. total (λ (q : ℕ × ℕ). one_if ((q.0 == cell) && (q.1 == cond (is i) p.1 (claim_on cell ps)))) ps in
+        omega arith
+
+-- ---- one more in lists of one length
+
+module _ {A : Type 0} where
+  at_less : (xs : List A) (i : ℕ) (x : A) → get_elem? xs i ≡ some x → i < length xs
+  at_less [] i x e = absurd (some-ne-none x (sym e))
+  at_less (y ∷ xs) zero x e = omega arith
+  at_less (y ∷ xs) (suc i) x e = let r = at_less xs i x e in omega arith
+
+  at_append : (xs : List A) (y : A) (i : ℕ) (z : A) → get_elem? (xs ++ y ∷ []) i ≡ some z → (get_elem? xs i ≡ some z) ⊎ ((i ≡ length xs) × (y ≡ z))
+  at_append [] y zero z e = inr (refl, some-injective y z e)
+  at_append [] y (suc i) z e = absurd (some-ne-none z (sym e))
+  at_append (x ∷ xs) y zero z e = inl e
+  at_append (x ∷ xs) y (suc i) z e = by (at_append xs y i z e)
+    where
+      by : (get_elem? xs i ≡ some z) ⊎ ((i ≡ length xs) × (y ≡ z)) → (get_elem? xs i ≡ some z) ⊎ ((suc i ≡ suc (length xs)) × (y ≡ z))
+      by (inl h) = inl h
+      by (inr h) = inr (ap suc h.0, h.1)
+
+bound_next : (claims : List Claim) (keys : List CounterKey) (k : CounterKey) (spots : List Spot) (s : Spot) → length spots ≡ length keys → Bound claims keys spots
+    → 1 ≤ bindings_of k s.cell s.claim claims → Bound claims (keys ++ k ∷ []) (spots ++ s ∷ [])
+bound_next claims keys k spots s len all one i j t a b = by (at_append keys k i j a) (at_append spots s i t b)
+  where
+    by : (get_elem? keys i ≡ some j) ⊎ ((i ≡ length keys) × (k ≡ j)) → (get_elem? spots i ≡ some t) ⊎ ((i ≡ length spots) × (s ≡ t))
+        → 1 ≤ bindings_of j t.cell t.claim claims
+    by (inl x) (inl y) = all i j t x y
+    by (inl x) (inr y) = let l = at_less keys i j x in let e = y.0 in absurd (omega arith)
+    by (inr x) (inl y) = let l = at_less spots i t y in let e = x.0 in absurd (omega arith)
+    by (inr x) (inr y) = subst (λ (q : CounterKey). 1 ≤ bindings_of q t.cell t.claim claims) x.1 (subst (λ (u : Spot). 1 ≤ bindings_of k u.cell u.claim claims) y.1 one)
+
+same_then : (u v w : CellView) → SameButPins u v → SameButPins v w → SameButPins u w
+same_then u v w a b = record {
+  number = b.number ∙ a.number;
+  ticks = b.ticks ∙ a.ticks;
+  moment = b.moment ∙ a.moment;
+  looks = b.looks ∙ a.looks;
+  charges = b.charges ∙ a.charges;
+  held = b.held ∙ a.held;
+}
+
+pub same_itself : (v : CellView) → SameButPins v v
+same_itself v = record { number = refl; ticks = refl; moment = refl; looks = refl; charges = refl; held = refl }
+
+-- nothing is pinned yet
+pub none_pinned : (cells : ℕ) (claims : List Claim) (v : CellView) → v.good ≡ [] → ArePinned cells claims [] [] v v
+none_pinned cells claims v bare = record {
+  same = same_itself v;
+  within = λ k d l. absurd (omega arith);
+  pins = λ k. ap (total (λ (p : ℕ × ℕ). one_if (p.0 == k))) bare;
+  held = ap length bare;
+  count = refl;
+  bound = λ i k s a b. absurd (some-ne-none k (sym a));
+  under = λ i s a. absurd (some-ne-none s (sym a));
+}
+
+-- one more counter is pinned
+pub pinned_next : (cells : ℕ) (claims : List Claim) (names : List CounterName) (name : CounterName) (spots : List Spot) (s : Spot) (v w x : CellView)
+    → ArePinned cells claims names spots v w → s.cell < cells → 1 ≤ bindings_of (key_at w.moment name) s.cell s.claim claims
+    → x ≡ good_pin s.cell s.claim w → ((c : ℕ) → 1 ≤ good_under s.cell c w → c ≡ s.claim) → ArePinned cells claims (names ++ name ∷ []) (spots ++ s ∷ []) v x
+pinned_next cells claims names name spots s v w x a there one e own = record {
+  same = same_then v w x a.same (record {
+    number = ap number_of e;
+    ticks = ap (λ (y : CellView). y.ticks) e;
+    moment = ap (λ (y : CellView). y.moment) e;
+    looks = ap (λ (y : CellView). y.looks) e;
+    charges = ap (λ (y : CellView). y.charges) e;
+    held = ap (λ (y : CellView). y.held) e;
+  });
+  within = All-push (λ (t : Spot). t.cell < cells) spots s a.within there;
+  pins = λ k.
+      let n = a.pins k in
+      let m = total_more (λ (t : Spot). one_if (t.cell == k)) spots (s ∷ []) in
+      let o : good_on k x ≡ one_if (s.cell == k) + good_on k w = ap (good_on k) e in
+      omega arith;
+  held =
+      let n = a.held in
+      let l : length x.good ≡ suc (length w.good) = ap (λ (y : CellView). length y.good) e in
+      let m = length-append spots (s ∷ []) in
+      omega arith;
+  count =
+      let n = a.count in
+      let l = length-append spots (s ∷ []) in
+      let m = length-append names (name ∷ []) in
+      omega arith;
+  bound = subst (λ ks. Bound claims ks (spots ++ s ∷ [])) (sym (map-append (key_at v.moment) names (name ∷ [])))
+      (bound_next claims (keys_at v.moment names) (key_at v.moment name) spots s (a.count ∙ sym (length-map names (key_at v.moment))) a.bound
+      (subst (λ n. 1 ≤ bindings_of (key_at n name) s.cell s.claim claims) a.same.moment one));
+  under = λ i t at. by i t (at_append spots s i t at);
+}
+  where
+    newest : (t : Spot) → claim_on t.cell x.good ≡ cond (s.cell == t.cell) s.claim (claim_on t.cell w.good)
+    newest t = ap (λ (y : CellView). claim_on t.cell y.good) e
+
+    earlier : (i : ℕ) (t : Spot) → get_elem? spots i ≡ some t → (b : Bool) → (s.cell == t.cell) ≡ b → claim_on t.cell x.good ≡ t.claim
+    earlier i t at true is =
+        let cell : s.cell ≡ t.cell = grind (arith, nat_tests) in
+        let many = total_at (λ (u : Spot). one_if (u.cell == t.cell)) spots i t at in
+        let here : one_if (t.cell == t.cell) ≡ 1 = ap one_if (eq-eqb t.cell t.cell refl) in
+        let n = a.pins t.cell in
+        let u = under_in t.cell w.good (omega arith) in
+        let c : claim_on t.cell w.good ≡ s.claim = own (claim_on t.cell w.good) (subst (λ k. 1 ≤ good_under k (claim_on t.cell w.good) w) (sym cell) u) in
+        newest t ∙ ap (λ b. cond b s.claim (claim_on t.cell w.good)) is ∙ sym c ∙ a.under i t at
+    earlier i t at false is = newest t ∙ ap (λ b. cond b s.claim (claim_on t.cell w.good)) is ∙ a.under i t at
+
+    by : (i : ℕ) (t : Spot) → (get_elem? spots i ≡ some t) ⊎ ((i ≡ length spots) × (s ≡ t)) → claim_on t.cell x.good ≡ t.claim
+    by i t (inl at) = earlier i t at (s.cell == t.cell) refl
+    by i t (inr h) = subst (λ (u : Spot). claim_on u.cell x.good ≡ u.claim) h.1
+        (newest s ∙ ap (λ b. cond b s.claim (claim_on s.cell w.good)) (eq-eqb s.cell s.cell refl))
+
+-- what is pinned without a turn at the directory is what a turn would leave
+pub pinned_known : (cells : ℕ) (names : List CounterName) (spots : List Spot) (v w : CellView) (t : TokenView Claim) → ArePinned cells t.known names spots v w
+    → HasPins names spots v w t t
+pinned_known cells names spots v w t a = record {
+  waited = record {
+    ticked = record {
+      number = a.same.number;
+      added = [];
+      ticks = a.same.ticks ∙ sym (append-nil v.ticks);
+      offers = tt;
+      moment = a.same.moment;
+      later = let e = a.same.moment in omega arith;
+    };
+    keeps = record { looks = a.same.looks; charges = a.same.charges };
+  };
+  count = a.count;
+  bound = subst (λ n. Bound t.known (keys_at n names) spots) (sym a.same.moment) a.bound;
+  under = a.under;
+  claimed = record {
+    found = t.known;
+    added = [];
+    knew = prefix_self t.known;
+    known = sym (append-nil t.known);
+    own = sym (append-nil t.own);
+    named = λ i x e. absurd (some-ne-none x (sym e));
+  };
+}
+
+-- pins that missed change nothing of what a turn leaves
+module _ (v v' w : CellView) (same : SameButPins v v') where
+  waited_after : HasWaited v' w → HasWaited v w
+  waited_after h = record {
+    ticked = record {
+      number = h.ticked.number ∙ same.number;
+      added = h.ticked.added;
+      ticks = h.ticked.ticks ∙ ap (λ (l : List Tick). l ++ h.ticked.added) same.ticks;
+      offers = each_more (OffersNothing v') (OffersNothing v) (λ x o. (o.0 ∙ same.number, o.1)) h.ticked.added h.ticked.offers;
+      moment = h.ticked.moment ∙ ap (λ n. last_moment n h.ticked.added) same.moment;
+      later = subst (λ n. n ≤ w.moment) same.moment h.ticked.later;
+    };
+    keeps = record { looks = h.keeps.looks ∙ same.looks; charges = h.keeps.charges ∙ same.charges };
+  }
+
+  pub pins_after : (names : List CounterName) (spots : List Spot) (t u : TokenView Claim) → HasPins names spots v' w t u → HasPins names spots v w t u
+  pins_after names spots t u h = record { waited = waited_after h.waited; count = h.count; bound = h.bound; under = h.under; claimed = h.claimed }
+
+  held_after : (held : List ℕ) → HeldSince v' w [] held → HeldSince v w [] held
+  held_after held h k = let e : held_on k v' ≡ held_on k v = ap (λ l. total (λ (p : ℕ × ℕ). one_if (p.0 == k)) l) same.held in let g = h k in omega arith
+
+  cause_after : (b : Bounds) (names : List CounterName) (fault : AcquireFault) (u : TokenView Claim) → HasPinCause b names v' fault w u → HasPinCause b names v fault w u
+  cause_after b names OutOfMemory u c = tt
+  cause_after b names (ClaimsSpent claims wanted) u c = c
+  cause_after b names (CountersFull moment live held wanted) u c = record {
+    moment_is = c.moment_is;
+    wanted_is = c.wanted_is;
+    some = c.some;
+    live_is = c.live_is;
+    held_is = (c.held_is.0, c.held_is.1, held_after c.held_is.0 c.held_is.2, c.held_is.3);
+    few = c.few;
+    full = c.full;
+  }
+
+  pub no_pins_after : (b : Bounds) (names : List CounterName) (fault : AcquireFault) (t u : TokenView Claim) → HasNoPins b names fault v' w t u → HasNoPins b names fault v w t u
+  no_pins_after b names fault t u h = record { waited = waited_after h.waited; bare = h.bare; knew = h.knew; own = h.own; cause = cause_after b names fault u h.cause }
+
+-- ---- entries of later claims, and notes
+
+pub entries_later : (cells : ℕ) (xs ys : List Claim) (entries : Entries) → IsPrefix xs ys → AreBoundEntries cells xs entries → AreBoundEntries cells ys entries
+entries_later cells xs ys entries p h = each_more (IsBoundEntry cells xs) (IsBoundEntry cells ys) later entries h
+  where
+    later : (e : List ℕ × Known) → IsBoundEntry cells xs e → IsBoundEntry cells ys e
+    later e b =
+        let f : Claim → ℕ = λ x. one_if (is_key e.0 (key_of x.key) && ((x.cell == e.1.spot.cell) && (x.claim == e.1.spot.claim))) in
+        let n = ap (total f) (sym p.1) ∙ total_more f xs p.0 in
+        let m = b.bound in
+        record { there = b.there; bound = omega arith }
+
+bound_key : (q : CounterKey) (cell number : ℕ) (claims : List Claim) → bindings_of q cell number claims ≤ key_bindings (key_of q) cell number claims
+bound_key q cell number [] = omega arith
+bound_key q cell number (x ∷ xs) =
+    let r = bound_key q cell number xs in
+    let o = one_less (same_counter x.key q) (is_key (key_of q) (key_of x.key)) ((x.cell == cell) && (x.claim == number))
+    (λ h. (bytes_decides (key_of q) (key_of x.key)).1 (ap key_of (sym (same_is x.key q h)))) in
+    omega arith
+
+take_all : (P : List ℕ × Known → Type 0) (n : ℕ) (entries : Entries) → AllByRecursion P entries → AllByRecursion P (take n entries)
+take_all P zero [] h = tt
+take_all P zero (e ∷ entries) h = tt
+take_all P (suc n) [] h = tt
+take_all P (suc n) (e ∷ entries) h = (h.0, take_all P n entries h.1)
+
+-- a note of a counter that a claim binds
+pub noted_all : (cells : ℕ) (claims : List Claim) (q : CounterKey) (s : Spot) (seen : ℕ) (entries : Entries) → s.cell < cells → 1 ≤ bindings_of q s.cell s.claim claims
+    → AreBoundEntries cells claims entries → AreBoundEntries cells claims (noted (key_of q) s seen entries)
+noted_all cells claims q s seen entries there bound h = (
+  by (known_of (key_of q) entries),
+  take_all (IsBoundEntry cells claims) (MOST_KNOWN - 1) (without (key_of q) entries) (rest_of (IsBoundEntry cells claims) (is_key (key_of q)) entries h),
+)
+  where
+    by : (o : Option Known) → IsBoundEntry cells claims (key_of q, known_then o s seen)
+    by None = let k = bound_key q s.cell s.claim claims in record { there = there; bound = omega arith }
+    by (Some old) = let k = bound_key q s.cell s.claim claims in record { there = there; bound = omega arith }
+
+-- a note that was taken or refused
+pub note_bound : {A E : Type 0} (cells : ℕ) (claims : List Claim) (q : CounterKey) (s : Spot) (bytes : List ℕ) (entries new : Entries) (r : Result A E)
+    → OnOk r (new ≡ noted bytes s 0 entries) → OnErr r (new ≡ entries) → bytes ≡ key_of q → s.cell < cells → 1 ≤ bindings_of q s.cell s.claim claims
+    → AreBoundEntries cells claims entries → AreBoundEntries cells claims new
+note_bound cells claims q s bytes entries new (Ok a) ok err is there bound h =
+    subst (AreBoundEntries cells claims) (sym (ok ∙ ap (λ b. noted b s 0 entries) is)) (noted_all cells claims q s 0 entries there bound h)
+note_bound cells claims q s bytes entries new (Err e) ok err is there bound h = subst (AreBoundEntries cells claims) (sym err) h
+
+pub map_at : {A B : Type 0} (f : A → B) (xs : List A) (i : ℕ) (d : A) → i < length xs → get_elem? (map f xs) i ≡ some (f (get_or xs i d))
+map_at f [] i d lt = absurd (omega arith)
+map_at f (x ∷ xs) zero d lt = refl
+map_at f (x ∷ xs) (suc i) d lt = map_at f xs i d (omega arith)
+
+-- what is known of the claims after some were made
+pub claimed_prefix : (keys : List CounterKey) (t u : TokenView Claim) → HasClaimed keys t u → IsPrefix t.known u.known
+claimed_prefix keys t u h = subst (IsPrefix t.known) (sym h.known) (prefix_then t.known h.found (h.found ++ h.added) h.knew (h.added, refl))
+
+-- what stands in a place that is beyond spots
+abbrev pub no_spot : Spot
+no_spot = record { cell = 0; claim = 0 }
