@@ -237,6 +237,17 @@ judge reader-leaves-early "$status" 5 "$work/first"
 
 printf '{"line":1,"moment":0,"refused":{"at":"","number":1},"version":0,"worker":0}\n' >"$work/one"
 
+# Counters whose names join alike are two: of a_b with c, and of a with b_c.
+rule='"rateLimit":{"unit":"MINUTE","requestsPerUnit":1}'
+printf '{"domain":"d","descriptors":[{"key":"a_b",%s},{"key":"a",%s}]}' "$rule" "$rule" >"$work/joined.json"
+for entry in '"a_b","value":"c"' '"a","value":"b_c"'; do
+    printf '{"check":{"domain":"d","descriptors":[{"entries":[{"key":%s}]}]}}\n' "$entry"
+done >"$work/joined"
+run drive "$work/joined.json" <"$work/joined" 2>"$err" | grep -o '"before":[0-9]*' >"$out"
+status=${PIPESTATUS[0]}
+printf '"before":0\n"before":0\n' >"$work/zeros"
+judge names-that-join-alike "$status" 0 "$work/zeros"
+
 truncate -s 67108864 "$work/large"
 run drive "$work/large" <"$script" >"$out" 2>"$err"
 judge largest-file $? 2 "$none" 'config 0: refused 1 at'
