@@ -1,6 +1,6 @@
 -- What workers that are done left together.
 use Rattle.std.proofs.Common.{◌≡◌, ℕ, zero, suc, ◌+◌, ◌-◌, ◌≤◌, ◌<◌, ◌==◌, List, [], ◌∷◌, ◌++◌, length, map, true, Some, None, Option, refl, sym, ap, ◌∙◌, subst, arith, zero-add, eq-eqb, ne_eqb}
-use Rattle.std.specs.Prelude.{All, slice_get, slice_index_or}
+use Rattle.std.specs.Prelude.{All, slice_get}
 use Rattle.std.specs.List.{AllByRecursion}
 use mathlib.Core.Option.{some, some-injective, some-ne-none}
 use native.Mathlib.Decide.{ℕ_discrete}
@@ -16,8 +16,7 @@ use Rattle.rate_limiter.specs.Passes.{LimiterId, LimiterView, PassView}
 use Rattle.reply_text.specs.declared.record.Record.{Record}
 use Rattle.script_run.specs.ScriptLine.{ScriptLine}
 use Rattle.script_run.specs.Merged.{joined, on_line, EachLineOnce, Merges}
-use Rattle.worker_run.specs.LineSteps.{IsRecordStep}
-use Rattle.worker_run.specs.Journal.{Journal, HasWorked}
+use Rattle.worker_run.specs.Journal.{Journal}
 use Rattle.worker_run.specs.Parts.{IsReady, AreWorkers, IsDone, AreDone}
 use Rattle.worker_run.specs.Work.{HaveRun}
 use Rattle.worker_run.specs.declared.working.Worker.{Worker}

@@ -1,5 +1,5 @@
 -- A journal with one record more, and how many numbers there are below a bound.
-use Rattle.std.proofs.Common.{◌≡◌, ℕ, zero, suc, ◌+◌, ◌-◌, ◌≤◌, ◌<◌, List, [], ◌∷◌, ◌++◌, length, map, refl, sym, ap, ◌∙◌, subst, arith, length-append}
+use Rattle.std.proofs.Common.{◌≡◌, ℕ, zero, suc, ◌+◌, ◌-◌, ◌≤◌, ◌<◌, List, [], ◌∷◌, ◌++◌, length, map, refl, sym, ap, subst, arith}
 use Rattle.std.specs.Prelude.{All, slice_index, slice_index_or, slice_get, Some}
 use Rattle.counter_directory.specs.Acquired.{Bounds}
 use Rattle.line_numbers.specs.Rising.{IsRising}

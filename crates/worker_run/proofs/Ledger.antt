@@ -1,8 +1,8 @@
 -- The charges that the records of workers show are those of their passes.
-use Rattle.std.proofs.Common.{◌≡◌, ℕ, zero, suc, ◌+◌, ◌-◌, ◌≤◌, ◌<◌, ◌==◌, ◌&&◌, List, [], ◌∷◌, ◌++◌, length, map, cond, Some, None, Option, refl, sym, ap, ◌∙◌, subst, arith, append_assoc}
+use Rattle.std.proofs.Common.{◌≡◌, ℕ, zero, suc, ◌+◌, ◌-◌, ◌≤◌, ◌==◌, ◌&&◌, List, [], ◌∷◌, ◌++◌, length, map, cond, Some, None, Option, refl, sym, ap, ◌∙◌, subst, arith, append_assoc}
 use Rattle.std.proofs.lemmas.List.{map-append}
 use Rattle.std.proofs.lemmas.List.Sums.{sum_by-cons}
-use Rattle.std.specs.Prelude.{slice_get, sum_by, count_by, nat_lt}
+use Rattle.std.specs.Prelude.{slice_get, sum_by, nat_lt}
 use Rattle.std.specs.List.{AllByRecursion}
 use mathlib.Core.List.{IsPrefix}
 use mathlib.Core.Option.{some, some-injective, some-ne-none}
@@ -10,7 +10,7 @@ use lib.ListN.{get_elem?}
 use Rattle.rate_types.specs.Sums.{total, one_if}
 use Rattle.rate_types.proofs.Sums.{total_append}
 use Rattle.rate_types.specs.Counters.{same_counter}
-use Rattle.rate_types.specs.Ledger.{Charge, charged_below, charges_at, IsLawfulLedger}
+use Rattle.rate_types.specs.Ledger.{Charge, charged_below, IsLawfulLedger}
 use Rattle.rate_types.specs.declared.counter_key.CounterKey.{CounterKey}
 use Rattle.rls_core.specs.Reply.{charges_of}
 use Rattle.counter_cells.specs.Ledgers.{charge_of}
@@ -19,7 +19,7 @@ use Rattle.counter_cells.specs.declared.view.Charge as cell_charge
 use Rattle.counter_directory.specs.Acquired.{Bounds}
 use Rattle.counter_directory.specs.declared.claim.Claim.{Claim}
 use Rattle.rate_limiter.specs.Passes.{LimiterView, PassView}
-use Rattle.rate_limiter.specs.Named.{claimed_as, IsNamed, AreNamed}
+use Rattle.rate_limiter.specs.Named.{claimed_as, AreNamed}
 use Rattle.rate_limiter.specs.Closing.{cells_of, IsOneLedger}
 use Rattle.reply_text.specs.Answer.{Answer}
 use Rattle.reply_text.specs.declared.record.Record.{Record}
@@ -27,8 +27,7 @@ use Rattle.reply_text.specs.declared.record.Outcome.{Outcome}
 use Rattle.reply_text.specs.declared.record.Outcome.TheVariants as outcome
 use Rattle.script_run.specs.ScriptLine.{ScriptLine, check, reload, tick, bad}
 use Rattle.script_run.specs.Charges.{charges_shown, ledger_of, ChargesFormLedger}
-use Rattle.script_run.specs.Merged.{Merges}
-use Rattle.worker_run.specs.LineSteps.{LineStep, IsRecordStep}
+use Rattle.worker_run.specs.LineSteps.{LineStep}
 use Rattle.worker_run.specs.Journal.{Journal}
 use Rattle.worker_run.specs.Work.{HaveRun}
 

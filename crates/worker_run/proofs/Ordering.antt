@@ -1,13 +1,12 @@
 -- What a journal's steps say of the records in order.
-use Rattle.std.proofs.Common.{◌≡◌, ℕ, zero, suc, ◌+◌, ◌-◌, ◌≤◌, ◌<◌, List, [], ◌∷◌, length, map, Result, Ok, Err, refl, sym, ap, ◌∙◌, subst, arith}
+use Rattle.std.proofs.Common.{◌≡◌, ℕ, zero, suc, ◌-◌, ◌≤◌, ◌<◌, List, [], ◌∷◌, length, map, sym, ap, subst, arith}
 use Rattle.std.specs.Prelude.{slice_index}
 use mathlib.Core.Option.{some, some-injective, some-ne-none}
 use native.Mathlib.Decide.{dec_le}
 use lib.ListN.{get_elem?}
-use Rattle.rate_types.specs.Requests.{RequestParts}
 use Rattle.counter_directory.specs.Acquired.{Bounds}
 use Rattle.line_numbers.specs.Rising.{IsRising}
-use Rattle.rate_limiter.specs.Passes.{LimiterView, PassView, KeepsAllButVersion, KeepsAllButTicks}
+use Rattle.rate_limiter.specs.Passes.{LimiterView, PassView}
 use Rattle.reply_text.specs.declared.record.Record.{Record}
 use Rattle.reply_text.specs.declared.record.Outcome.{Outcome}
 use Rattle.reply_text.specs.declared.record.Outcome.TheVariants as outcome

@@ -1,5 +1,5 @@
 -- What the records of workers show as seen are lawful sights in their ledger.
-use Rattle.std.proofs.Common.{◌≡◌, ℕ, zero, suc, ◌+◌, ◌-◌, ◌≤◌, ◌<◌, ◌==◌, ◌&&◌, List, [], ◌∷◌, ◌++◌, length, All, cond, Some, None, Option, refl, sym, ap, ◌∙◌, subst, arith, append_assoc}
+use Rattle.std.proofs.Common.{◌≡◌, ℕ, zero, suc, ◌+◌, ◌-◌, ◌<◌, ◌==◌, ◌&&◌, List, [], ◌∷◌, ◌++◌, length, cond, Some, None, Option, refl, sym, ap, ◌∙◌, subst, arith}
 use Rattle.std.specs.Prelude.{slice_get, nat_lt}
 use Rattle.std.specs.List.{AllByRecursion}
 use mathlib.Core.List.{IsPrefix}
@@ -8,7 +8,7 @@ use lib.ListN.{get_elem?}
 use Rattle.rate_types.specs.Sums.{total, one_if}
 use Rattle.rate_types.proofs.Sums.{total_append}
 use Rattle.rate_types.specs.Counters.{same_counter}
-use Rattle.rate_types.specs.Ledger.{Charge, Sight, charged_below, IsLawfulSight}
+use Rattle.rate_types.specs.Ledger.{Charge, Sight, IsLawfulSight}
 use Rattle.rate_types.specs.declared.counter_key.CounterKey.{CounterKey}
 use Rattle.rls_core.specs.Reply as reply
 use Rattle.counter_cells.specs.declared.view.CellView.{CellView}
@@ -24,7 +24,7 @@ use Rattle.reply_text.specs.declared.record.Outcome.{Outcome}
 use Rattle.reply_text.specs.declared.record.Outcome.TheVariants as outcome
 use Rattle.script_run.specs.ScriptLine.{ScriptLine, check, reload, tick, bad}
 use Rattle.script_run.specs.Charges.{sights_shown, sights_of, ledger_of, SightsLawful}
-use Rattle.worker_run.specs.LineSteps.{LineStep, IsRecordStep}
+use Rattle.worker_run.specs.LineSteps.{LineStep}
 use Rattle.worker_run.specs.Journal.{Journal}
 use Rattle.worker_run.specs.Work.{HaveRun}
 use Rattle.worker_run.proofs.Gathering.{index_all}

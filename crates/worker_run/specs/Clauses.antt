@@ -1,5 +1,5 @@
 -- What the records of workers say before their limiter is closed.
-use Rattle.std.specs.Prelude.{ℕ, ◌≤◌, List, [], length, slice_get, Option, Some, None}
+use Rattle.std.specs.Prelude.{ℕ, ◌≤◌, List, [], slice_get, Option, Some, None}
 use Rattle.descriptor_tree.specs.Trees.{DomainTree}
 use Rattle.reply_text.specs.declared.record.Record.{Record}
 use Rattle.script_run.specs.ScriptLine.{ScriptLine}

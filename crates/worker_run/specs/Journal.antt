@@ -1,10 +1,9 @@
 -- A worker's journal: the steps of its pass.
 use Rattle.std.specs.Prelude.{◌≡◌, ℕ, ◌-◌, List, [], ◌∷◌, map, true}
 use Rattle.counter_directory.specs.Acquired.{Bounds}
-use Rattle.descriptor_tree.specs.Trees.{DomainTree}
 use Rattle.line_numbers.specs.Drawers.{drawn, is_told}
 use Rattle.line_numbers.specs.declared.drawer.Drawer.{Drawer}
-use Rattle.rate_limiter.specs.Passes.{LimiterView, PassView, IsNewPass}
+use Rattle.rate_limiter.specs.Passes.{LimiterView, PassView}
 use Rattle.reply_text.specs.declared.record.Record.{Record}
 use Rattle.script_run.specs.ScriptLine.{ScriptLine}
 use Rattle.worker_run.specs.LineSteps.{IsRecordStep}

@@ -1,5 +1,5 @@
 -- What running one line does to a pass, and what the line's record shows of it.
-use Rattle.std.specs.Prelude.{◌≡◌, ℕ, ◌+◌, ◌-◌, ◌≤◌, List, ◌++◌, map, slice_get, Some, Ok, Err, ⊤}
+use Rattle.std.specs.Prelude.{◌≡◌, ℕ, ◌-◌, ◌≤◌, List, ◌++◌, map, slice_get, Some, Err, ⊤}
 use Rattle.rate_types.specs.Ledger.{Charge}
 use Rattle.rls_core.specs.Reply.{charges_of}
 use Rattle.rls_core.specs.declared.reply.Reply.{Reply}
