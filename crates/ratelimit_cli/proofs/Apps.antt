@@ -1,6 +1,6 @@
 -- What `clap` finds in the words, and what is made of it.
-use Rattle.std.proofs.Common.{◌≡◌, List, [], ◌∷◌, ℕ, Bool, true, false, ◌&&◌, Option, Some, None, refl, sym, ap, subst, true≢false}
-use Rattle.clap.specs.Words.{App, is_simple, is_simple_and_free, fault_of}
+use Rattle.std.proofs.Common.{◌≡◌, List, [], ◌∷◌, ℕ, Bool, true, false, ◌&&◌, Option, None, refl, sym, subst, true≢false}
+use Rattle.clap.specs.Words.{App, is_simple_and_free, fault_of}
 use Rattle.clap.specs.Kinds.{Kinds}
 use Rattle.ratelimit_cli.specs.Words.{drive_app, lookup_app, quota_app, if_taken}
 

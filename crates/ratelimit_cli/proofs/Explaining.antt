@@ -1,6 +1,5 @@
 -- From what the parts of the top call answer to what its exit says.
-use Rattle.std.proofs.Common.{◌≡◌, ℕ, List, [], ◌∷◌, Some, Result, Ok, Bool, inl, inr, refl, subst, sym, ◌∙◌}
-use Rattle.std.specs.Io.KnownBytes.{IsAtEnd}
+use Rattle.std.proofs.Common.{◌≡◌, ℕ, List, ◌∷◌, Some, Result, Ok, inl, inr, refl, subst, sym, ◌∙◌}
 use Rattle.rate_types.specs.declared.refused.At.{At}
 use Rattle.descriptor_tree.specs.Trees.{DomainTree}
 use Rattle.rate_io.specs.Events.{given}
@@ -9,7 +8,7 @@ use Rattle.ratelimit_cli.specs.Quota.{settings_of}
 use Rattle.ratelimit_cli.specs.Words.{command_of}
 use Rattle.ratelimit_cli.specs.Jobs.{files_of, ReadsConfigs, command_with}
 use Rattle.ratelimit_cli.specs.World.{World, AreFilesOf, NothingRead, NothingWritten}
-use Rattle.ratelimit_cli.specs.Configured.{FilesSay, IsInput, IsMade, HasRead}
+use Rattle.ratelimit_cli.specs.Configured.{FilesSay, HasRead}
 use Rattle.ratelimit_cli.specs.Replayed.{QuotaSays}
 use Rattle.ratelimit_cli.specs.Exits.{IsOutput, Explains}
 use Rattle.ratelimit_cli.specs.Parts.{IsOfFiles, IsOfConfig, IsOfInput, IsOfOutput, IsOfWork, IsOfSettings, IsOfStreams, IsOfReplay, Replays, Sinks}

@@ -4,8 +4,6 @@ use Rattle.serde_json.specs.Data.{Data}
 use Rattle.serde_json.specs.View.{items_of}
 use Rattle.serde_json.specs.Written.{has_float, items_have_float}
 use Rattle.rate_types.specs.declared.rule_id.RuleId.{RuleId}
-use Rattle.rate_types.specs.declared.unit.Unit.{Unit}
-use Rattle.rate_types.specs.declared.unit.Unit.TheVariants.{Second, Minute, Hour, Day}
 use Rattle.rule_lookup.specs.declared.found.Found.{Found}
 use Rattle.rule_lookup.specs.declared.found.Found.TheVariants.{NoRule, Unlimited, Limited}
 use Rattle.ratelimit_cli.specs.Lookup.{rule_data, unlimited_data, limited_data, found_data}

@@ -1,11 +1,11 @@
 -- Texts that are lines one after the other.
-use Rattle.std.proofs.Common.{◌≡◌, ℕ, zero, suc, ◌+◌, ◌<◌, ◌≤◌, ◌==◌, ◌&&◌, not, Bool, true, false, cond, nat_lt, List, [], ◌∷◌, ◌++◌, map, length, take, drop, get_or}
-use Rattle.std.proofs.Common.{Option, Some, None, refl, sym, ap, subst, ◌∙◌, append_assoc, append-nil, arith, true≢false}
-use Rattle.std.specs.List.{concat, list_all, flat_map, position, position_or_len, AllByRecursion}
+use Rattle.std.proofs.Common.{◌≡◌, ℕ, zero, suc, ◌+◌, ◌<◌, ◌≤◌, ◌==◌, ◌&&◌, not, Bool, true, false, List, [], ◌∷◌, ◌++◌, map, length, take, drop, get_or}
+use Rattle.std.proofs.Common.{Some, None, refl, sym, ap, ◌∙◌, append_assoc, append-nil, arith, true≢false}
+use Rattle.std.specs.List.{concat, position, position_or_len, AllByRecursion}
 use Rattle.std.proofs.Math.Seq.{take-append_seam, drop-append_seam}
 use Rattle.std.proofs.lemmas.Bool.Decides.{nat_tests}
 use Rattle.std.proofs.lemmas.Grind.{flat_map-append}
-use Rattle.std.proofs.lemmas.List.{length-append, length-map, get_or-map, take_more, drop_all}
+use Rattle.std.proofs.lemmas.List.{length-append, length-map, get_or-map, take_more}
 use Rattle.quota_stream.specs.Output.{has_no_feed, IsLine, AreLines, quota_output}
 use Rattle.quota_stream.specs.Tasks.{texts_from, output_text}
 use Rattle.quota_settings.specs.Covering.{AllSettings}

@@ -1,5 +1,5 @@
 -- Facts about told contents, and the bytes of several files.
-use Rattle.std.proofs.Common.{◌≡◌, ℕ, ◌≤◌, List, [], ◌∷◌, ◌++◌, Option, Some, None, refl}
+use Rattle.std.proofs.Common.{ℕ, List, [], ◌∷◌, ◌++◌, Option, Some, None, refl}
 use Rattle.rate_io.specs.Content.{Told}
 use Rattle.rate_io.specs.Events.{Event, FileEvent}
 use Rattle.ratelimit_cli.specs.World.{AreFilesOf, IsFileOf}

@@ -1,6 +1,6 @@
 -- What `lookup` writes: for each line of the input which rule each descriptor of its request finds.
-use Rattle.std.specs.Prelude.{ℕ, ◌+◌, List, [], ◌∷◌, ◌++◌, map, Bool, true, Option, Some, None, Result, Ok, Err, codes}
-use Rattle.serde_json.specs.Data.{Data, null, boolean, number, unsigned, string, array, object, Members, no_members, member}
+use Rattle.std.specs.Prelude.{ℕ, ◌+◌, List, [], ◌∷◌, map, Bool, true, Option, Some, None, Result, Ok, Err, codes}
+use Rattle.serde_json.specs.Data.{Data, null, boolean, string, array, object, no_members, member}
 use Rattle.serde_json.specs.View.{items_of}
 use Rattle.serde_json.specs.Written.{compact_text}
 use Rattle.rate_types.specs.Requests.{RequestParts}

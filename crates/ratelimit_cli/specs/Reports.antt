@@ -3,7 +3,6 @@ use Rattle.std.specs.Prelude.{ℕ, ◌+◌, ◌/◌, ◌%◌, List, ◌∷◌, [
 use Rattle.std.specs.List.{flat_map}
 use Rattle.std.specs.Str.{chars}
 use Rattle.std.specs.Char.{encode_utf8, is_control}
-use Rattle.rate_types.specs.declared.refused.At.{At}
 use Rattle.ratelimit_cli.specs.declared.exit.Exit.{Exit}
 use Rattle.ratelimit_cli.specs.declared.exit.Exit.TheVariants.{Done, Usage, ConfigRefused, TooLong, ReadFault, WriteFault, FileFault}
 use Rattle.ratelimit_cli.specs.declared.exit.Exit.TheVariants.{OutOfMemory, SettingsRefused}

@@ -1,6 +1,6 @@
 -- The words of the program: which of them are a command.
-use Rattle.std.specs.Prelude.{ℕ, ◌<◌, ◌&&◌, ◌||◌, List, [], ◌∷◌, length, Bool, true, false, nat_lt, Option, None, Some}
-use Rattle.std.specs.Prelude.{option_map, option_and_then, unwrap_or, if◌then◌else◌, codes}
+use Rattle.std.specs.Prelude.{ℕ, ◌&&◌, ◌||◌, List, [], ◌∷◌, length, Bool, true, false, nat_lt, Option, None, Some}
+use Rattle.std.specs.Prelude.{option_and_then, unwrap_or, if◌then◌else◌, codes}
 use Rattle.std.specs.List.{list_all}
 use Rattle.std.specs.Str.{bytes_eq}
 use Rattle.std.specs.Str.Parse.{digits_value, without_leading_plus}

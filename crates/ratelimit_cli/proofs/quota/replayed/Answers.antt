@@ -4,7 +4,7 @@ use Rattle.quota_settings.specs.Covering.{AllSettings}
 use Rattle.quota_stream.specs.Output.{AreLines, quota_output}
 use Rattle.quota_stream.specs.Tasks.{IsShort, texts_from}
 use Rattle.ratelimit_cli.specs.declared.exit.Exit.{Exit}
-use Rattle.ratelimit_cli.specs.Parts.{IsOfSettings, IsOfStreams, IsOfReplay, Replays}
+use Rattle.ratelimit_cli.specs.Parts.{IsOfStreams, IsOfReplay, Replays}
 use Rattle.ratelimit_cli.specs.Quota.{settings_of, each_output, in_order}
 use Rattle.ratelimit_cli.proofs.Explaining.{settings_fault, streams_fault}
 use Rattle.ratelimit_cli.proofs.Lining.{texts_are, lines_are}

@@ -1,8 +1,5 @@
-use Rattle.std.proofs.Common.{◌≡◌, ◌<◌, ℕ, List, [], ◌∷◌, length, Some, Ok, Option, refl, sym, ap, subst, ◌∙◌, arith, rules, map}
-use Rattle.std.specs.List.{concat, AllByRecursion}
-use Rattle.rate_io.specs.Events.{Event, FileEvent, since}
-use Rattle.quota_stream.specs.Output.{AreLines}
-use Rattle.ratelimit_cli.specs.Words.{command_of}
+use Rattle.std.proofs.Common.{◌≡◌, ℕ, List, [], ◌∷◌, refl, sym, subst, ◌∙◌}
+use Rattle.rate_io.specs.Events.{since}
 use Rattle.ratelimit_cli.specs.Jobs.{files_of}
 use Rattle.ratelimit_cli.specs.World.{World, AreFilesOf, exit_of}
 use Rattle.ratelimit_cli.specs.Parts.{IsOfOutput, Replays}

@@ -1,14 +1,13 @@
-use Rattle.std.proofs.Common.{◌≡◌, ℕ, List, Some, Ok, refl, subst, sym, ◌∙◌, rules}
+use Rattle.std.proofs.Common.{◌≡◌, ℕ, List, Ok, refl, subst, sym, ◌∙◌, rules}
 use Rattle.rate_io.specs.Events.{since, given}
 use Rattle.descriptor_tree.specs.Views.{config_view}
 use Rattle.config_json.specs.Reading.{reading_of}
-use Rattle.ratelimit_cli.specs.Words.{command_of}
 use Rattle.ratelimit_cli.specs.Jobs.{files_of, command_with}
 use Rattle.ratelimit_cli.specs.World.{World, AreFilesOf, exit_of}
 use Rattle.ratelimit_cli.specs.Configured.{FilesSay, IsInput, HasRead}
 use Rattle.ratelimit_cli.specs.Parts.{IsOfFiles, IsOfInput, IsOfOutput, IsOfWork}
 use Rattle.ratelimit_cli.proofs.Histories.{none_since, grew_since}
-use Rattle.ratelimit_cli.proofs.Explaining.{explain_files, explain_config, explain_input, explain_output, made_output, configs_same, reads_configs, sinks}
+use Rattle.ratelimit_cli.proofs.Explaining.{explain_files, explain_config, explain_input, explain_output, made_output, reads_configs, sinks}
 use Rattle.ratelimit_cli.proofs.top.run_work.Goals as goal
 
 pub returns-in-Err-clause-exit : goal.returns-in-Err-clause-exit
