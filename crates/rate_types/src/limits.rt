@@ -18,6 +18,12 @@ pub const MOST_HITS: u32 = 4_294_967_295;
 pub const MOST_VERSIONS: u32 = 1_048_576;
 /// The most workers.
 pub const MOST_WORKERS: u32 = 64;
+/// The workers of a command that serves connections or quota streams and names no other number.
+pub const DEFAULT_WORKERS: u32 = 4;
+/// The most connections that a server accepts.
+pub const MOST_CONNECTIONS: u32 = 1_048_576;
+/// The most checks of a generated script.
+pub const MOST_CHECKS: u32 = 1_048_576;
 /// The most passes of a limiter.
 pub const MOST_PASSES: u32 = 1_024;
 /// The most pins of a pass.

@@ -88,3 +88,11 @@ pub const NO_FILL: u32 = 45;
 pub const FILL_ZERO: u32 = 46;
 /// The timeout of an expired assignment is 0.
 pub const TIMEOUT_ZERO: u32 = 47;
+/// An earlier pool has the same bucket.
+pub const TWO_POOLS: u32 = 48;
+/// The lifetime of a pool's assignments is absent or 0.
+pub const NO_LIFETIME: u32 = 49;
+/// A line names no client.
+pub const NO_CLIENT: u32 = 50;
+/// The reports of a line are of another domain than the pools.
+pub const OTHER_DOMAIN: u32 = 51;

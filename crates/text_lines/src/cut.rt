@@ -2,7 +2,8 @@
 ghost use Rattle.std.specs.Prelude.{◌≡◌, ◌<◌, ◌∷◌, ◌==◌, length, position, IfSome};
 ghost use Rattle.text_lines.specs.Lines.{cut};
 
-fn line_feed(bytes: &[u8]) -> Option<usize>
+/// The place of the first line feed.
+pub fn line_feed(bytes: &[u8]) -> Option<usize>
     ensures at { result ≡ position (λ b. b == 10) bytes.now }
     ensures within { IfSome result (λ at. at < length bytes.now) }
 {

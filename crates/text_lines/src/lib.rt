@@ -7,4 +7,4 @@
 
 mod cut;
 
-pub use cut::cut_line;
+pub use cut::{cut_line, line_feed};
