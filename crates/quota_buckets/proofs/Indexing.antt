@@ -9,7 +9,7 @@ use Rattle.quota_settings.specs.Pairs.{pairs_cmp}
 use Rattle.quota_bucket.specs.History.{is_gone}
 use Rattle.quota_buckets.specs.Tables.{Stored, slot_at, slot_id, slot_named}
 use Rattle.quota_buckets.specs.Slots.{IsIndex, IsPlaceOf, HasNoPlace}
-use Rattle.quota_buckets.proofs.Naming.{same_by_cmp, cmp_of_same, same_by_eq, eq_of_same}
+use Rattle.quota_settings.specs.Laws.{same_by_cmp, cmp_of_same, same_by_eq, eq_of_same}
 
 -- a slot that isn't empty is within the list
 pub at_within : (slots : List (Option Stored)) (place : ℕ) (stored : Stored) → slot_at slots place ≡ Some stored → place < length slots

@@ -1,5 +1,4 @@
 pub mod Moments
-pub mod Naming
 pub mod Indexing
 pub mod Steps
 pub mod Tabling

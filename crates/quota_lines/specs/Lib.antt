@@ -1,5 +1,6 @@
 pub mod FieldNames
 pub mod Actions
+pub mod ReadBucketId
 pub mod ReadAction
 pub mod ReadEvent
 pub mod EventFields

@@ -1,33 +1,19 @@
 -- What an action of the quota server says.
-use Rattle.std.specs.Prelude.{ℕ, List, [], length, nat_lt, if◌then◌else◌, Option, Some, None, unwrap_or, Result, Ok, Err}
+use Rattle.std.specs.Prelude.{ℕ, List, [], length, Option, Some, None, unwrap_or, Result, Ok, Err}
 use Rattle.serde_json.specs.Data.{Data}
-use Rattle.rate_types.specs.declared.limits.TheConstants.{MOST_PARTS}
-use Rattle.rate_types.specs.declared.refusals.TheConstants.{NO_BUCKET_ID, TWO_OF_ONE, NO_ACTION, TOO_MANY_PARTS}
+use Rattle.rate_types.specs.declared.refusals.TheConstants.{NO_BUCKET_ID, TWO_OF_ONE, NO_ACTION}
 use Rattle.proto_json.specs.Said.{Said, says, refuses, ◌>>=◌}
 use Rattle.proto_json.specs.Fields.{Object, take, ends}
 use Rattle.proto_json.specs.Kinds as kinds
 use Rattle.quota_bucket.specs.declared.strategy.Strategy.TheVariants.{AllowAll}
 use Rattle.quota_settings.specs.declared.pair.Pair.{Pair}
-use Rattle.quota_settings_json.specs.ReadAttributes.{attributes}
 use Rattle.quota_settings_json.specs.ReadBehaviors.{empty}
 use Rattle.quota_settings_json.specs.ReadStrategy.{strategy, unless_zero}
 use Rattle.quota_lines.specs.FieldNames as names
 use Rattle.quota_lines.specs.Actions.{OneAction}
+use Rattle.quota_lines.specs.ReadBucketId.{bucket_id, few_names}
 use Rattle.quota_lines.specs.declared.quota_action.QuotaAction.{QuotaAction}
 use Rattle.quota_lines.specs.declared.quota_action.QuotaAction.TheVariants.{Assign, Abandon}
-
--- ---- the id of a bucket
-
--- the names of an id with their values; none where they are absent
-unfoldable pub bucket_id_in : Object → Said (Option (List Pair))
-bucket_id_in o = do
-  pairs ← take attributes names.bucket o
-  place ← ends pairs.1
-  says (Some (unwrap_or pairs.0 []))
-
--- an id as a kind of field
-abbrev pub bucket_id : List ℕ → Data → Said (Option (List Pair))
-bucket_id = kinds.and_read kinds.message bucket_id_in
 
 -- ---- an assignment
 
@@ -56,10 +42,6 @@ one_action None None = Err NO_ACTION
 abbrev pub placed_action : List ℕ → Result QuotaAction ℕ → Said (Option QuotaAction)
 placed_action place (Ok action) = says (Some action)
 placed_action place (Err refusal) = refuses refusal place
-
--- at most 32 names, else 37 TooManyParts
-unfoldable pub few_names : List ℕ → List Pair → Said (Option (List Pair))
-few_names place pairs = if nat_lt MOST_PARTS (length pairs) then refuses TOO_MANY_PARTS place else says (Some pairs)
 
 -- the action on a bucket of these names, where both are there
 abbrev pub action_on : Option (List Pair) → Option QuotaAction → Option OneAction

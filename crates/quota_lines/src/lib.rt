@@ -10,6 +10,7 @@
 #![tactic(auto)]
 
 mod bucket_action;
+mod bucket_ids;
 mod event_fields;
 mod field_names;
 mod quota_action;
@@ -19,6 +20,7 @@ mod read_line;
 mod stream_line;
 
 pub use bucket_action::{BucketAction, BucketActions};
+pub use bucket_ids::take_bucket_id;
 pub use quota_action::QuotaAction;
 pub use read_line::read_stream_line;
 pub use stream_line::{Connection, StreamEvent, StreamLine};

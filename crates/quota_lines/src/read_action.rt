@@ -5,46 +5,22 @@ ghost use Rattle.rate_types.specs.Reading.{AnswersReading};
 ghost use Rattle.proto_json.specs.Said.{reading_of};
 ghost use Rattle.quota_lines.specs.FieldNames as names;
 ghost use Rattle.quota_lines.specs.ReadAction as reading;
+ghost use Rattle.quota_lines.specs.ReadBucketId.{few_names};
 
 use crate::bucket_action::BucketAction;
+use crate::bucket_ids::take_bucket_id;
 use crate::field_names::{
-    ABANDON_ACTION, ASSIGNMENT_TIME_TO_LIVE, BUCKET, BUCKET_ID, QUOTA_ASSIGNMENT_ACTION,
-    RATE_LIMIT_STRATEGY,
+    ABANDON_ACTION, ASSIGNMENT_TIME_TO_LIVE, QUOTA_ASSIGNMENT_ACTION, RATE_LIMIT_STRATEGY,
 };
 use crate::quota_action::QuotaAction;
 use proto_json::{Fields, FormFault, Kind};
 use quota_bucket::Strategy;
 use quota_settings::{Attributes, BucketId};
-use quota_settings_json::{take_attributes, take_empty, take_strategy};
+use quota_settings_json::{take_empty, take_strategy};
 use rate_types::refusals::{NO_ACTION, NO_BUCKET_ID, TOO_MANY_PARTS, TWO_OF_ONE};
 use rate_types::{Place, Refused};
 use serde_json::Value;
 use std::alloc::Global;
-
-// The names of an id with their values.
-#[tactic(auto, using(proto_json::specs::Laws::reading_then), unfolding(crate::specs::ReadAction::bucket_id_in))]
-fn bucket_id_in(alloc: Global, mut fields: Fields) -> Result<Attributes, FormFault>
-    ensures { AnswersReading (λ pairs. Some pairs) result (reading_of (reading.bucket_id_in (object_of fields))) }
-{
-    let pairs = take_attributes(alloc, &mut fields, BUCKET)?;
-    let _ = fields.end()?;
-    Ok(pairs.unwrap_or(Attributes::sorted(Vec::new(alloc))))
-}
-
-// Takes the id of an action's bucket.
-#[tactic(auto, using(proto_json::specs::Laws::take_and_read))]
-fn take_bucket_id(alloc: Global, fields: &mut Fields) -> Result<Option<Attributes>, FormFault>
-    ensures { Takes (λ o. o) reading.bucket_id names.bucket_id
-        (object_of fields.old) result (object_of fields.new) }
-{
-    match fields.take_fields(BUCKET_ID)? {
-        Some(id) => {
-            let pairs = bucket_id_in(alloc, id)?;
-            Ok(Some(pairs))
-        }
-        None => Ok(None),
-    }
-}
 
 // The assignment of its fields.
 #[tactic(auto, using(proto_json::specs::Laws::reading_then), unfolding(crate::specs::ReadAction::assignment_in))]
@@ -87,10 +63,10 @@ fn one_action(assigned: Option<QuotaAction>, abandoned: Option<Place>) -> Result
 }
 
 // The id of these names, of which there is one.
-#[tactic(auto, unfolding(crate::specs::ReadAction::few_names))]
+#[tactic(auto, unfolding(crate::specs::ReadBucketId::few_names))]
 fn id_of(at: Place, pairs: Attributes) -> Result<BucketId, FormFault>
     requires { 0 < length pairs }
-    ensures { AnswersReading (λ id. Some id) result (reading_of (reading.few_names at pairs)) }
+    ensures { AnswersReading (λ id. Some id) result (reading_of (few_names at pairs)) }
 {
     match BucketId::of(pairs) {
         Some(id) => Ok(id),

@@ -26,9 +26,11 @@ mod writing;
 
 pub use action_answer::ActionAnswer;
 pub use line_number::LineNumber;
+pub use line_parts::{at_start, number_start, refused_part};
 pub use replay_fault::ReplayFault;
 pub use replaying::replay;
 pub use stream_task::StreamTask;
+pub use text_parts::{bucket_text, quoted};
 pub use workers::replay_all;
 
 #[cfg(test)]

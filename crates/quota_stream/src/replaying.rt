@@ -1,4 +1,4 @@
-ghost use Rattle.std.specs.Prelude.{◌≡◌, ◌≤◌, ◌<◌, ◌==◌, take, length, position, IfSome, IfOk, IfErr, OnOk, Err};
+ghost use Rattle.std.specs.Prelude.{◌≡◌, ◌≤◌, ◌<◌, take, length, IfOk, IfErr, OnOk, Err};
 ghost use Rattle.rate_io.specs.Causes.{Rose};
 ghost use Rattle.rate_io.specs.Events.{Grew};
 ghost use Rattle.quota_stream.specs.Progress.{Takes, Stops, EndsLine, StopsLine, Finishes, StopsAtEnd};
@@ -11,14 +11,7 @@ use quota_settings::Settings;
 use rate_io::{Sink, Source};
 use rate_types::limits::MOST_BYTES;
 use std::alloc::Global;
-
-// The place of the first line feed.
-fn line_feed(bytes: &[u8]) -> Option<usize>
-    ensures at { result ≡ position (λ b. b == 10) bytes.now }
-    ensures within { IfSome result (λ at. at < length bytes.now) }
-{
-    bytes.iter().position(|b| *b == b'\n')
-}
+use text_lines::line_feed;
 
 // Ends the line that is pending, and writes what comes of it.
 fn end_line<K: Sink>(replay: &mut Replay, sink: &mut K) -> Result<(), ReplayFault>

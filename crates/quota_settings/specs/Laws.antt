@@ -1,4 +1,4 @@
--- Equal names of buckets are the same list, by the order of names and by their equality.
+-- Inside: laws that proofs cite, here and in other crates. Equal names of buckets are the same list, by the order of names and by their equality.
 use Rattle.std.proofs.Common.{◌≡◌, ℕ, ◌&&◌, Bool, true, false, List, [], ◌∷◌, refl, ap, arith}
 use Rattle.std.specs.declared.cmp.Ordering.{Ordering}
 use Rattle.std.specs.declared.cmp.Ordering.TheVariants.{Less, Equal, Greater}
