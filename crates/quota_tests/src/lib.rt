@@ -8,4 +8,6 @@ mod events;
 #[cfg(test)]
 mod moments;
 #[cfg(test)]
+mod pools;
+#[cfg(test)]
 mod settings;

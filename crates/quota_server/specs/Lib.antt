@@ -1,0 +1,9 @@
+pub mod Shares
+pub mod Holds
+pub mod Kept
+pub mod Lives
+pub mod Written
+pub mod Servers
+pub mod Stored
+pub mod Texts
+pub mod Outcomes
