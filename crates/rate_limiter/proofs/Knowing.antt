@@ -284,6 +284,7 @@ pinned_known cells names spots v w t a = record {
     known = sym (append-nil t.known);
     own = sym (append-nil t.own);
     named = λ i x e. absurd (some-ne-none x (sym e));
+    made = λ i x e. absurd (some-ne-none x (sym e));
   };
 }
 
@@ -376,8 +377,8 @@ map_at f (x ∷ xs) zero d lt = refl
 map_at f (x ∷ xs) (suc i) d lt = map_at f xs i d (omega arith)
 
 -- what is known of the claims after some were made
-pub claimed_prefix : (keys : List CounterKey) (t u : TokenView Claim) → HasClaimed keys t u → IsPrefix t.known u.known
-claimed_prefix keys t u h = subst (IsPrefix t.known) (sym h.known) (prefix_then t.known h.found (h.found ++ h.added) h.knew (h.added, refl))
+pub claimed_prefix : (keys : List CounterKey) (moment : ℕ) (t u : TokenView Claim) → HasClaimed keys moment t u → IsPrefix t.known u.known
+claimed_prefix keys moment t u h = subst (IsPrefix t.known) (sym h.known) (prefix_then t.known h.found (h.found ++ h.added) h.knew (h.added, refl))
 
 -- what stands in a place that is beyond spots
 abbrev pub no_spot : Spot

@@ -15,3 +15,4 @@ pub mod Parting
 pub mod Summing
 pub mod Totalling
 pub mod Knowing
+pub mod Sent

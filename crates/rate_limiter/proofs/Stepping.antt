@@ -175,9 +175,9 @@ module _ (limiter : LimiterView) (request : RequestParts) (now : ℕ) (p p1 p2 q
       let statuses = statuses_of q.claims.known request w.moment config ds spots sts w mid done_so in
       let named : keys_at w.moment (names_under request ds (map (found_for config request) ds)) ≡ counters_named config request w.moment
       = keys_named q.claims.known request w.moment config ds in
-      let claimed : HasClaimed (counters_named config request w.moment) p.claims q.claims
-      = subst (λ (t : TokenView Claim). HasClaimed (counters_named config request w.moment) t q.claims) start_claims
-      (subst (λ ks. HasClaimed ks p2.claims q.claims) named pins_so.claimed) in
+      let claimed : HasClaimed (counters_named config request w.moment) w.moment p.claims q.claims
+      = subst (λ (t : TokenView Claim). HasClaimed (counters_named config request w.moment) w.moment t q.claims) start_claims
+      (subst (λ ks. HasClaimed ks w.moment p2.claims q.claims) named pins_so.claimed) in
       record {
         same = same ∙ start_limiter;
         version = subst (λ (t : PassState (List DomainTree)). HasRenewed p.version t) (sym version)
@@ -194,8 +194,8 @@ module _ (limiter : LimiterView) (request : RequestParts) (now : ℕ) (p p1 p2 q
             (charged_of q.claims.known request w.moment config ds sts p.cells q.cells statuses from_start);
         seen = subst (λ n. HasSights q.claims.known q.cells (sights_of request n ds sts)) (sym moment)
             (seen_of q.claims.known request w.moment config ds sts p.cells q.cells statuses from_start);
-        claims = subst (λ c. HasClaimed (counters_named c request q.cells.moment) p.claims q.claims) (sym index)
-            (subst (λ n. HasClaimed (counters_named config request n) p.claims q.claims) (sym moment) claimed);
+        claims = subst (λ c. HasClaimed (counters_named c request q.cells.moment) q.cells.moment p.claims q.claims) (sym index)
+            (subst (λ n. HasClaimed (counters_named config request n) n p.claims q.claims) (sym moment) claimed);
         bare = bare;
         refused = refused ∙ start_refused;
       }

@@ -100,7 +100,7 @@ added_named b m keys found left h i x at =
     grind (arith, nat_tests)
 
 claimed_of : (b : Bounds) (m : ℕ) (keys : List CounterKey) (found left : ClaimTableView) (t u : TokenView Claim) → HasBound b m keys found left
-    → HasTurned found.claims left.claims t u → HasClaimed keys t u
+    → HasTurned found.claims left.claims t u → HasClaimed keys m t u
 claimed_of b m keys found left t u h turn =
     let added = h.grows.0 in
     let len : length left.claims ≡ length found.claims + length added = ap length h.grows.1 ∙ length-append found.claims added in
@@ -112,6 +112,7 @@ claimed_of b m keys found left t u h turn =
       known = turn.known ∙ h.grows.1;
       own = turn.own ∙ ap (λ n. t.own ++ count_from (length found.claims) n) rest;
       named = added_named b m keys found left h;
+      made = h.grows.2;
     }
 
 pub turned_ok : (b : Bounds) (names : List CounterName) (a : Acquired) (v w : CellView) (t u : TokenView Claim) → Turned b names v (Ok a) w t u
@@ -124,7 +125,7 @@ turned_ok b names a v w t u h =
       count = d.count;
       bound = subst (λ ks. Bound ks (keys_at w.moment names) a.spots.items) (sym h.turn.known) (subst (λ n. Bound h.left.claims (keys_at n names) a.spots.items) d.moment d.bound);
       under = d.under;
-      claimed = subst (λ n. HasClaimed (keys_at n names) t u) d.moment (claimed_of b a.moment (keys_at a.moment names) h.found h.left t u h.did.1 h.turn);
+      claimed = subst (λ n. HasClaimed (keys_at n names) n t u) d.moment (claimed_of b a.moment (keys_at a.moment names) h.found h.left t u h.did.1 h.turn);
     }
 
 -- a turn that added nothing
@@ -198,6 +199,7 @@ no_turn v t = record {
     known = sym (append-nil t.known);
     own = sym (append-nil t.own);
     named = λ i x a. absurd (mathlib.Core.Option.some-ne-none x (sym a));
+    made = λ i x a. absurd (mathlib.Core.Option.some-ne-none x (sym a));
   };
 }
 

@@ -45,14 +45,15 @@ pub record HasOffered (now : ℕ) (v w : CellView) : Type 0 where
   pub least : now ≤ w.moment
   pub later : v.moment ≤ w.moment
 
--- what the pass knew of the claims it knows still, and each claim that it made is of one of the counters
-pub record HasClaimed (keys : List CounterKey) (v w : TokenView Claim) : Type 0 where
+-- what the pass knew of the claims it knows still, and each claim that it made is of one of the counters, at the moment
+pub record HasClaimed (keys : List CounterKey) (moment : ℕ) (v w : TokenView Claim) : Type 0 where
   pub found : List Claim
   pub added : List Claim
   pub knew : IsPrefix v.known found
   pub known : w.known ≡ found ++ added
   pub own : w.own ≡ v.own ++ count_from (length found) (length added)
   pub named : (i : ℕ) (x : Claim) → get_elem? added i ≡ some x → 1 ≤ key_count x.key keys
+  pub made : (i : ℕ) (x : Claim) → get_elem? added i ≡ some x → x.moment ≡ moment
 
 -- the pass has charged just these, in order, each under the number of a claim that binds its counter; what it had looked at stays
 pub record HasCharged (claims : List Claim) (charges : List (Charge CounterKey)) (v w : CellView) : Type 0 where
@@ -64,7 +65,8 @@ pub record HasCharged (claims : List Claim) (charges : List (Charge CounterKey))
 -- A check with `now` that was answered. The version is the pass's, after one load at least, and no older than that load showed or than
 -- before. The moment is the pass's, and no earlier than `now` or than before. The reply is that of this one version, at this moment,
 -- with its counts. The pass counted what the reply shows, in order, each on a claim that binds its counter, and nothing else: so it
--- charged just what the reply shows, and has what the reply says was seen. It claimed nothing but these counters. It holds no pin.
+-- charged just what the reply shows, and has what the reply says was seen. It claimed nothing but these counters, at its moment. It
+-- holds no pin.
 pub record IsPassStep (limiter : LimiterView) (request : RequestParts) (now : ℕ) (p : PassView) (r : Reply) (q : PassView) : Type 0 where
   pub same : q.limiter ≡ p.limiter
   pub version : HasRenewed p.version q.version
@@ -75,6 +77,6 @@ pub record IsPassStep (limiter : LimiterView) (request : RequestParts) (now : �
   pub counts : CountsEach q.claims.known q.version.index request q.cells.moment request.descriptors r.statuses.items p.cells q.cells
   pub charged : HasCharged q.claims.known (charges_of request q.cells.moment request.descriptors r.statuses.items) p.cells q.cells
   pub seen : HasSights q.claims.known q.cells (sights_of request q.cells.moment request.descriptors r.statuses.items)
-  pub claims : HasClaimed (counters_named q.version.index request q.cells.moment) p.claims q.claims
+  pub claims : HasClaimed (counters_named q.version.index request q.cells.moment) q.cells.moment p.claims q.claims
   pub bare : q.cells.good ≡ []
   pub refused : q.refused ≡ p.refused

@@ -52,7 +52,7 @@ pub record HasPins (names : List CounterName) (spots : List Spot) (v w : CellVie
   pub count : length spots ≡ length names
   pub bound : Bound u.known (keys_at w.moment names) spots
   pub under : (i : ℕ) (s : Spot) → get_elem? spots i ≡ some s → claim_on s.cell w.good ≡ s.claim
-  pub claimed : HasClaimed (keys_at w.moment names) t u
+  pub claimed : HasClaimed (keys_at w.moment names) w.moment t u
 
 -- why they aren't
 abbrev pub HasPinCause : Bounds → List CounterName → CellView → AcquireFault → CellView → TokenView Claim → Type 0

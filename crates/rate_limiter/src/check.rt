@@ -12,7 +12,8 @@ use std::alloc::Global;
 use std::sync::Wait;
 
 impl<N: CellNaming> Limiter<N> {
-    ghost use Rattle.std.specs.Prelude.{◌≡◌};
+    ghost use Rattle.std.specs.Prelude.{◌≡◌, ◌≤◌, length};
+    ghost use Rattle.rate_types.specs.declared.limits.TheConstants.{MOST_DESCRIPTORS};
     ghost use Rattle.rate_limiter.specs.Passes.{bounds_of};
     ghost use Rattle.rate_limiter.specs.Refusals.{Checks};
 
@@ -28,11 +29,12 @@ impl<N: CellNaming> Limiter<N> {
     ) -> Result<Reply, CheckFault>
         requires pass { pass.old.limiter ≡ self.now.id }
         ensures pass { pass.new.limiter ≡ self.now.id }
+        ensures few { length request.now.descriptors ≤ MOST_DESCRIPTORS }
         ensures step { Checks (bounds_of N.setup.cells self.now) self.now request.now now pass.old result pass.new }
     {
+        let descriptors = request.descriptors();
         self.tick(pass, now);
         self.renew(rt, pass)?;
-        let descriptors = request.descriptors();
         let rules = find_rules(pass.version.index(), request.domain(), descriptors);
         match self.pin_counters(
             rt,

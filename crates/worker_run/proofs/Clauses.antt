@@ -1,8 +1,8 @@
 -- From the journals of workers to the records in the order of their lines.
-use Rattle.std.proofs.Common.{◌≡◌, ℕ, zero, suc, ◌-◌, ◌≤◌, ◌<◌, List, [], ◌∷◌, length, take, Some, None, Option, refl, sym, ap, ◌∙◌, subst, arith}
+use Rattle.std.proofs.Common.{◌≡◌, ℕ, ◌-◌, ◌≤◌, ◌<◌, List, length, take, Some, sym, ap, ◌∙◌, subst, arith}
 use Rattle.std.specs.Prelude.{slice_get}
 use Rattle.std.specs.List.{AllByRecursion}
-use mathlib.Core.Option.{some, some-injective, some-ne-none}
+use mathlib.Core.Option.{some, some-injective}
 use lib.ListN.{get_elem?}
 use Rattle.counter_directory.specs.Acquired.{Bounds}
 use Rattle.rate_limiter.specs.Passes.{LimiterView, PassView}
@@ -17,52 +17,8 @@ use Rattle.worker_run.specs.LineSteps.{LineStep, IsRecordStep}
 use Rattle.worker_run.specs.Journal.{Journal}
 use Rattle.worker_run.specs.Work.{HaveRun}
 use Rattle.worker_run.specs.Clauses.{AreInOrder}
+use Rattle.worker_run.proofs.Places.{all_of_each, at_each, below, here, same_some, take_at, take_length, to_elem}
 use Rattle.worker_run.proofs.Ordering.{step_at, at_least, in_turn, earlier_line, versions_rise, moments_rise}
-
--- lists read in two ways
-to_elem : {A : Type 0} (xs : List A) (i : ℕ) (x : A) → slice_get xs i ≡ Some x → get_elem? xs i ≡ some x
-to_elem [] i x e = absurd (none_some x e)
-  where
-    none_some : {A : Type 0} (y : A) → ◌≡◌ {A = Option A} None (Some y) → ⊥
-    none_some y h = cc
-to_elem (y ∷ ys) zero x e = ap some (item y x e)
-  where
-    item : {A : Type 0} (a c : A) → ◌≡◌ {A = Option A} (Some a) (Some c) → a ≡ c
-    item a c h = cc
-to_elem (y ∷ ys) (suc i) x e = to_elem ys i x e
-
-below : {A : Type 0} (xs : List A) (i : ℕ) (x : A) → get_elem? xs i ≡ some x → i < length xs
-below [] i x e = absurd (some-ne-none x (sym e))
-below (y ∷ ys) zero x e = omega arith
-below (y ∷ ys) (suc i) x e = let r = below ys i x e in omega arith
-
-here : {A : Type 0} (xs : List A) (i : ℕ) → i < length xs → (x : A) × (get_elem? xs i ≡ some x)
-here [] i h = absurd (omega arith)
-here (x ∷ xs) zero h = (x, refl)
-here (x ∷ xs) (suc i) h = here xs i (omega arith)
-
-take_length : {A : Type 0} (xs : List A) (i : ℕ) → i ≤ length xs → length (take i xs) ≡ i
-take_length xs zero h = refl
-take_length [] (suc i) h = absurd (omega arith)
-take_length (x ∷ xs) (suc i) h = ap suc (take_length xs i (omega arith))
-
-take_at : {A : Type 0} (xs : List A) (i j : ℕ) (x : A) → get_elem? (take i xs) j ≡ some x → (get_elem? xs j ≡ some x) × (j < i)
-take_at xs zero j x e = absurd (some-ne-none x (sym e))
-take_at [] (suc i) j x e = absurd (some-ne-none x (sym e))
-take_at (y ∷ ys) (suc i) zero x e = (e, omega arith)
-take_at (y ∷ ys) (suc i) (suc j) x e = let r = take_at ys i j x e in (r.0, omega (arith, r.1))
-
-all_of_each : {A : Type 0} (P : A → Type 0) (xs : List A) → ((i : ℕ) (x : A) → get_elem? xs i ≡ some x → P x) → AllByRecursion P xs
-all_of_each P [] h = tt
-all_of_each P (x ∷ xs) h = (h 0 x refl, all_of_each P xs (λ i y e. h (suc i) y e))
-
-at_each : {A : Type 0} (P : A → Type 0) (xs : List A) (i : ℕ) (x : A) → get_elem? xs i ≡ some x → AllByRecursion P xs → P x
-at_each P [] i x e h = absurd (some-ne-none x (sym e))
-at_each P (y ∷ ys) zero x e h = subst P (some-injective y x e) h.0
-at_each P (y ∷ ys) (suc i) x e h = at_each P ys i x e h.1
-
-same_some : (a c : ScriptLine) → ◌≡◌ {A = Option ScriptLine} (Some a) (Some c) → a ≡ c
-same_some a c h = cc
 
 kind_of : (b : Bounds) (limiter : LimiterView) (start : ℕ) (l : ScriptLine) (o : Outcome) (p q : PassView) → LineStep b limiter start l p o q → IsOfKind l o
 kind_of b limiter start (check request) (outcome.Checked answer) p q s = tt
@@ -74,7 +30,7 @@ kind_of b limiter start (tick now) (outcome.Ticked shown) p q s = s.0
 kind_of b limiter start (bad refused) (outcome.Bad shown) p q s = s.0
 kind_of b limiter start l o p q s = absurd s
 
-tick_least : (b : Bounds) (limiter : LimiterView) (start : ℕ) (l : ScriptLine) (o : Outcome) (p q : PassView) → LineStep b limiter start l p o q → tick_of l ≤ q.cells.moment
+pub tick_least : (b : Bounds) (limiter : LimiterView) (start : ℕ) (l : ScriptLine) (o : Outcome) (p q : PassView) → LineStep b limiter start l p o q → tick_of l ≤ q.cells.moment
 tick_least b limiter start (tick now) (outcome.Ticked shown) p q s = s.1.least
 tick_least b limiter start (check request) o p q s = omega arith
 tick_least b limiter start (reload config) o p q s = omega arith
@@ -114,7 +70,7 @@ module _ (b : Bounds) (limiter : LimiterView) (start : ℕ) (lines : List Script
       }
 
   -- the step of a record is that of the line at its place
-  line_is : (i : ℕ) (l : ScriptLine) (r : Record) → slice_get lines i ≡ Some l → get_elem? records i ≡ some r → (w : ℕ) (p q : PassView)
+  pub line_is : (i : ℕ) (l : ScriptLine) (r : Record) → slice_get lines i ≡ Some l → get_elem? records i ≡ some r → (w : ℕ) (p q : PassView)
       → (s : IsRecordStep b limiter start w lines p r q) → s.line ≡ l
   line_is i l r el er w p q s =
       let n = h.merges.numbered i r er in
@@ -136,7 +92,8 @@ module _ (b : Bounds) (limiter : LimiterView) (start : ℕ) (lines : List Script
         record {
           numbered = omega arith;
           by_worker = omega arith;
-          kind = subst (λ (x : ScriptLine). IsOfKind x r.outcome) (line_is i l r el e z.worker s.from s.to s.step) (kind_of b limiter start s.step.line r.outcome s.from s.to s.step.step);
+          kind = subst (λ (x : ScriptLine). IsOfKind x r.outcome) (line_is i l r el e z.worker s.from s.to s.step)
+              (kind_of b limiter start s.step.line r.outcome s.from s.to s.step.step);
         };
   }
 

@@ -1,6 +1,7 @@
 -- What workers that are done left together.
 use Rattle.std.proofs.Common.{◌≡◌, ℕ, zero, suc, ◌+◌, ◌-◌, ◌≤◌, ◌<◌, ◌==◌, List, [], ◌∷◌, ◌++◌, length, map, true, Some, None, Option, refl, sym, ap, ◌∙◌, subst, arith, zero-add, eq-eqb, ne_eqb}
-use Rattle.std.specs.Prelude.{All, slice_get}
+use Rattle.std.specs.Prelude.{All, IfOk, slice_get, slice_index_or, Result, Ok}
+use Rattle.rate_types.specs.declared.memory.OutOfMemory.{OutOfMemory}
 use Rattle.std.specs.List.{AllByRecursion}
 use mathlib.Core.Option.{some, some-injective, some-ne-none}
 use native.Mathlib.Decide.{ℕ_discrete}
@@ -80,12 +81,24 @@ module _ {N : Type 0} where
   all_ready limiter numbers n [] h = tt
   all_ready limiter numbers n (w ∷ ws) h = (h.1, all_ready limiter numbers (suc n) ws h.2)
 
-  pub done_more : (b : Bounds) (limiter : LimiterView) (start : ℕ) (lines : List ScriptLine) (numbers : TableId × ℕ) (ws : List (Worker N)) (vs : List (Worked N)) (w : Worker N)
-      (v : Worked N) → AreDone b limiter start lines numbers ws vs → IsDone b limiter start lines numbers w v → AreDone b limiter start lines numbers (ws ++ w ∷ []) (vs ++ v ∷ [])
-  done_more b limiter start lines numbers [] [] w v h d = (d, tt)
-  done_more b limiter start lines numbers [] (y ∷ ys) w v h d = absurd h
-  done_more b limiter start lines numbers (x ∷ xs) [] w v h d = absurd h
-  done_more b limiter start lines numbers (x ∷ xs) (y ∷ ys) w v h d = (h.0, done_more b limiter start lines numbers xs ys w v h.1 d)
+  -- workers that are done, where what each gave is there
+  pub all_done : (b : Bounds) (limiter : LimiterView) (start : ℕ) (lines : List ScriptLine) (numbers : TableId × ℕ) (ws : List (Worker N)) (vs : List (Worked N))
+      (rs : List (Result (Worked N) OutOfMemory)) → map Ok vs ≡ rs → length vs ≡ length ws
+      → ((i : ℕ) (d : Result (Worked N) OutOfMemory) (e : Worker N) → i < length ws
+      → IfOk (slice_index_or rs i d) (λ v. IsDone b limiter start lines numbers (slice_index_or ws i e) v))
+      → AreDone b limiter start lines numbers ws vs
+  all_done b limiter start lines numbers ws vs rs same many each =
+      done_each ws vs many (subst (λ l. (i : ℕ) (d : Result (Worked N) OutOfMemory) (e : Worker N) → i < length ws
+      → IfOk (slice_index_or l i d) (λ v. IsDone b limiter start lines numbers (slice_index_or ws i e) v)) (sym same) each)
+    where
+      done_each : (us : List (Worker N)) (xs : List (Worked N)) → length xs ≡ length us
+          → ((i : ℕ) (d : Result (Worked N) OutOfMemory) (e : Worker N) → i < length us
+          → IfOk (slice_index_or (map Ok xs) i d) (λ v. IsDone b limiter start lines numbers (slice_index_or us i e) v))
+          → AreDone b limiter start lines numbers us xs
+      done_each [] [] e h = tt
+      done_each [] (x ∷ xs) e h = absurd (omega (arith, e))
+      done_each (u ∷ us) [] e h = absurd (omega (arith, e))
+      done_each (u ∷ us) (x ∷ xs) e h = (h 0 (Ok x) u (omega arith), done_each us xs (omega (arith, e)) (λ i d f lt. h (suc i) d f (omega (arith, lt))))
 
   pub as_many : (b : Bounds) (limiter : LimiterView) (start : ℕ) (lines : List ScriptLine) (numbers : TableId × ℕ) (ws : List (Worker N)) (vs : List (Worked N))
       → AreDone b limiter start lines numbers ws vs → length vs ≡ length ws

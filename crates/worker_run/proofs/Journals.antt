@@ -17,6 +17,11 @@ journal_push b limiter start worker lines p [] mid r q h s =
     (q, subst (λ (x : PassView). IsRecordStep b limiter start worker lines x r q) h s, refl)
 journal_push b limiter start worker lines p (x ∷ xs) mid r q h s = (h.0, h.1, journal_push b limiter start worker lines h.0 xs mid r q h.2 s)
 
+-- what holds of all numbers holds of the last
+pub last_of : (P : ℕ → Type 0) (xs : List ℕ) (n : ℕ) → All P (xs ++ n ∷ []) → P n
+last_of P [] n h = h 0 n (omega arith)
+last_of P (x ∷ xs) n h = last_of P xs n (λ k d lt. h (suc k) d (omega (arith, lt)))
+
 -- in rising order the number at a place is at least the place
 rising_at : (xs : List ℕ) → IsRising xs → (i : ℕ) → i < length xs → i ≤ slice_index xs i
 rising_at xs rises zero h = omega arith

@@ -125,7 +125,7 @@ step_charges b limiter start (bad refused) (outcome.Bad shown) p q s = none_char
 step_charges b limiter start l o p q s = absurd s
 
 module _ (b : Bounds) (limiter : LimiterView) (start : ℕ) (lines : List ScriptLine) where
-  journal_claims : (w : ℕ) (p : PassView) (rs : List Record) (q : PassView) → Journal b limiter start w lines p rs q → IsPrefix p.claims.known q.claims.known
+  pub journal_claims : (w : ℕ) (p : PassView) (rs : List Record) (q : PassView) → Journal b limiter start w lines p rs q → IsPrefix p.claims.known q.claims.known
   journal_claims w p [] q h = prefix_same _ _ (ap (λ (x : PassView). x.claims.known) h)
   journal_claims w p (r ∷ rs) q h =
       prefix_on _ h.0.claims.known _ (step_claims b limiter start h.1.line r.outcome p h.0 h.1.step) (journal_claims w h.0 rs q h.2)
@@ -170,7 +170,7 @@ module _ (b : Bounds) (limiter : LimiterView) (start : ℕ) (lines : List Script
       named_append claims (map charge_of q.cells.charges) _ (cells.ledger_of (cells_of qs)) _ mine others
 
 -- sums over a ledger in any order
-sum_total : {A : Type 0} (f : A → ℕ) (xs : List A) → sum_by f xs ≡ total f xs
+pub sum_total : {A : Type 0} (f : A → ℕ) (xs : List A) → sum_by f xs ≡ total f xs
 sum_total f [] = refl
 sum_total f (x ∷ xs) = let s = sum_by-cons f x xs in let r = sum_total f xs in omega arith
 

@@ -51,7 +51,7 @@ module _ (b : Bounds) (limiter : LimiterView) (start worker : ℕ) (lines : List
     in_turn p (z ∷ zs) q h (suc i) (suc j) e r x y le = in_turn h.0 zs q h.2 i j e r x y (omega arith)
 
 -- the lines of a journal rise
-index_at : (rs : List Record) (k : ℕ) (r : Record) → get_elem? rs k ≡ some r → (slice_index (map (λ (x : Record). x.line - 1) rs) k ≡ r.line - 1) × (k < length (map (λ (x : Record). x.line - 1) rs))
+pub index_at : (rs : List Record) (k : ℕ) (r : Record) → get_elem? rs k ≡ some r → (slice_index (map (λ (x : Record). x.line - 1) rs) k ≡ r.line - 1) × (k < length (map (λ (x : Record). x.line - 1) rs))
 index_at [] k r e = absurd (some-ne-none r (sym e))
 index_at (x ∷ xs) zero r e = (ap (λ (y : Record). y.line - 1) (some-injective x r e), omega arith)
 index_at (x ∷ xs) (suc k) r e = let t = index_at xs k r e in (t.0, omega (arith, t.1))

@@ -1,5 +1,5 @@
 -- Each reply is that of the version that its record shows.
-use Rattle.std.proofs.Common.{◌≡◌, ℕ, zero, suc, ◌-◌, ◌<◌, List, [], ◌∷◌, ◌++◌, length, Some, None, Option, refl, sym, ap, ◌∙◌, subst, arith}
+use Rattle.std.proofs.Common.{◌≡◌, ℕ, zero, suc, ◌-◌, List, [], ◌∷◌, Some, None, Option, sym, ap, ◌∙◌, subst, arith}
 use Rattle.std.specs.Prelude.{slice_get}
 use Rattle.std.specs.List.{AllByRecursion}
 use mathlib.Core.List.{IsPrefix}
@@ -15,28 +15,22 @@ use Rattle.reply_text.specs.declared.record.Outcome.{Outcome}
 use Rattle.reply_text.specs.declared.record.Outcome.TheVariants as outcome
 use Rattle.script_run.specs.ScriptLine.{ScriptLine, check, reload, tick, bad}
 use Rattle.script_run.specs.Replies.{IsByRule, RepliesByRule}
-use Rattle.worker_run.specs.Clauses.{config_at, config_or}
 use Rattle.worker_run.specs.LineSteps.{LineStep}
 use Rattle.worker_run.specs.Journal.{Journal}
 use Rattle.worker_run.specs.Work.{HaveRun}
+use Rattle.worker_run.proofs.Places.{at_each, below, here, prefix_get, same_some, to_elem}
 use Rattle.worker_run.proofs.Ledger.{prefix_same, prefix_on, prefix_added}
 
-none_some : {A : Type 0} (y : A) → ◌≡◌ {A = Option A} None (Some y) → ⊥
-none_some y h = cc
+-- a configuration that is there, else an empty one
+abbrev pub config_or : Option (List DomainTree) → List DomainTree
+config_or None = []
+config_or (Some config) = config
 
-same_some : {A : Type 0} (x y : A) → ◌≡◌ {A = Option A} (Some x) (Some y) → x ≡ y
-same_some x y h = cc
+-- the configuration with this number, of a list of versions
+abbrev pub config_at : List (List DomainTree) → ℕ → List DomainTree
+config_at versions number = config_or (slice_get versions number)
 
--- what stands at a place of a prefix stands there
-append_at : {A : Type 0} (xs ys : List A) (i : ℕ) (x : A) → slice_get xs i ≡ Some x → slice_get (xs ++ ys) i ≡ Some x
-append_at [] ys i x e = absurd (none_some x e)
-append_at (y ∷ xs) ys zero x e = e
-append_at (y ∷ xs) ys (suc i) x e = append_at xs ys i x e
-
-prefix_at : {A : Type 0} (xs ys : List A) (i : ℕ) (x : A) → IsPrefix xs ys → slice_get xs i ≡ Some x → slice_get ys i ≡ Some x
-prefix_at xs ys i x p e = ap (λ l. slice_get l i) (sym p.1) ∙ append_at xs p.0 i x e
-
-step_versions : (b : Bounds) (limiter : LimiterView) (start : ℕ) (l : ScriptLine) (o : Outcome) (p q : PassView) → LineStep b limiter start l p o q
+pub step_versions : (b : Bounds) (limiter : LimiterView) (start : ℕ) (l : ScriptLine) (o : Outcome) (p q : PassView) → LineStep b limiter start l p o q
     → IsPrefix p.version.view.known q.version.view.known
 step_versions b limiter start (check request) (outcome.Checked answer) p q s = s.1.version.knows
 step_versions b limiter start (check request) (outcome.Full live held wanted) p q s = s.0.versions
@@ -51,7 +45,7 @@ step_versions b limiter start l o p q s = absurd s
 step_reply : (b : Bounds) (limiter : LimiterView) (start : ℕ) (l : ScriptLine) (o : Outcome) (p q : PassView) (versions : List (List DomainTree)) → LineStep b limiter start l p o q
     → IsPrefix q.version.view.known versions → IsByRule (config_at versions q.version.version) limiter.global_shadow l q.cells.moment o
 step_reply b limiter start (check request) (outcome.Checked answer) p q versions s known =
-    let at : slice_get versions q.version.version ≡ Some q.version.index = prefix_at q.version.view.known versions q.version.version q.version.index known s.1.version.at in
+    let at : slice_get versions q.version.version ≡ Some q.version.index = prefix_get q.version.view.known versions q.version.version q.version.index known s.1.version.at in
     let is : config_at versions q.version.version ≡ q.version.index = ap config_or at in
     let mine : IsReplyOf q.version.index request q.cells.moment limiter.global_shadow answer.over answer.statuses =
     subst (λ (a : Answer). IsReplyOf q.version.index request q.cells.moment limiter.global_shadow a.over a.statuses) (sym s.2) s.1.reply in
@@ -65,7 +59,7 @@ step_reply b limiter start (bad refused) (outcome.Bad shown) p q versions s know
 step_reply b limiter start l o p q versions s known = absurd s
 
 module _ (b : Bounds) (limiter : LimiterView) (start : ℕ) (lines : List ScriptLine) (versions : List (List DomainTree)) where
-  journal_versions : (w : ℕ) (p : PassView) (rs : List Record) (q : PassView) → Journal b limiter start w lines p rs q → IsPrefix p.version.view.known q.version.view.known
+  pub journal_versions : (w : ℕ) (p : PassView) (rs : List Record) (q : PassView) → Journal b limiter start w lines p rs q → IsPrefix p.version.view.known q.version.view.known
   journal_versions w p [] q h = prefix_same _ _ (ap (λ (x : PassView). x.version.view.known) h)
   journal_versions w p (r ∷ rs) q h =
       prefix_on _ h.0.version.view.known _ (step_versions b limiter start h.1.line r.outcome p h.0 h.1.step) (journal_versions w h.0 rs q h.2)
@@ -86,26 +80,6 @@ module _ (b : Bounds) (limiter : LimiterView) (start : ℕ) (lines : List Script
       let d = subst (λ (n : ℕ). IsByRule (config_at versions x.version) limiter.global_shadow l n x.outcome) (sym s.at) c in
       subst (λ (y : Record). IsByRule (config_at versions y.version) limiter.global_shadow l y.moment y.outcome) same d
   reply_at w p (x ∷ xs) q h known (suc k) r e l at = reply_at w h.0 xs q h.2 known k r e l at
-
-to_elem : {A : Type 0} (xs : List A) (i : ℕ) (x : A) → slice_get xs i ≡ Some x → get_elem? xs i ≡ some x
-to_elem [] i x e = absurd (none_some x e)
-to_elem (y ∷ ys) zero x e = ap some (same_some y x e)
-to_elem (y ∷ ys) (suc i) x e = to_elem ys i x e
-
-below : {A : Type 0} (xs : List A) (i : ℕ) (x : A) → get_elem? xs i ≡ some x → i < length xs
-below [] i x e = absurd (some-ne-none x (sym e))
-below (y ∷ ys) zero x e = omega arith
-below (y ∷ ys) (suc i) x e = let r = below ys i x e in omega arith
-
-here : {A : Type 0} (xs : List A) (i : ℕ) → i < length xs → (x : A) × (get_elem? xs i ≡ some x)
-here [] i h = absurd (omega arith)
-here (x ∷ xs) zero h = (x, refl)
-here (x ∷ xs) (suc i) h = here xs i (omega arith)
-
-at_each : {A : Type 0} (P : A → Type 0) (xs : List A) (i : ℕ) (x : A) → get_elem? xs i ≡ some x → AllByRecursion P xs → P x
-at_each P [] i x e h = absurd (some-ne-none x (sym e))
-at_each P (y ∷ ys) zero x e h = subst P (some-injective y x e) h.0
-at_each P (y ∷ ys) (suc i) x e h = at_each P ys i x e h.1
 
 -- each answered check is the reply of the version that its record shows
 pub replies_by_rule : (b : Bounds) (limiter : LimiterView) (start : ℕ) (lines : List ScriptLine) (before after : List PassView) (records : List Record) (versions : List (List DomainTree))

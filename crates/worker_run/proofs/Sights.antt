@@ -1,5 +1,5 @@
 -- What the records of workers show as seen are lawful sights in their ledger.
-use Rattle.std.proofs.Common.{◌≡◌, ℕ, zero, suc, ◌+◌, ◌-◌, ◌<◌, ◌==◌, ◌&&◌, List, [], ◌∷◌, ◌++◌, length, cond, Some, None, Option, refl, sym, ap, ◌∙◌, subst, arith}
+use Rattle.std.proofs.Common.{◌≡◌, ℕ, zero, suc, ◌+◌, ◌-◌, ◌==◌, ◌&&◌, List, [], ◌∷◌, ◌++◌, cond, Some, None, Option, refl, sym, ap, ◌∙◌, subst, arith}
 use Rattle.std.specs.Prelude.{slice_get, nat_lt}
 use Rattle.std.specs.List.{AllByRecursion}
 use mathlib.Core.List.{IsPrefix}
@@ -27,16 +27,17 @@ use Rattle.script_run.specs.Charges.{sights_shown, sights_of, ledger_of, SightsL
 use Rattle.worker_run.specs.LineSteps.{LineStep}
 use Rattle.worker_run.specs.Journal.{Journal}
 use Rattle.worker_run.specs.Work.{HaveRun}
+use Rattle.worker_run.proofs.Places.{at_each, below, here}
 use Rattle.worker_run.proofs.Gathering.{index_all}
 use Rattle.worker_run.proofs.Ledger.{prefix_self, prefix_same, prefix_on, claimed_grows, charges_all, step_claims, step_charges, all_named, same_sum, IsFrom, from_next, whole}
 
 -- what a pass had it has still
-record Extends (p q : PassView) : Type 0 where
+pub record Extends (p q : PassView) : Type 0 where
   pub claims : IsPrefix p.claims.known q.claims.known
   pub looks : IsPrefix p.cells.looks q.cells.looks
   pub charges : IsPrefix p.cells.charges q.cells.charges
 
-extends_on : (p q r : PassView) → Extends p q → Extends q r → Extends p r
+pub extends_on : (p q r : PassView) → Extends p q → Extends q r → Extends p r
 extends_on p q r a b = record {
   claims = prefix_on _ _ _ a.claims b.claims;
   looks = prefix_on _ _ _ a.looks b.looks;
@@ -53,7 +54,7 @@ step_looks b limiter start (tick now) (outcome.Ticked shown) p q s = prefix_same
 step_looks b limiter start (bad refused) (outcome.Bad shown) p q s = prefix_same _ _ (ap (λ (x : PassView). x.cells.looks) s.1)
 step_looks b limiter start l o p q s = absurd s
 
-step_extends : (b : Bounds) (limiter : LimiterView) (start : ℕ) (l : ScriptLine) (o : Outcome) (p q : PassView) → LineStep b limiter start l p o q → Extends p q
+pub step_extends : (b : Bounds) (limiter : LimiterView) (start : ℕ) (l : ScriptLine) (o : Outcome) (p q : PassView) → LineStep b limiter start l p o q → Extends p q
 step_extends b limiter start l o p q s = record {
   claims = step_claims b limiter start l o p q s;
   looks = step_looks b limiter start l o p q s;
@@ -68,13 +69,13 @@ value_grows claim value v w looks charges h =
     let f = ap (total (λ (x : cell_charge.Charge). one_if ((x.claim == claim) && (x.before + x.hits == value)))) charges.1 in
     omega arith
 
-sight_grows : (c d : List Claim) (v w : CellView) (x : Sight CounterKey) → IsPrefix c d → IsPrefix v.looks w.looks → IsPrefix v.charges w.charges → HasSight c v x → HasSight d w x
+pub sight_grows : (c d : List Claim) (v w : CellView) (x : Sight CounterKey) → IsPrefix c d → IsPrefix v.looks w.looks → IsPrefix v.charges w.charges → HasSight c v x → HasSight d w x
 sight_grows c d v w x claims looks charges h =
     let g = claimed_grows x.counter h.0 c d claims in
     let o = h.1 in
     (h.0, omega arith, value_grows h.0 x.seen v w looks charges h.2)
 
-sights_weaker : (P Q : Sight CounterKey → Type 0) → ((x : Sight CounterKey) → P x → Q x) → (xs : List (Sight CounterKey)) → AllByRecursion P xs → AllByRecursion Q xs
+pub sights_weaker : (P Q : Sight CounterKey → Type 0) → ((x : Sight CounterKey) → P x → Q x) → (xs : List (Sight CounterKey)) → AllByRecursion P xs → AllByRecursion Q xs
 sights_weaker P Q f [] h = tt
 sights_weaker P Q f (x ∷ xs) h = (f x h.0, sights_weaker P Q f xs h.1)
 
@@ -100,7 +101,7 @@ step_sights b limiter start (bad refused) (outcome.Bad shown) p q s = tt
 step_sights b limiter start l o p q s = absurd s
 
 module _ (b : Bounds) (limiter : LimiterView) (start : ℕ) (lines : List ScriptLine) (w : ℕ) where
-  journal_extends : (p : PassView) (rs : List Record) (q : PassView) → Journal b limiter start w lines p rs q → Extends p q
+  pub journal_extends : (p : PassView) (rs : List Record) (q : PassView) → Journal b limiter start w lines p rs q → Extends p q
   journal_extends p [] q h = subst (λ (x : PassView). Extends p x) (sym h) (record {
     claims = prefix_self p.claims.known;
     looks = prefix_self p.cells.looks;
@@ -126,7 +127,7 @@ module _ (b : Bounds) (limiter : LimiterView) (start : ℕ) (lines : List Script
   journal_sights p (x ∷ xs) q h (suc k) r e = journal_sights h.0 xs q h.2 k r e
 
 module _ (all : List ScriptLine) (P : Sight CounterKey → Type 0) where
-  sights_both : (xs ys : List (Sight CounterKey)) → AllByRecursion P xs → AllByRecursion P ys → AllByRecursion P (xs ++ ys)
+  pub sights_both : (xs ys : List (Sight CounterKey)) → AllByRecursion P xs → AllByRecursion P ys → AllByRecursion P (xs ++ ys)
   sights_both [] ys h k = k
   sights_both (x ∷ xs) ys h k = (h.0, sights_both xs ys h.1 k)
 
@@ -141,21 +142,6 @@ module _ (all : List ScriptLine) (P : Sight CounterKey → Type 0) where
       let first : sights_shown l r.moment r.outcome ≡ sights_by all r = ap (λ (o : Option ScriptLine). found_sights o r) (sym (h.lines 0 l refl) ∙ ap (slice_get all) at) in
       sights_both (sights_shown l r.moment r.outcome) (sights_of ls rs) (subst (λ (xs : List (Sight CounterKey)). AllByRecursion P xs) (sym first) (each 0 r refl))
       (in_sights (suc n) ls rs (from_next all n l ls r rs h) (λ i s e. each (suc i) s e))
-
-at_each : {A : Type 0} (P : A → Type 0) (xs : List A) (i : ℕ) (x : A) → get_elem? xs i ≡ some x → AllByRecursion P xs → P x
-at_each P [] i x e h = absurd (some-ne-none x (sym e))
-at_each P (y ∷ ys) zero x e h = subst P (some-injective y x e) h.0
-at_each P (y ∷ ys) (suc i) x e h = at_each P ys i x e h.1
-
-below : {A : Type 0} (xs : List A) (i : ℕ) (x : A) → get_elem? xs i ≡ some x → i < length xs
-below [] i x e = absurd (some-ne-none x (sym e))
-below (y ∷ ys) zero x e = omega arith
-below (y ∷ ys) (suc i) x e = let r = below ys i x e in omega arith
-
-here : {A : Type 0} (xs : List A) (i : ℕ) → i < length xs → (x : A) × (get_elem? xs i ≡ some x)
-here [] i h = absurd (omega arith)
-here (x ∷ xs) zero h = (x, refl)
-here (x ∷ xs) (suc i) h = here xs i (omega arith)
 
 module _ (b : Bounds) (limiter : LimiterView) (start : ℕ) (lines : List ScriptLine) (before after : List PassView) (records : List Record)
     (h : HaveRun b limiter start lines before after records) (claims : List Claim) (none : AllByRecursion (λ (p : PassView). p.cells.charges ≡ []) before)

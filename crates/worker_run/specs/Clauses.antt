@@ -1,6 +1,7 @@
 -- What the records of workers say before their limiter is closed.
-use Rattle.std.specs.Prelude.{ℕ, ◌≤◌, List, [], slice_get, Option, Some, None}
+use Rattle.std.specs.Prelude.{ℕ, ◌≤◌, List, [], ◌∷◌}
 use Rattle.descriptor_tree.specs.Trees.{DomainTree}
+use Rattle.rate_limiter.specs.Passes.{PassView}
 use Rattle.reply_text.specs.declared.record.Record.{Record}
 use Rattle.script_run.specs.ScriptLine.{ScriptLine}
 use Rattle.script_run.specs.Lines.{EachLine, IsAtLeastEarlier}
@@ -16,11 +17,7 @@ pub record AreInOrder (workers start : ℕ) (lines : List ScriptLine) (records :
   pub moments_never_fall : EachLine lines records (λ before earlier l r. IsAtLeastEarlier (λ s. s.moment) earlier r)
   pub moments_least : EachLine lines records (λ before earlier l r. (start ≤ r.moment) × (tick_of l ≤ r.moment))
 
--- a configuration that is there, else an empty one
-abbrev pub config_or : Option (List DomainTree) → List DomainTree
-config_or None = []
-config_or (Some config) = config
-
--- the configuration with this number, of a list of versions
-abbrev pub config_at : List (List DomainTree) → ℕ → List DomainTree
-config_at versions number = config_or (slice_get versions number)
+-- the version at which the first of these passes is
+abbrev pub first_version : List PassView → List DomainTree
+first_version [] = []
+first_version (p ∷ ps) = p.version.index

@@ -1,6 +1,7 @@
 -- What running one line does to a pass, and what the line's record shows of it.
-use Rattle.std.specs.Prelude.{◌≡◌, ℕ, ◌-◌, ◌≤◌, List, ◌++◌, map, slice_get, Some, Err, ⊤}
+use Rattle.std.specs.Prelude.{◌≡◌, ℕ, ◌-◌, ◌≤◌, List, ◌++◌, length, map, slice_get, Some, Err, ⊤}
 use Rattle.rate_types.specs.Ledger.{Charge}
+use Rattle.rate_types.specs.declared.limits.TheConstants.{MOST_DESCRIPTORS}
 use Rattle.rls_core.specs.Reply.{charges_of}
 use Rattle.rls_core.specs.declared.reply.Reply.{Reply}
 use Rattle.rls_core.specs.declared.fault.CheckFault.TheVariants as check_fault
@@ -19,15 +20,18 @@ use Rattle.reply_text.specs.declared.record.Outcome.{Outcome}
 use Rattle.reply_text.specs.declared.record.Outcome.TheVariants as outcome
 use Rattle.script_run.specs.ScriptLine.{ScriptLine, check, reload, tick, bad}
 
--- A check is a step of the pass that offers the start, or is refused with its cause. A reload installs its configuration as the pass's
--- version, or there are as many versions as there may be. A tick offers its number. A bad line does nothing.
+-- A check, of no more descriptors than a request may have, is a step of the pass that offers the start, or is refused with its cause. A
+-- reload installs its configuration as the pass's version, or there are as many versions as there may be. A tick offers its number. A bad
+-- line does nothing.
 abbrev pub LineStep : Bounds → LimiterView → ℕ → ScriptLine → PassView → Outcome → PassView → Type 0
 LineStep b limiter start (check request) p (outcome.Checked answer) q =
     (reply : Reply) × IsPassStep limiter request start p reply q × (answer ≡ record { over = reply.over; statuses = reply.statuses.items })
+    × (length request.descriptors ≤ MOST_DESCRIPTORS)
 LineStep b limiter start (check request) p (outcome.Full live held wanted) q =
     HasRefused start p q × ((moment : ℕ) × HasCause b request p (check_fault.CountersFull moment live held wanted) q)
+    × (length request.descriptors ≤ MOST_DESCRIPTORS)
 LineStep b limiter start (check request) p (outcome.Spent claims wanted) q =
-    HasRefused start p q × HasCause b request p (check_fault.ClaimsSpent claims wanted) q
+    HasRefused start p q × HasCause b request p (check_fault.ClaimsSpent claims wanted) q × (length request.descriptors ≤ MOST_DESCRIPTORS)
 LineStep b limiter start (reload config) p outcome.Installed q =
     KeepsAllButVersion p q × ((number : ℕ) × HasInstalled config number p.version q.version)
 LineStep b limiter start (reload config) p (outcome.VersionsFull versions) q =

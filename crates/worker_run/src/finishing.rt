@@ -1,35 +1,35 @@
 // A script run to its end, and its limiter closed.
-ghost use Rattle.std.specs.Prelude.{◌≡◌, ◌≤◌, [], All, IfOk, length, map, vec_len};
-ghost use Rattle.rate_types.specs.declared.limits.TheConstants.{MOST_LINES, MOST_WORKERS};
-ghost use Rattle.script_run.specs.Charges.{ChargesFormLedger, SightsLawful};
+ghost use Rattle.std.specs.Prelude.{◌≡◌, ◌≤◌, All, IfOk, length, map, vec_len};
+ghost use Rattle.rate_types.specs.declared.limits.TheConstants.{MOST_CLAIMS, MOST_LINES, MOST_WORKERS};
+ghost use Rattle.counter_cells.specs.Steps.{new_passes};
+ghost use Rattle.rate_limiter.specs.Passes.{IsNewPass};
+ghost use Rattle.script_run.specs.Run.{IsRun};
+ghost use Rattle.script_run.specs.Totals.{AreTotalsOf};
 ghost use Rattle.script_run.specs.Views.{line_view};
-ghost use Rattle.script_run.specs.Replies.{RepliesByRule};
-ghost use Rattle.worker_run.specs.Clauses.{AreInOrder, config_at};
+ghost use Rattle.worker_run.specs.Clauses.{first_version};
 
 use crate::gate::Gate;
 use crate::running::run_lines;
-use config_versions::VersionLog;
 use counter_cells::CellNaming;
 use rate_limiter::{Limiter, Pass};
 use rate_types::{OutOfMemory, Seconds};
 use reply_text::Records;
 use rls_core::Totals;
-use rule_lookup::Index;
 use script_run::Line;
 use std::alloc::Global;
 use std::sync::Wait;
+use std::thread::Threads;
 
 /// The records of a script in the order of its lines, and what was charged in the windows that are open at the end.
 #[derive(Drop)]
 pub struct Finished {
     pub records: Records,
     pub totals: Totals,
-    /// All versions, for contracts alone.
-    pub versions: VersionLog<Index>,
 }
 
-/// Runs the lines of a script on all passes of a limiter, which have charged nothing yet, and closes the limiter.
-pub fn run_script<N: CellNaming, G: Gate<N>, R: Wait>(
+/// Runs the lines of a script on all passes of a limiter, which have done nothing yet, each in a thread of its own, and closes the
+/// limiter. The records are those of a lawful run.
+pub fn run_script<N: CellNaming + Send + Sync, G: Gate, R: Threads + Wait + Sync>(
     rt: &R,
     alloc: Global,
     limiter: Limiter<N>,
@@ -39,22 +39,21 @@ pub fn run_script<N: CellNaming, G: Gate<N>, R: Wait>(
     gate: &G,
 ) -> Result<Finished, OutOfMemory>
     requires passes { All (λ p. p.limiter ≡ limiter.id) passes.items }
-    requires fresh { All (λ p. p.cells.charges ≡ []) passes.items }
-    requires started { All (λ p. start ≤ p.cells.moment) passes.items }
+    requires fresh { All (λ p. IsNewPass (first_version passes.items) start p) passes.items }
+    requires cells { map (λ p. p.cells) passes.items ≡ new_passes (vec_len passes) start }
+    requires start { start ≡ N.setup.start }
+    requires claims_max { MOST_CLAIMS ≤ limiter.claims_max }
     requires every { vec_len passes ≡ limiter.passes }
     requires workers { (1 ≤ vec_len passes) × (vec_len passes ≤ MOST_WORKERS) }
     requires lines { length lines.now ≤ MOST_LINES }
-    ensures records { IfOk result (λ f. AreInOrder (vec_len passes) start (map line_view lines.now) f.records) }
-    ensures charges_form_ledger { IfOk result (λ f. ChargesFormLedger (map line_view lines.now) f.records) }
-    ensures replies_by_rule { IfOk result
-        (λ f. RepliesByRule (config_at f.versions) limiter.global_shadow (map line_view lines.now) f.records) }
-    ensures sights_lawful { IfOk result (λ f. SightsLawful (map line_view lines.now) f.records) }
+    ensures run { IfOk result (λ f. IsRun (first_version passes.items) (vec_len passes) N.setup.cells start limiter.global_shadow
+        (map line_view lines.now) f.records) }
+    ensures totals { IfOk result (λ f. AreTotalsOf start (map line_view lines.now) f.records f.totals) }
 {
     let (records, passes) = run_lines(rt, alloc, &limiter, passes, lines, start, gate)?;
     let closed = limiter.close(alloc, passes)?;
     Ok(Finished {
         records,
         totals: closed.totals,
-        versions: closed.versions,
     })
 }

@@ -3,14 +3,15 @@
 //! Each [`Worker`] owns a pass and a drawer of line numbers. It draws a line, runs it through its pass, and writes the record
 //! into its own journal, until there are no more lines ([`work`]). A [`Gate`] is told before and after each line.
 //!
-//! [`run_lines`] runs a worker for each pass, and puts the records of all journals in the order of their lines.
+//! [`run_lines`] runs a worker for each pass, each in a thread of its own where threads can be made, joins them, and puts the
+//! records of all journals in the order of their lines.
 //!
 //! The promise of a worker (`specs/Journal.antt`): the records of its journal are, in order, the steps of its pass at the lines
 //! that it drew. None of it speaks of other workers. The promise of a run (`specs/Work.antt`, `specs/Clauses.antt`): each line has
 //! one record, by one of the workers, and along a worker's records versions and moments never fall. [`run_script`] closes the limiter:
-//! then the charges of all answered checks form one lawful ledger, and each reply is that of the version that its record shows.
+//! then the records are those of a lawful run (`script_run`'s `specs/Run.antt`), and the totals are those of the records.
 //!
-//! The limits: 1 to 64 workers, 1,048,576 lines. The workers run one after the other; the contract doesn't say so.
+//! The limits: 1 to 64 workers, 1,048,576 lines. No clause says that workers run beside one another: a test shows it.
 #![tactic(auto)]
 
 mod finishing;

@@ -7,7 +7,7 @@ ghost use Rattle.script_run.specs.Views.{line_view};
 ghost use Rattle.worker_run.specs.Work.{HaveRun};
 ghost use Rattle.worker_run.specs.Clauses.{AreInOrder};
 ghost use Rattle.std.specs.List.{AllByRecursion};
-ghost use Rattle.worker_run.specs.Parts.{IsReady, AreWorkers, AreDone};
+ghost use Rattle.worker_run.specs.Parts.{IsReady, IsDone, AreWorkers, AreDone};
 
 use crate::gate::Gate;
 use crate::working::{Shared, Worked, Worker, work};
@@ -17,8 +17,9 @@ use rate_limiter::{Limiter, Pass};
 use rate_types::{OutOfMemory, Seconds};
 use reply_text::Records;
 use script_run::{Line, merge};
-use std::alloc::Global;
+use std::alloc::{AllocError, Global};
 use std::sync::Wait;
+use std::thread::{Threads, map_vec};
 
 // A worker for each pass, numbered from 0.
 fn workers_of<N: CellNaming>(
@@ -53,8 +54,49 @@ fn workers_of<N: CellNaming>(
     Ok(workers)
 }
 
-// Runs each worker, one after the other.
-fn work_all<N: CellNaming, G: Gate<N>, R: Wait>(
+// Runs each worker in a thread of its own, and joins them.
+fn work_each<N: CellNaming + Send + Sync, G: Gate, R: Threads + Wait + Sync>(
+    rt: &R,
+    alloc: Global,
+    run: &Shared<'_, N, G>,
+    workers: Vec<Worker<N>>,
+) -> Result<Vec<Result<Worked<N>, OutOfMemory>>, AllocError>
+    requires lines { (length run.now.lines.now ≤ MOST_LINES) × (lines_of run.now.numbers.now ≡ length run.now.lines.now) }
+    requires ready { All (λ w. IsReady run.now.limiter.now.id (numbers_id run.now.numbers.now) w) workers.items }
+    ensures len { IfOk result (λ v. vec_len v ≡ vec_len workers) }
+    ensures each { IfOk result (λ v. (i : ℕ) (d : _) (e : _) → i < vec_len workers → IfOk (slice_index_or v.items i d)
+        (λ w. IsDone (bounds_of N.setup.cells run.now.limiter.now) run.now.limiter.now run.now.start (map line_view run.now.lines.now)
+        (numbers_id run.now.numbers.now) (slice_index_or workers.items i e) w)) }
+{
+    map_vec(
+        rt,
+        workers,
+        &|worker: Worker<N>| -> Result<Worked<N>, OutOfMemory>
+            requires { (length run.now.lines.now ≤ MOST_LINES) × (lines_of run.now.numbers.now ≡ length run.now.lines.now)
+                × IsReady run.now.limiter.now.id (numbers_id run.now.numbers.now) worker }
+            ensures { IfOk result (λ w. IsDone (bounds_of N.setup.cells run.entry.now.limiter.now) run.entry.now.limiter.now run.entry.now.start
+                (map line_view run.entry.now.lines.now) (numbers_id run.entry.now.numbers.now) worker w) }
+        { work(rt, alloc, run, worker) },
+    )
+}
+
+// The workers, where each is done.
+fn done_all<N: CellNaming>(
+    alloc: Global,
+    done: Vec<Result<Worked<N>, OutOfMemory>>,
+) -> Result<Vec<Worked<N>>, OutOfMemory>
+    ensures same { IfOk result (λ v. map Ok v.items ≡ done.items) }
+{
+    let mut workers = Vec::with_capacity(alloc, done.len())?;
+    for worker in done {
+        let worker = worker?;
+        workers.push_reserved(worker);
+    }
+    Ok(workers)
+}
+
+// Runs the workers side by side.
+fn work_all<N: CellNaming + Send + Sync, G: Gate, R: Threads + Wait + Sync>(
     rt: &R,
     alloc: Global,
     run: &Shared<'_, N, G>,
@@ -65,12 +107,9 @@ fn work_all<N: CellNaming, G: Gate<N>, R: Wait>(
     ensures done { IfOk result (λ v. AreDone (bounds_of N.setup.cells run.now.limiter.now) run.now.limiter.now run.now.start
         (map line_view run.now.lines.now) (numbers_id run.now.numbers.now) workers.items v.items) }
 {
-    let mut done = Vec::with_capacity(alloc, workers.len())?;
-    for worker in workers {
-        let worked = work(rt, alloc, run, worker)?;
-        done.push_reserved(worked);
-    }
-    Ok(done)
+    let done = work_each(rt, alloc, run, workers)?;
+    let workers = done_all(alloc, done)?;
+    Ok(workers)
 }
 
 /// The passes, the drawers and the journals of workers, each in order.
@@ -106,9 +145,9 @@ fn parts_of<N: CellNaming>(alloc: Global, workers: Vec<Worked<N>>) -> Result<Par
     })
 }
 
-/// Runs the lines of a script on these passes, a worker for each: the records in the order of the lines, and the passes. Checks offer
-/// `start`, ticks their number.
-pub fn run_lines<N: CellNaming, G: Gate<N>, R: Wait>(
+/// Runs the lines of a script on these passes, each in a thread of its own: the records in the order of the lines, and the passes.
+/// Checks offer `start`, ticks their number.
+pub fn run_lines<N: CellNaming + Send + Sync, G: Gate, R: Threads + Wait + Sync>(
     rt: &R,
     alloc: Global,
     limiter: &Limiter<N>,

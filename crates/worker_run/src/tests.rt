@@ -4,10 +4,11 @@ ghost use Rattle.descriptor_tree.specs.Trees.{node_view};
 ghost use Rattle.descriptor_tree.specs.Config.{IsWellFormedBranch};
 ghost use Rattle.counter_cells.specs.Opened.{table_of, setup_of};
 
-use crate::{Open, run_script};
+use crate::{Gate, Open, run_script};
 use counter_cells::{CellNaming, OpenedCells};
 use descriptor_tree::{Config, Forest, Node, Policy, Texts, Tree};
-use rate_limiter::{Limiter, Limits};
+use rate_limiter::{Limiter, Limits, Pass};
+use rate_types::limits::MOST_CLAIMS;
 use rate_types::{Descriptor, Entries, Entry, Place, Refused, Request, Seconds, Text, Unit};
 use reply_text::{Outcome, Record, Records};
 use rls_core::{Count, Status};
@@ -17,8 +18,11 @@ use std::hash::RandomState;
 use std::marker::Brand;
 use std::process::Abort;
 use std::random::RandomSource;
+use std::sync::atomic::{AtomicU64, Ordering};
 use std::sync::{Arc, Wait};
 use std::test::Fail;
+use std::thread;
+use std::thread::Threads;
 
 // The node that limits each value of key `k` to so many hits a minute.
 fn node(alloc: Global, limit: u32) -> Result<Node, Fail>
@@ -103,21 +107,24 @@ fn shown(record: &Record) -> u64 {
     }
 }
 
-fn run<N: CellNaming, R: Abort + RandomSource + Wait>(
+// The records of these lines, which charge so much on their one counter that is charged.
+fn run<N: CellNaming + Send + Sync, G: Gate, R: Abort + RandomSource + Threads + Wait + Sync>(
     rt: &R,
     alloc: Global,
     opened: OpenedCells,
+    lines: Vec<Line>,
+    charged: u64,
+    gate: &G,
 ) -> Result<Records, Fail>
     requires name { (table_of opened ≡ N.table) × (setup_of opened ≡ N.setup) }
     requires passes { (1 ≤ N.setup.passes) × (N.setup.passes ≤ 2) × (N.setup.start ≡ 0) }
 {
     let limits = Limits {
-        claims_max: 100,
+        claims_max: MOST_CLAIMS,
         global_shadow: false,
     };
     let seed = RandomState::new(rt)?;
     let (limiter, passes) = Limiter::<N>::make(alloc, config(alloc, 1)?, opened, limits, seed)?;
-    let lines = script(alloc)?;
     if lines.len() > 100 {
         return Err(Fail::new("a short script"));
     }
@@ -128,19 +135,19 @@ fn run<N: CellNaming, R: Abort + RandomSource + Wait>(
         passes,
         lines.as_slice(),
         Seconds::capped(0),
-        &Open,
+        gate,
     )?;
     let [total] = finished.totals.items() else {
         return Err(Fail::new("one total"));
     };
-    assert_eq!(rt; total.charged, 3);
+    assert_eq!(rt; total.charged, charged);
     Ok(finished.records)
 }
 
 #[test]
 fn one_worker_runs_line_after_line(rt: HostRuntime) -> Result<(), Fail> {
     let opened = OpenedCells::make(rt.alloc(), 8, 1, Seconds::capped(0))?;
-    let records = run::<Brand, _>(&rt, rt.alloc(), opened)?;
+    let records = run::<Brand, _, _>(&rt, rt.alloc(), opened, script(rt.alloc())?, 3, &Open)?;
     let records = records.items();
     assert_eq!(rt; records.len(), 6);
     for (i, (moment, version, outcome)) in [
@@ -166,11 +173,70 @@ fn one_worker_runs_line_after_line(rt: HostRuntime) -> Result<(), Fail> {
 #[test]
 fn two_workers_run_each_line_once(rt: HostRuntime) -> Result<(), Fail> {
     let opened = OpenedCells::make(rt.alloc(), 8, 2, Seconds::capped(0))?;
-    let records = run::<Brand, _>(&rt, rt.alloc(), opened)?;
-    let mut sum = 0u64;
-    for found in records.items() {
-        sum = sum.wrapping_add(shown(found));
+    let mut lines = Vec::new(rt.alloc());
+    lines.push(check(rt.alloc())?)?;
+    lines.push(Line::Reload(config(rt.alloc(), 5)?))?;
+    lines.push(check(rt.alloc())?)?;
+    let records = run::<Brand, _, _>(&rt, rt.alloc(), opened, lines, 2, &Open)?;
+    let [first, reload, last] = records.items() else {
+        return Err(Fail::new("three records"));
+    };
+    assert_eq!(rt; shown(reload), 100);
+    assert_eq!(rt; shown(first).min(shown(last)), 0);
+    assert_eq!(rt; shown(first).max(shown(last)), 1);
+    Ok(())
+}
+
+// How often line 1 asks whether line 2 is done.
+const TURNS: u32 = 1_000_000;
+
+// Holds line 1 until line 2 is done, and counts what it is told of the two: the first line counts 1, the second 1,000.
+#[derive(Drop)]
+struct SecondLineFirst {
+    begun: AtomicU64,
+    done: AtomicU64,
+}
+
+fn weight(line: u32) -> u64 {
+    if line == 1 { 1 } else { 1_000 }
+}
+
+impl Gate for SecondLineFirst {
+    fn before(&self, _: u32, line: u32) {
+        self.begun.fetch_add(weight(line), Ordering::SeqCst);
+        if line != 1 {
+            return;
+        }
+        for _ in 0..TURNS {
+            if self.done.load(Ordering::SeqCst) != 0 {
+                return;
+            }
+            thread::yield_now();
+        }
     }
-    assert_eq!(rt; sum, 65 + 1 + 2 + 100 + 201);
+
+    fn after<N: CellNaming>(&self, _: u32, _: &Line, shown: &Record, _: &Pass<N>) {
+        self.done.fetch_add(weight(shown.line), Ordering::SeqCst);
+    }
+}
+
+#[test]
+fn two_workers_run_side_by_side(rt: HostRuntime) -> Result<(), Fail> {
+    let opened = OpenedCells::make(rt.alloc(), 8, 2, Seconds::capped(0))?;
+    let mut lines = Vec::new(rt.alloc());
+    lines.push(check(rt.alloc())?)?;
+    lines.push(check(rt.alloc())?)?;
+    let gate = SecondLineFirst {
+        begun: AtomicU64::new(0),
+        done: AtomicU64::new(0),
+    };
+    let records = run::<Brand, _, _>(&rt, rt.alloc(), opened, lines, 2, &gate)?;
+    let [first, second] = records.items() else {
+        return Err(Fail::new("two records"));
+    };
+    assert_eq!(rt; (shown(first), shown(second)), (1, 0));
+    assert!(rt; first.worker != second.worker, "two workers");
+    assert_eq!(rt; gate.begun.load(Ordering::SeqCst), 1_001);
+    assert_eq!(rt; gate.done.load(Ordering::SeqCst), 1_001);
     Ok(())
 }

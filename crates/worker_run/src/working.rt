@@ -36,7 +36,7 @@ pub struct Worked<N: CellNaming> {
 }
 
 /// What all workers of a run share.
-pub struct Shared<'a, N: CellNaming, G: Gate<N>> {
+pub struct Shared<'a, N: CellNaming, G: Gate> {
     pub limiter: &'a Limiter<N>,
     pub numbers: &'a LineNumbers,
     pub lines: &'a [Line],
@@ -45,7 +45,7 @@ pub struct Shared<'a, N: CellNaming, G: Gate<N>> {
 }
 
 // Runs the line with this number, counted from 0, and answers its record.
-fn run_drawn<N: CellNaming, G: Gate<N>, R: Wait>(
+fn run_drawn<N: CellNaming, G: Gate, R: Wait>(
     rt: &R,
     alloc: Global,
     run: &Shared<'_, N, G>,
@@ -77,7 +77,7 @@ fn run_drawn<N: CellNaming, G: Gate<N>, R: Wait>(
 }
 
 /// Runs the lines that the worker draws, until there are no more.
-pub fn work<N: CellNaming, G: Gate<N>, R: Wait>(
+pub fn work<N: CellNaming, G: Gate, R: Wait>(
     rt: &R,
     alloc: Global,
     run: &Shared<'_, N, G>,

@@ -1,34 +1,39 @@
-use Rattle.std.proofs.Common.{◌≡◌, [], map}
+use Rattle.std.proofs.Common.{◌∙◌, ℕ, map, sym, ap, subst, arith}
+use Rattle.std.proofs.lemmas.List.{length-map}
 use mathlib.Core.List.{IsPrefix}
-use Rattle.rate_limiter.specs.Passes.{bounds_of, PassView}
+use Rattle.counter_cells.specs.Closing.{ticks_of, TicksAreLawful}
+use Rattle.counter_cells.specs.Steps.{new_passes}
+use Rattle.rate_limiter.specs.Closing.{cells_of}
+use Rattle.rate_limiter.specs.Passes.{IsNewPass, PassView}
 use Rattle.script_run.specs.Views.{line_view}
+use Rattle.worker_run.specs.Clauses.{first_version}
 use Rattle.worker_run.proofs.Gathering.{index_all}
-use Rattle.worker_run.proofs.Ledger.{charges_form_ledger}
-use Rattle.worker_run.proofs.Sights.{sights_lawful}
-use Rattle.worker_run.proofs.Replying.{replies_by_rule}
+use Rattle.worker_run.proofs.Whole.{is_run, totals}
 use Rattle.worker_run.proofs.finishing.run_script.Goals as goal
 
-pub returns-clause-charges_form_ledger : goal.returns-clause-charges_form_ledger
-returns-clause-charges_form_ledger g c =
-    let claims = c.in_ok-closed.closed.claims in
-    charges_form_ledger (bounds_of g.N.CellNaming.setup.cells c.args.limiter) c.args.limiter c.args.start (map line_view c.args.lines.now) c.args.passes.items
-    c.in_ok-records.passes.items c.in_ok-records.records c.in_ok-records.ensures.run claims
-    (index_all (λ (p : PassView). p.cells.charges ≡ []) c.args.passes.items c.requires.fresh)
-    (index_all (λ (p : PassView). IsPrefix p.claims.known claims) c.in_ok-records.passes.items c.in_ok-closed.ensures.claims_known)
-    c.in_ok-closed.ensures.ledger
+pub returns-clause-run : goal.returns-clause-run
+returns-clause-run g c =
+    let passes = c.args.passes.items in
+    let after = c.in_ok-records.passes.items in
+    let closed = c.in_ok-closed.closed in
+    let told = c.in_ok-closed.ensures in
+    is_run g.N.CellNaming.setup.cells c.args.limiter c.args.start (map line_view c.args.lines.now) passes after c.in_ok-records.records c.in_ok-records.ensures.run
+    (first_version passes) (index_all (λ (p : PassView). IsNewPass (first_version passes) c.args.start p) passes c.requires.fresh)
+    (c.requires.cells ∙ ap (λ (n : ℕ). new_passes n c.args.start) c.args.passes.ok.0) closed.moment
+    (subst (λ (n : ℕ). TicksAreLawful n closed.moment (ticks_of (cells_of after))) (sym c.requires.start) told.ticks) closed.claims
+    (index_all (λ (p : PassView). IsPrefix p.claims.known closed.claims) after told.claims_known) _ (sym c.args.passes.ok.0) c.requires.every c.requires.workers.0
+    c.in_ok-records.ensures.records told.claims_owned told.claims closed.versions
+    (index_all (λ (p : PassView). IsPrefix p.version.view.known closed.versions) after told.versions_known) told.versions_owned told.ledger told.sights
+    (let e = length-map c.args.lines.now line_view in let l = c.requires.lines in omega arith) c.requires.claims_max
 
-pub returns-clause-sights_lawful : goal.returns-clause-sights_lawful
-returns-clause-sights_lawful g c =
-    let claims = c.in_ok-closed.closed.claims in
-    sights_lawful (bounds_of g.N.CellNaming.setup.cells c.args.limiter) c.args.limiter c.args.start (map line_view c.args.lines.now) c.args.passes.items
-    c.in_ok-records.passes.items c.in_ok-records.records c.in_ok-records.ensures.run claims
-    (index_all (λ (p : PassView). p.cells.charges ≡ []) c.args.passes.items c.requires.fresh)
-    (index_all (λ (p : PassView). IsPrefix p.claims.known claims) c.in_ok-records.passes.items c.in_ok-closed.ensures.claims_known)
-    c.in_ok-closed.ensures.sights
-
-pub returns-clause-replies_by_rule : goal.returns-clause-replies_by_rule
-returns-clause-replies_by_rule g c =
-    let versions = c.in_ok-closed.closed.versions in
-    replies_by_rule (bounds_of g.N.CellNaming.setup.cells c.args.limiter) c.args.limiter c.args.start (map line_view c.args.lines.now) c.args.passes.items
-    c.in_ok-records.passes.items c.in_ok-records.records versions c.in_ok-records.ensures.run
-    (index_all (λ (p : PassView). IsPrefix p.version.view.known versions) c.in_ok-records.passes.items c.in_ok-closed.ensures.versions_known)
+pub returns-clause-totals : goal.returns-clause-totals
+returns-clause-totals g c =
+    let passes = c.args.passes.items in
+    let after = c.in_ok-records.passes.items in
+    let closed = c.in_ok-closed.closed in
+    let told = c.in_ok-closed.ensures in
+    totals g.N.CellNaming.setup.cells c.args.limiter c.args.start (map line_view c.args.lines.now) passes after c.in_ok-records.records c.in_ok-records.ensures.run
+    (first_version passes) (index_all (λ (p : PassView). IsNewPass (first_version passes) c.args.start p) passes c.requires.fresh)
+    (c.requires.cells ∙ ap (λ (n : ℕ). new_passes n c.args.start) c.args.passes.ok.0) closed.moment
+    (subst (λ (n : ℕ). TicksAreLawful n closed.moment (ticks_of (cells_of after))) (sym c.requires.start) told.ticks) closed.claims
+    (index_all (λ (p : PassView). IsPrefix p.claims.known closed.claims) after told.claims_known) closed.totals told.totals

@@ -16,7 +16,7 @@ use Rattle.worker_run.proofs.Gathering.{all_ready, all_index, index_all, as_many
 use Rattle.worker_run.proofs.running.run_lines.Goals as goal
 
 pub work_all-done-requires-clause-ready : goal.work_all-done-requires-clause-ready
-work_all-done-requires-clause-ready g c =
+work_all-done-requires-clause-ready g c κs within =
     all_ready c.args.limiter.now.id (numbers_id c.in_ok-numbers.numbers) 0 c.in_ok-workers.workers.items c.in_ok-workers.ensures.workers
 
 pub close-requires-clause-drawers : goal.close-requires-clause-drawers

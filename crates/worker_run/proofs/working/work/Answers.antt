@@ -3,8 +3,15 @@ use Rattle.line_numbers.specs.Drawers.{drawn}
 use Rattle.rate_limiter.specs.Passes.{bounds_of}
 use Rattle.script_run.specs.Views.{line_view}
 use Rattle.worker_run.specs.Journal.{Journal}
-use Rattle.worker_run.proofs.Journals.{journal_push, rising_length, map_push, one_before}
+use Rattle.worker_run.proofs.Journals.{journal_push, last_of, rising_length, map_push, one_before}
 use Rattle.worker_run.proofs.working.work.Goals as goal
+
+pub run_drawn-requires-clause-number : goal.run_drawn-requires-clause-number
+run_drawn-requires-clause-number g c κs within =
+    let e = c.in-Some.ensures in
+    let below : All (λ x. x < length c.args.run.now.lines.now) (drawn c.draw.new.drawer) = subst (λ n. All (λ x. x < n) (drawn c.draw.new.drawer)) c.requires.lines.1 e.below in
+    last_of (λ x. x < length c.args.run.now.lines.now) (drawn c.lines.drawer) c.in-Some.number
+    (subst (All (λ x. x < length c.args.run.now.lines.now)) e.drawn below)
 
 pub lines-smaller : goal.lines-smaller
 lines-smaller g c =

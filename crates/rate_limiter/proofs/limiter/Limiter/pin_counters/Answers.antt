@@ -42,7 +42,7 @@ note_names-requires-clause-known g c =
     let t = view c.args.claims.now in
     let u = view c.pin_names.new.claims in
     entries_later g.N.CellNaming.setup.cells t.known u.known c.pin_known.new.known
-    (claimed_prefix (keys_at c.pin_names.new.cell_pass.moment c.as_slice.result.now) t u c.in-Ok-pin_names.ensures.pinned.claimed) c.pin_known.ensures.known
+    (claimed_prefix (keys_at c.pin_names.new.cell_pass.moment c.as_slice.result.now) c.pin_names.new.cell_pass.moment t u c.in-Ok-pin_names.ensures.pinned.claimed) c.pin_known.ensures.known
 
 pub returns-clause-pinned : goal.returns-clause-pinned
 returns-clause-pinned g c =
