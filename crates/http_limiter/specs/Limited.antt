@@ -1,0 +1,52 @@
+-- What serving the links of a listener by a limiter comes to.
+use Rattle.std.specs.Prelude.{◌≡◌, ℕ, ◌<◌, ◌≤◌, List, length, map, Option, Vec, Bool, true, false, All, Result, Ok, Err, ⊤}
+use Rattle.rate_types.specs.declared.limits.TheConstants.{MOST_CELLS, MOST_CONNECTIONS, MOST_WORKERS}
+use Rattle.rate_io.specs.Causes.{Rose}
+use Rattle.rate_io.specs.Events.{Grew}
+use Rattle.rate_io.specs.Listeners.{ListenEvent}
+use Rattle.descriptor_tree.specs.Trees.{DomainTree}
+use Rattle.http_endpoint.specs.declared.link_end.LinkEnd.{LinkEnd}
+use Rattle.rate_limiter.specs.Passes.{LimiterView, PassView, IsNewPass}
+use Rattle.http_checks.specs.Checker.{Checker, ChecksBy}
+use Rattle.http_serve.specs.Service.{Service}
+use Rattle.http_serve.specs.Links.{AllServed, ends_of}
+use Rattle.http_serve.specs.declared.links.LinksFault.{LinksFault}
+use Rattle.http_serve.specs.declared.links.LinksFault.TheVariants.{Listen, OutOfMemory}
+use Rattle.http_limiter.specs.declared.limited.Setup.{Setup}
+
+-- so many passes and cells as may be
+pub record IsInRange (setup : Setup) (connections : ℕ) : Type 0 where
+  pub workers : (1 ≤ setup.workers) × (setup.workers ≤ MOST_WORKERS)
+  pub cells : (1 ≤ setup.cells) × (setup.cells ≤ MOST_CELLS)
+  pub few : connections ≤ MOST_CONNECTIONS
+
+-- passes as checkers
+abbrev pub checkers : LimiterView → List PassView → List Checker
+checkers limiter passes = map (λ p. record { limiter = limiter; pass = p }) passes
+
+-- A limiter of the configuration with a pass for each worker, which were new at moment 0, served these links: each once, by one of the
+-- passes, whose checks are steps of the pass at moments between the clock's bounds.
+pub record ServedByLimiter (config : List DomainTree) (setup : Setup) (bounds : Option (ℕ × ℕ)) (old new : List ListenEvent)
+    (services : List Service) (is_all : Bool) : Type 0 where
+  pub limiter : LimiterView
+  pub shadow : limiter.global_shadow ≡ setup.global_shadow
+  pub before : List PassView
+  pub as_many : length before ≡ setup.workers
+  pub fresh : All (λ p. IsNewPass config 0 p) before
+  pub after : List Checker
+  pub served : AllServed (ChecksBy setup.cells) bounds (checkers limiter before) after old new services is_all
+
+-- the answer of serving links, as a list
+abbrev pub ends_in : {E A : Type 0} → Result (Vec LinkEnd A) E → Result (List LinkEnd) E
+ends_in (Ok ends) = Ok ends.items
+ends_in (Err e) = Err e
+
+-- With Ok all links were served, and these are their ends. With Listen an accept failed, and the links before it were served and given
+-- back as well. Want of memory is free.
+abbrev pub ServesLimited : List DomainTree → Setup → Option (ℕ × ℕ) → ℕ → List ListenEvent → List ListenEvent → ℕ × ℕ
+    → Result (List LinkEnd) LinksFault → Type 0
+ServesLimited config setup bounds connections old new faults (Ok ends) =
+    (services : List Service) × (length services ≡ connections) × ServedByLimiter config setup bounds old new services true × (ends ≡ ends_of services)
+ServesLimited config setup bounds connections old new faults (Err Listen) =
+    (services : List Service) × (length services < connections) × ServedByLimiter config setup bounds old new services false × Rose faults.0 faults.1
+ServesLimited config setup bounds connections old new faults (Err OutOfMemory) = Grew old new (λ events. ⊤)

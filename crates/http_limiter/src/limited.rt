@@ -1,0 +1,106 @@
+ghost use Rattle.std.specs.Prelude.{◌≡◌, IfOk};
+ghost use Rattle.std.specs.Arc.{arc_value};
+ghost use Rattle.descriptor_tree.specs.Views.{config_view};
+ghost use Rattle.counter_cells.specs.Opened.{table_of, setup_of};
+ghost use Rattle.http_serve.specs.Links.{IsUnused};
+ghost use Rattle.http_limiter.specs.Limited.{IsInRange, ServesLimited, ends_in};
+
+use crate::passes::checks_of;
+use counter_cells::{CellNaming, OpenedCells};
+use descriptor_tree::Config;
+use http_endpoint::LinkEnd;
+use http_serve::{LinksFault, serve_links};
+use rate_io::{Clock, Listen};
+use rate_limiter::{Limiter, Limits};
+use rate_types::{OutOfMemory, Seconds};
+use std::alloc::Global;
+use std::hash::RandomState;
+use std::marker::Brand;
+use std::sync::{Arc, Wait};
+
+/// The most counters that are given cells before the limiter is made anew.
+const SERVED_CLAIMS: u64 = 16_777_216;
+
+/// What a limiter that serves links has.
+#[derive(Clone, Copy, Debug, PartialEq, Eq)]
+pub struct Setup {
+    /// Its passes, each of which serves one link at a time: 1 to 64.
+    pub workers: u32,
+    /// Its cells: 1 to 1,048,576.
+    pub cells: u32,
+    /// Overall codes are always OK.
+    pub global_shadow: bool,
+}
+
+// A configuration that a limiter's versions share.
+fn shared(alloc: Global, config: Config) -> Result<Arc<Config>, OutOfMemory>
+    ensures { IfOk result (λ c. arc_value c ≡ config) }
+{
+    let config = Arc::new(alloc, config)?;
+    Ok(config)
+}
+
+// Serves links by a limiter on these cells.
+fn serve_opened<N: CellNaming, R: Wait, L: Listen, C: Clock>(
+    rt: &R,
+    alloc: Global,
+    seed: RandomState,
+    config: Arc<Config>,
+    opened: OpenedCells,
+    setup: Setup,
+    listen: &mut L,
+    connections: u32,
+    clock: &C,
+) -> Result<Vec<LinkEnd>, LinksFault>
+    requires name { (table_of opened ≡ N.table) × (setup_of opened ≡ N.setup) }
+    requires cells { N.setup ≡ record { cells = setup.cells; passes = setup.workers; start = 0 } }
+    requires range { IsInRange setup connections }
+    requires unused { IsUnused (L.history listen.old) }
+    ensures { ServesLimited (config_view (arc_value config)) setup (C.bounds clock.now) connections (L.history listen.old)
+        (L.history listen.new) (L.faults listen.old, L.faults listen.new) (ends_in result) }
+{
+    let limits = Limits {
+        claims_max: SERVED_CLAIMS,
+        global_shadow: setup.global_shadow,
+    };
+    let (limiter, passes) = Limiter::<N>::make(alloc, config, opened, limits, seed)?;
+    let checks = checks_of(alloc, &limiter, passes)?;
+    match serve_links(rt, alloc, checks, listen, connections, clock) {
+        Ok((_, ends)) => Ok(ends),
+        Err(LinksFault::Listen) => Err(LinksFault::Listen),
+        Err(LinksFault::OutOfMemory) => Err(LinksFault::OutOfMemory),
+    }
+}
+
+/// Serves so many links of a listener, each once, by a limiter of this configuration, which starts at moment 0. Answers how each
+/// link ended. The listener has a port. A check is refused where its counters find no cells, or where 16,777,216 counters had cells
+/// before.
+pub fn serve_limited<R: Wait, L: Listen, C: Clock>(
+    rt: &R,
+    alloc: Global,
+    seed: RandomState,
+    config: Config,
+    setup: Setup,
+    listen: &mut L,
+    connections: u32,
+    clock: &C,
+) -> Result<Vec<LinkEnd>, LinksFault>
+    requires range { IsInRange setup connections }
+    requires unused { IsUnused (L.history listen.old) }
+    ensures { ServesLimited (config_view config) setup (C.bounds clock.now) connections (L.history listen.old) (L.history listen.new)
+        (L.faults listen.old, L.faults listen.new) (ends_in result) }
+{
+    let opened = OpenedCells::make(alloc, setup.cells, setup.workers, Seconds::capped(0))?;
+    let config = shared(alloc, config)?;
+    serve_opened::<Brand, R, L, C>(
+        rt,
+        alloc,
+        seed,
+        config,
+        opened,
+        setup,
+        listen,
+        connections,
+        clock,
+    )
+}

@@ -1,0 +1,25 @@
+// From passes to checkers.
+ghost use Rattle.std.specs.Prelude.{◌≡◌, All, IfOk};
+ghost use Rattle.http_limiter.specs.Limited.{checkers};
+
+use counter_cells::CellNaming;
+use http_checks::PassChecks;
+use rate_limiter::{Limiter, Pass};
+use rate_types::OutOfMemory;
+use std::alloc::Global;
+
+/// A checker of each pass.
+pub fn checks_of<'a, N: CellNaming>(
+    alloc: Global,
+    limiter: &'a Limiter<N>,
+    passes: Vec<Pass<N>>,
+) -> Result<Vec<PassChecks<'a, N>>, OutOfMemory>
+    requires { All (λ p. p.limiter ≡ limiter.now.id) passes.items }
+    ensures { IfOk result (λ v. v.items ≡ checkers limiter.now passes.items) }
+{
+    let mut checks = Vec::with_capacity(alloc, passes.len())?;
+    for pass in passes {
+        checks.push_reserved(PassChecks::new(limiter, pass));
+    }
+    Ok(checks)
+}

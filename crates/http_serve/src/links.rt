@@ -1,0 +1,59 @@
+ghost use Rattle.std.specs.Prelude.{◌≡◌, ◌≤◌, vec_len};
+ghost use Rattle.rate_types.specs.declared.limits.TheConstants.{MOST_CONNECTIONS, MOST_WORKERS};
+ghost use Rattle.http_serve.specs.Links.{IsUnused, ServesLinks, answer_of};
+
+use crate::giving::give_back;
+use crate::here::serve_alone;
+use http_endpoint::{Checks, LinkEnd};
+use rate_io::{Clock, Listen};
+use rate_types::OutOfMemory;
+use std::alloc::Global;
+use std::sync::Wait;
+use thiserror::Error;
+
+/// Why links weren't served.
+#[derive(Clone, Copy, Debug, PartialEq, Eq, Error)]
+pub enum LinksFault {
+    /// A link couldn't be accepted.
+    #[error("listen failed")]
+    Listen,
+    /// There was no memory.
+    #[error("out of memory")]
+    OutOfMemory,
+}
+
+impl From<OutOfMemory> for LinksFault {
+    ghost use Rattle.std.specs.Prelude.{◌≡◌};
+    ghost use Rattle.http_serve.specs.declared.links.LinksFault.TheVariants as fault;
+
+    ghost from_gives = { λ _ e. e ≡ fault.OutOfMemory };
+
+    fn from(_: OutOfMemory) -> Self {
+        LinksFault::OutOfMemory
+    }
+}
+
+/// Accepts so many links and serves each once with one of the checkers, shuts it and gives it back under its number. Answers the checkers in
+/// order, and how each link ended. The listener has a port. After a fault the checkers are given up.
+pub fn serve_links<R: Wait, L: Listen, C: Clock, K: Checks + Drop>(
+    rt: &R,
+    alloc: Global,
+    checks: Vec<K>,
+    listen: &mut L,
+    connections: u32,
+    clock: &C,
+) -> Result<(Vec<K>, Vec<LinkEnd>), LinksFault>
+    requires checkers { (1 ≤ vec_len checks) × (vec_len checks ≤ MOST_WORKERS) }
+    requires few { connections ≤ MOST_CONNECTIONS }
+    requires unused { IsUnused (L.history listen.old) }
+    ensures { ServesLinks K.answers (C.bounds clock.now) connections checks.items (L.history listen.old) (L.history listen.new)
+        (L.faults listen.old, L.faults listen.new) (answer_of result) }
+{
+    let accepted = serve_alone(rt, alloc, checks, listen, connections, clock)?;
+    let ends = give_back(alloc, listen, accepted.served)?;
+    if accepted.is_all {
+        Ok((accepted.checks, ends))
+    } else {
+        Err(LinksFault::Listen)
+    }
+}

@@ -1,0 +1,3 @@
+pub mod Handover
+pub mod Journals
+pub mod Passes
