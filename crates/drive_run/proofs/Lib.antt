@@ -1,9 +1,3 @@
 pub mod Plain
 pub mod Reloads
-pub mod Versions
-pub mod Ledgers
-pub mod Bounds
-pub mod Nexts
-pub mod Seeing
-pub mod Running
-pub mod Admits
+pub mod Firsts

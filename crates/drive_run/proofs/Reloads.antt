@@ -17,7 +17,7 @@ use Rattle.proto_json.specs.Lists.{items_from, with_first}
 use Rattle.descriptor_tree.specs.Trees.{DomainTree}
 use Rattle.descriptor_tree.specs.Faults.{config_faults}
 use Rattle.config_json.specs.Trees.{file_at}
-use Rattle.drive_run.specs.ScriptLine.{ScriptLine, reload}
+use Rattle.script_run.specs.ScriptLine.{ScriptLine, reload}
 use Rattle.drive_run.specs.Script.{in_list, config_of}
 
 -- what the rest of a list says behind these trees

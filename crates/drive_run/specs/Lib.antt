@@ -1,12 +1,5 @@
-pub mod Versions
-pub mod Lines
 pub mod FieldNames
-pub mod ScriptLine
 pub mod Script
 pub mod Views
 pub mod LineAnswers
 pub mod Pointers
-pub mod Run
-pub mod Refusals
-pub mod Totals
-pub mod Steps

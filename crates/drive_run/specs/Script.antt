@@ -1,5 +1,5 @@
 -- The lines of a script, and what each of them reads as.
-use Rattle.std.specs.Prelude.{ℕ, List, [], ◌∷◌, ◌++◌, map, Option, Some, None, Result, Ok, Err}
+use Rattle.std.specs.Prelude.{ℕ, List, [], ◌++◌, map, Option, Some, None, Result, Ok, Err}
 use Rattle.text_lines.specs.Lines.{cut}
 use Rattle.serde_json.specs.Data.{Data}
 use Rattle.rate_types.specs.Places.{item}
@@ -17,7 +17,7 @@ use Rattle.descriptor_tree.specs.Faults.{config_faults}
 use Rattle.config_json.specs.Trees.{file_at}
 use Rattle.reply_text.specs.ReadRequest.{request}
 use Rattle.drive_run.specs.FieldNames as names
-use Rattle.drive_run.specs.ScriptLine.{ScriptLine, check, reload, tick, bad}
+use Rattle.script_run.specs.ScriptLine.{ScriptLine, check, reload, tick, bad}
 
 -- ---- the events
 

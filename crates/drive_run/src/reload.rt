@@ -14,7 +14,7 @@ ghost use Rattle.descriptor_tree.specs.Trees.{tree_view};
 ghost use Rattle.descriptor_tree.specs.Config.{AreWellFormed};
 ghost use Rattle.descriptor_tree.specs.Views.{config_view};
 ghost use Rattle.config_json.specs.Trees.{file_at};
-ghost use Rattle.drive_run.specs.ScriptLine.{reload};
+ghost use Rattle.script_run.specs.ScriptLine.{reload};
 ghost use Rattle.drive_run.specs.Script as scripts;
 ghost use Rattle.drive_run.specs.Pointers.{IsPlain};
 

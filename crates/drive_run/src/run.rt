@@ -1,19 +1,44 @@
-ghost use Rattle.std.specs.Prelude.{◌≡◌, ◌≤◌, ◌+◌, [], length, IfOk};
+ghost use Rattle.std.specs.Prelude.{◌≡◌, ◌≤◌, IfOk, length, map};
 ghost use Rattle.std.specs.Arc.{arc_value};
+ghost use Rattle.rate_types.specs.declared.limits.TheConstants.{MOST_CELLS, MOST_LINES, MOST_WORKERS};
 ghost use Rattle.descriptor_tree.specs.Views.{config_view};
-ghost use Rattle.drive_run.specs.ScriptLine.{check, reload};
-ghost use Rattle.drive_run.specs.Views.{line_view, script_view};
-ghost use Rattle.drive_run.specs.Steps.{Steps, Outcomes};
-ghost use Rattle.drive_run.specs.Run.{IsRun};
-ghost use Rattle.drive_run.specs.Totals.{AreTotalsOf};
+ghost use Rattle.counter_cells.specs.Opened.{table_of, setup_of};
+ghost use Rattle.script_run.specs.Views.{line_view};
+ghost use Rattle.script_run.specs.Run.{IsRun};
+ghost use Rattle.script_run.specs.Totals.{AreTotalsOf};
+ghost use Rattle.drive_run.specs.Views.{script_view};
 
-use crate::{Line, Script};
+use crate::Script;
+use counter_cells::{CellNaming, OpenedCells};
 use descriptor_tree::Config;
-use rate_types::{OutOfMemory, Request, Seconds};
-use reply_text::{Outcome, Record, Records, Statuses};
-use rls_core::{CheckFault, Plain, ReloadFault, Totals};
+use rate_limiter::{Limiter, Limits};
+use rate_types::limits::MOST_CLAIMS;
+use rate_types::{OutOfMemory, Seconds};
+use reply_text::Records;
+use rls_core::Totals;
+use script_run::Line;
 use std::alloc::Global;
-use std::sync::Arc;
+use std::hash::RandomState;
+use std::marker::Brand;
+use std::sync::{Arc, Wait};
+use std::thread::Threads;
+use worker_run::{Gate, run_script};
+
+/// How a script is run.
+#[derive(Clone, Copy)]
+pub struct Setup {
+    /// 1 to 64.
+    pub workers: u32,
+    /// 1 to 1,048,576.
+    pub cells: u32,
+    pub start: Seconds,
+    /// Overall codes are always OK; the statuses aren't changed by it.
+    pub global_shadow: bool,
+    /// The hashes of names go by it.
+    pub seed: RandomState,
+    ghost workers_in_range: { (1 ≤ workers) × (workers ≤ MOST_WORKERS) },
+    ghost cells_in_range: { (1 ≤ cells) × (cells ≤ MOST_CELLS) },
+}
 
 /// The records of a script, in order of its lines, and the totals of the windows that are open at its end.
 #[derive(Drop)]
@@ -22,85 +47,53 @@ pub struct Driven {
     pub totals: Totals,
 }
 
-fn record_of(plain: &Plain, number: u32, outcome: Outcome) -> Record
-    ensures { result ≡ record { line = number; worker = 0; version = plain.now.version; moment = plain.now.moment; outcome = outcome } }
+// The run of these lines by a limiter on these cells.
+fn drive_on<N: CellNaming + Send + Sync, G: Gate, R: Threads + Wait + Sync>(
+    rt: &R,
+    alloc: Global,
+    opened: OpenedCells,
+    lines: &[Line],
+    config: Arc<Config>,
+    setup: Setup,
+    gate: &G,
+) -> Result<Driven, OutOfMemory>
+    requires name { (table_of opened ≡ N.table) × (setup_of opened ≡ N.setup) }
+    requires cells { N.setup.cells ≡ setup.cells }
+    requires passes { N.setup.passes ≡ setup.workers }
+    requires start { N.setup.start ≡ setup.start }
+    requires lines { length lines.now ≤ MOST_LINES }
+    ensures run { IfOk result
+        (λ d. IsRun (config_view (arc_value config)) setup.workers setup.cells setup.start setup.global_shadow (map line_view lines.now)
+        d.records) }
+    ensures totals { IfOk result (λ d. AreTotalsOf setup.start (map line_view lines.now) d.records d.totals) }
 {
-    Record {
-        line: number,
-        worker: 0,
-        version: plain.version(),
-        moment: plain.moment(),
-        outcome,
-    }
-}
-
-fn check_line(alloc: Global, plain: &mut Plain, request: &Request) -> Result<Outcome, OutOfMemory>
-    ensures { IfOk result (λ o. Outcomes (check request.now) o plain.old plain.new) }
-{
-    match plain.check(request) {
-        Ok(reply) => {
-            let answer = Statuses::of_reply(alloc, &reply)?;
-            Ok(Outcome::Checked(answer))
-        }
-        Err(
-            CheckFault::CountersFull {
-                live,
-                held,
-                wanted,
-                ..
-            },
-        ) => Ok(Outcome::Full { live, held, wanted }),
-        Err(CheckFault::ClaimsSpent { .. }) => unreachable!(),
-        Err(CheckFault::OutOfMemory) => Err(OutOfMemory),
-    }
-}
-
-fn reload_line(plain: &mut Plain, config: Arc<Config>) -> Result<Outcome, OutOfMemory>
-    ensures { IfOk result (λ o. Outcomes (reload (config_view (arc_value config))) o plain.old plain.new) }
-{
-    match plain.reload(config) {
-        Ok(_) => Ok(Outcome::Installed),
-        Err(ReloadFault::VersionsFull { versions }) => Ok(Outcome::VersionsFull { versions }),
-        Err(ReloadFault::OutOfMemory) => Err(OutOfMemory),
-    }
-}
-
-// One line.
-fn step(alloc: Global, plain: &mut Plain, number: u32, line: Line) -> Result<Record, OutOfMemory>
-    ensures { IfOk result (λ r. Steps number (line_view line) r plain.old plain.new) }
-{
-    let outcome = match line {
-        Line::Check(request) => check_line(alloc, plain, &request)?,
-        Line::Reload(config) => reload_line(plain, config)?,
-        Line::Tick(now) => {
-            plain.tick(now);
-            Outcome::Ticked(now)
-        }
-        Line::Bad(refused) => Outcome::Bad(refused),
+    let limits = Limits {
+        claims_max: MOST_CLAIMS,
+        global_shadow: setup.global_shadow,
     };
-    Ok(record_of(plain, number, outcome))
+    let (limiter, passes) = Limiter::<N>::make(alloc, config, opened, limits, setup.seed)?;
+    let finished = run_script(rt, alloc, limiter, passes, lines, setup.start, gate)?;
+    Ok(Driven {
+        records: finished.records,
+        totals: finished.totals,
+    })
 }
 
-/// The run of a script by one worker: its records, and the totals at its end. The limiter has so many cells.
-pub fn drive_script(
+/// The run of a script, whose version 0 is the configuration: its records, and the totals at its end. Each worker is a thread.
+pub fn drive_script<G: Gate, R: Threads + Wait + Sync>(
+    rt: &R,
     alloc: Global,
     script: Script,
     config: Arc<Config>,
-    cells: u32,
-    start: Seconds,
-    global_shadow: bool,
+    setup: Setup,
+    gate: &G,
 ) -> Result<Driven, OutOfMemory>
     ensures run { IfOk result
-        (λ d. IsRun (config_view (arc_value config)) cells start global_shadow (script_view script) d.records) }
-    ensures totals { IfOk result (λ d. AreTotalsOf start (script_view script) d.records d.totals) }
+        (λ d. IsRun (config_view (arc_value config)) setup.workers setup.cells setup.start setup.global_shadow (script_view script)
+        d.records) }
+    ensures totals { IfOk result (λ d. AreTotalsOf setup.start (script_view script) d.records d.totals) }
 {
-    let mut plain = Plain::make(alloc, config, cells, start, global_shadow)?;
-    let mut records = Records::new(alloc);
-    let mut number = 0u32;
-    'lines: for line in script.into_lines() {
-        number += 1;
-        records.push(step(alloc, &mut plain, number, line)?)?;
-    }
-    let totals = plain.totals()?;
-    Ok(Driven { records, totals })
+    let lines = script.into_lines();
+    let opened = OpenedCells::make(alloc, setup.cells, setup.workers, setup.start)?;
+    drive_on::<Brand, _, _>(rt, alloc, opened, lines.as_slice(), config, setup, gate)
 }

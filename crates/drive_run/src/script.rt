@@ -3,9 +3,9 @@ ghost use Rattle.rate_types.specs.declared.limits.TheConstants.{MOST_LINES};
 ghost use Rattle.text_lines.specs.Lines.{cut};
 ghost use Rattle.drive_run.specs.declared.script.ScriptFault.TheVariants.{TooManyLines};
 
-use crate::Line;
 use crate::reading::read_line;
 use rate_types::limits::MOST_LINES;
+use script_run::Line;
 use std::alloc::Global;
 use text_lines::cut_line;
 use thiserror::Error;
@@ -29,7 +29,8 @@ pub struct Script {
 }
 
 impl Script {
-    ghost use Rattle.drive_run.specs.Views.{line_view, script_view};
+    ghost use Rattle.script_run.specs.Views.{line_view};
+    ghost use Rattle.drive_run.specs.Views.{script_view};
     ghost use Rattle.drive_run.specs.Script as scripts;
 
     /// The script of these bytes: one line per line feed, and one for what stands behind the last line feed.

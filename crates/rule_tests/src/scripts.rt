@@ -1,4 +1,5 @@
-use drive_run::{Line, Script};
+use drive_run::Script;
+use script_run::Line;
 use std::alloc::Global;
 use std::test::Fail;
 

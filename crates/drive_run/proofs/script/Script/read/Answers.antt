@@ -2,7 +2,8 @@ use Rattle.std.proofs.Common.{◌≡◌, ◌+◌, ◌++◌, length, map, ap, sym
 use Rattle.std.proofs.lemmas.List.{length-map}
 use Rattle.text_lines.specs.Lines.{cut}
 use Rattle.drive_run.specs.Script.{line_of}
-use Rattle.drive_run.specs.Views.{line_view, script_view}
+use Rattle.script_run.specs.Views.{line_view}
+use Rattle.drive_run.specs.Views.{script_view}
 use Rattle.text_lines.proofs.Cutting.{cut_some, cut_none}
 use Rattle.drive_run.proofs.script.Script.read.Goals as goal
 

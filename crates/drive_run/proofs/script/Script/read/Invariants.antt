@@ -2,7 +2,7 @@ use Rattle.std.proofs.Common.{◌≡◌, ◌≤◌, ◌++◌, map, length}
 use Rattle.rate_types.specs.declared.limits.TheConstants.{MOST_LINES}
 use Rattle.text_lines.specs.Lines.{cut}
 use Rattle.drive_run.specs.Script.{line_of, script_of}
-use Rattle.drive_run.specs.Views.{line_view}
+use Rattle.script_run.specs.Views.{line_view}
 use Rattle.drive_run.proofs.script.Script.read.Given as goal
 
 abbrev pub invariant-lines : goal.invariant-lines
