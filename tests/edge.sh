@@ -80,8 +80,18 @@ judge option-only $? 1 "$none"
 run drive --cells 0 "$config" <"$script" >"$out" 2>"$err"
 judge cells-out-of-range $? 1 "$none" 'ratelimit: usage'
 
-run drive --workers 2 "$config" <"$script" >"$out" 2>"$err"
-judge several-workers $? 1 "$none" 'ratelimit: usage'
+run drive --workers 65 "$config" <"$script" >"$out" 2>"$err"
+judge too-many-workers $? 1 "$none" 'ratelimit: usage'
+
+# Four workers answer checks of different counters as one worker does, but for the workers' numbers.
+for user in a b c d e f g h; do
+    printf '{"check":{"domain":"shop","descriptors":[{"entries":[{"key":"user","value":"%s"}]}]}}\n' "$user"
+done >"$work/users"
+run drive "$config" <"$work/users" >"$work/one" 2>"$err"
+run drive --workers 4 "$config" <"$work/users" >"$work/four" 2>"$err"
+status=$?
+sed 's/"worker":[0-3]}/"worker":0}/' "$work/four" >"$out"
+judge four-workers "$status" 0 "$work/one"
 
 run drive "$config" --help <"$script" >"$out" 2>"$err"
 judge help-behind-a-command $? 1 "$none" 'ratelimit: usage'
@@ -128,6 +138,15 @@ judge quota-without-stream $? 1 "$none" 'ratelimit: usage'
 
 run quota --settings "$top/examples/quota.json" --workers 65 "$top/examples/quota.jsonl" </dev/null >"$out" 2>"$err"
 judge quota-of-too-many-workers $? 1 "$none" 'ratelimit: usage'
+
+run pool --pools "$top/examples/pool.json" "$top/examples/reports.jsonl" <&- >"$out" 2>"$err"
+judge pool $? 0 "$here/pool.out"
+
+run pool "$top/examples/reports.jsonl" </dev/null >"$out" 2>"$err"
+judge pool-without-pools $? 1 "$none" 'ratelimit: usage'
+
+run pool --pools "$top/examples/quota.json" "$top/examples/reports.jsonl" </dev/null >"$out" 2>"$err"
+judge pool-of-other-settings $? 9 "$none" 'ratelimit: settings: refused 3 at '
 
 run quota --settings "$config" "$top/examples/quota.jsonl" </dev/null >"$out" 2>"$err"
 judge quota-of-other-settings $? 9 "$none" 'ratelimit: settings: refused 3 at /descriptors'

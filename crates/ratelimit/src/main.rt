@@ -1,17 +1,20 @@
-//! The program: the real files, input and output, the text of the exit on standard error, and the exit status.
+//! The program: the real files, input, output, sockets and clock, the text of the exit on standard error, and the exit status.
 #![tactic(auto)]
 
 ghost use Rattle.std.specs.Prelude.{◌≡◌};
 ghost use Rattle.std.specs.Process.{exit_status};
 ghost use Rattle.ratelimit_cli.specs.Reports.{status_of};
 
-use rate_io::{HostFiles, ReaderSource, WriterSink};
+use rate_io::{HostClock, HostFiles, ReaderSource, StreamListen, WriterSink};
 use rate_types::{Names, Word};
 use ratelimit_cli::{Exit, ratelimit};
 use std::alloc::Global;
+use std::hash::RandomState;
 use std::process::ExitCode;
+use std::sync::Wait;
 use std::thread::Threads;
 use std::{env, io};
+use worker_run::Open;
 
 fn words_of(rt: &HostRuntime, alloc: Global) -> io::Result<Names> {
     let mut words = Vec::new(alloc);
@@ -21,13 +24,31 @@ fn words_of(rt: &HostRuntime, alloc: Global) -> io::Result<Names> {
     Ok(Names::of(words))
 }
 
-// Does the command of the words over the real files, input and output, with threads where it takes workers.
-fn run<R: Threads + Sync>(rt: &HostRuntime, threads: &R, alloc: Global) -> io::Result<Exit> {
+// Does the command of the words over the real files, input, output, sockets and clock, with threads where it takes workers.
+fn run<R: Threads + Wait + Sync>(
+    rt: &HostRuntime,
+    threads: &R,
+    alloc: Global,
+    seed: RandomState,
+) -> io::Result<Exit> {
     let words = words_of(rt, alloc)?;
     let mut files = HostFiles::new(rt.clone()?);
     let mut source = ReaderSource::new(rt.stdin());
     let mut sink = WriterSink::new(rt.stdout());
-    Ok(ratelimit(threads, alloc, &words, &mut files, &mut source, &mut sink))
+    let mut listen = StreamListen::new(rt.clone()?);
+    let clock = HostClock::new(rt.clone()?);
+    Ok(ratelimit(
+        threads,
+        alloc,
+        seed,
+        &words,
+        &mut files,
+        &mut source,
+        &mut sink,
+        &mut listen,
+        &clock,
+        &Open,
+    ))
 }
 
 // The exit where the words couldn't be had: there was no memory for them, or one of them isn't UTF-8.
@@ -56,7 +77,10 @@ fn end(rt: &HostRuntime, exit: &Exit) -> ExitCode
 }
 
 fn main(rt: HostRuntime) -> ExitCode {
-    match run(&rt, &rt, rt.alloc()) {
+    let Ok(seed) = RandomState::new(&rt) else {
+        return end(&rt, &Exit::ReadFault);
+    };
+    match run(&rt, &rt, rt.alloc(), seed) {
         Ok(exit) => end(&rt, &exit),
         Err(error) => end(&rt, &exit_before(error)),
     }

@@ -2,7 +2,7 @@
 use Rattle.std.proofs.Common.{◌≡◌, List, [], ◌∷◌, ℕ, Bool, true, false, ◌&&◌, Option, None, refl, sym, subst, true≢false}
 use Rattle.clap.specs.Words.{App, is_simple_and_free, fault_of}
 use Rattle.clap.specs.Kinds.{Kinds}
-use Rattle.ratelimit_cli.specs.Words.{drive_app, lookup_app, quota_app, if_taken}
+use Rattle.ratelimit_cli.specs.Words.{drive_app, lookup_app, quota_app, pool_app, serve_app, if_taken}
 
 pub drive_simple : is_simple_and_free drive_app ≡ true
 unfolding drive_app
@@ -15,6 +15,14 @@ lookup_simple = refl
 pub quota_simple : is_simple_and_free quota_app ≡ true
 unfolding quota_app
 quota_simple = refl
+
+pub pool_simple : is_simple_and_free pool_app ≡ true
+unfolding pool_app
+pool_simple = refl
+
+pub serve_simple : is_simple_and_free serve_app ≡ true
+unfolding serve_app
+serve_simple = refl
 
 pub first_holds : (a b : Bool) → (a && b) ≡ true → a ≡ true
 first_holds true b h = refl

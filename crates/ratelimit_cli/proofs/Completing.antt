@@ -1,29 +1,35 @@
 -- Where nothing but want of memory stands against it, the exit is Done.
-use Rattle.std.proofs.Common.{◌≡◌, ℕ, ◌≤◌, ◌⊎◌, ◌||◌, List, [], ◌∷◌, ◌++◌, Bool, true, false, map, take}
+use Rattle.std.proofs.Common.{◌≡◌, ℕ, ◌<◌, ◌≤◌, ◌⊎◌, ◌||◌, List, [], ◌∷◌, ◌++◌, Bool, true, false, map, take}
 use Rattle.std.proofs.Common.{zero, suc, length, Option, Some, slice_get, Result, Ok, Err, inl, inr, refl, sym, ap, ◌∙◌, subst, arith, true≢false}
 use Rattle.std.specs.List.{AllByRecursion}
 use Rattle.std.proofs.lemmas.Option.{same_Some, none-some}
 use Rattle.std.proofs.lemmas.List.Folds.{list_any-append}
-use Rattle.rate_types.specs.declared.limits.TheConstants.{MOST_BYTES}
+use Rattle.rate_types.specs.declared.limits.TheConstants.{MOST_BYTES, MOST_LINES}
 use Rattle.rate_types.specs.declared.refused.At.{At}
 use Rattle.rate_types.specs.declared.refused.Refused.{Refused}
 use Rattle.rate_io.specs.Events.{Event, wrote, write_failed, FileEvent, given, has_failed, has_write_failed, is_write_failed}
+use Rattle.text_lines.specs.Lines.{cut}
 use Rattle.config_json.specs.Reading.{reading_of}
 use Rattle.quota_settings.specs.Covering.{AllSettings}
 use Rattle.quota_stream.specs.Tasks.{IsShort}
 use Rattle.quota_stream.specs.Runs.{HasTooLong}
+use Rattle.quota_pools.specs.Pools.{AllPools}
 use Rattle.ratelimit_cli.specs.Words.{command_of}
 use Rattle.ratelimit_cli.specs.Jobs.{files_of, ReadsConfigs}
 use Rattle.ratelimit_cli.specs.declared.command.Command.{Command}
-use Rattle.ratelimit_cli.specs.declared.command.Command.TheVariants.{Plain, Quota, Threads, Help, Version}
+use Rattle.ratelimit_cli.specs.declared.command.Command.TheVariants.{Plain, Quota, Pool, Threads, Help, Version}
 use Rattle.ratelimit_cli.specs.declared.command.QuotaJob.{QuotaJob}
+use Rattle.ratelimit_cli.specs.declared.command.PoolJob.{PoolJob}
 use Rattle.ratelimit_cli.specs.World.{World, AreFilesOf, StopsAt, IsLong, IsUnread, WroteUpTo}
 use Rattle.ratelimit_cli.specs.Configured.{FilesSay}
-use Rattle.ratelimit_cli.specs.Exits.{HasNoCause, Explains, IsExitOf, AreLawful}
+use Rattle.ratelimit_cli.specs.Exits.{HasNoCause, Explains, ExplainsCall, IsExitOf, AreLawful}
+use Rattle.ratelimit_cli.specs.Served.{Listening, has_listen_failed, ExplainsServe}
+use Rattle.ratelimit_cli.specs.declared.command.ServeJob.{ServeJob}
 use Rattle.ratelimit_cli.specs.Replayed.{QuotaSays, AreReplayable}
+use Rattle.ratelimit_cli.specs.Pooled.{PoolSays, ArePoolable}
 use Rattle.ratelimit_cli.specs.declared.exit.Exit.{Exit}
 use Rattle.ratelimit_cli.specs.declared.exit.Exit.TheVariants.{Done, Usage, ConfigRefused, TooLong, ReadFault, WriteFault, FileFault}
-use Rattle.ratelimit_cli.specs.declared.exit.Exit.TheVariants.{OutOfMemory, SettingsRefused}
+use Rattle.ratelimit_cli.specs.declared.exit.Exit.TheVariants.{OutOfMemory, ListenFault, SettingsRefused}
 
 -- the bytes of the files are those that their reads handed out
 same_files : (content : List ℕ → Option (List ℕ)) (names : List (List ℕ)) (calls : List FileEvent) (files : List (List ℕ)) → AreFilesOf content names calls files
@@ -62,6 +68,7 @@ lawful_at : (command : Command) (files : List (List ℕ)) → ReadsConfigs comma
 lawful_at (Plain configs) files kind lawful at is = lawful at is
 lawful_at (Threads run) files kind lawful at is = lawful at is
 lawful_at (Quota job) files kind lawful at is = absurd kind
+lawful_at (Pool job) files kind lawful at is = absurd kind
 lawful_at Help files kind lawful at is = absurd kind
 lawful_at Version files kind lawful at is = absurd kind
 
@@ -76,6 +83,9 @@ not_too_long streams read all long =
     let short = short_at streams long.index long.bytes all long.stream in
     elim long.long [ inl many ↦ omega (arith, many.0, short.few_bytes) | inr many ↦ omega (arith, many.1, many.2, short.few_lines) ]
 
+few_and_many : (n : ℕ) → n ≤ MOST_LINES → MOST_LINES < n → ⊥
+few_and_many n few many = omega (arith, few, many)
+
 module _ (w : World) (no : HasNoCause w) where
   same_command : (command : Command) → command_of w.words ≡ Some command → AreLawful command (map (λ call. given call.1) w.files)
   same_command command is =
@@ -85,6 +95,11 @@ module _ (w : World) (no : HasNoCause w) where
   replayable job reading says =
       subst AreReplayable (sym (same_files w.content (files_of (Quota job)) w.files (says.file ∷ says.streams) says.contents))
       (same_command (Quota job) says.named)
+
+  poolable : (job : PoolJob) (reading : Result (Option AllPools) Refused) (says : PoolSays w job reading) → ArePoolable (says.file ∷ says.events ∷ [])
+  poolable job reading says =
+      subst ArePoolable (sym (same_files w.content (files_of (Pool job)) w.files (says.file ∷ says.events ∷ []) says.contents))
+      (same_command (Pool job) says.named)
 
   not_refused : (at : At) (command : Command) → FilesSay w command (Err at) → ⊥
   not_refused at command say =
@@ -106,14 +121,39 @@ module _ (w : World) (no : HasNoCause w) where
   complete_exit Usage h = absurd (none-some no.command (sym h.0 ∙ no.named))
   complete_exit (ConfigRefused at) h = absurd (not_refused at h.0.0 h.0.1)
   complete_exit TooLong (inl (inl long, unread), none) = absurd (not_long (files_of long.0) long.2.0 long.2.1)
-  complete_exit TooLong (inl (inr long, unread), none) =
+  complete_exit TooLong (inl (inr (inr long), unread), none) =
+      absurd (few_and_many (length (cut long.1.1.0.events)) (poolable long.0 (Ok (Some long.1.0)) long.1.1.0).1 long.1.1.1)
+  complete_exit TooLong (inl (inr (inl long), unread), none) =
       absurd (not_too_long long.1.1.0.streams long.1.1.1.0 (replayable long.0 (Ok (Some long.1.0)) long.1.1.0).1 long.1.1.1.1)
-  complete_exit (SettingsRefused refused) h =
-      absurd ((replayable h.0.0 (Err refused) h.0.1).0 refused h.0.1.spells)
+  complete_exit (SettingsRefused refused) (inl h, unread, none) =
+      absurd ((replayable h.0 (Err refused) h.1).0 refused h.1.spells)
+  complete_exit (SettingsRefused refused) (inr h, unread, none) =
+      absurd ((poolable h.0 (Err refused) h.1).0 refused h.1.spells)
   complete_exit TooLong (inr long, none) = absurd (no.fits long.1)
   complete_exit ReadFault h = absurd (true≢false (sym h.1 ∙ no.read))
   complete_exit WriteFault h = absurd (true≢false (sym (write_fails _ w.writes h.0.each) ∙ no.written))
+  complete_exit ListenFault h = absurd h
   complete_exit (FileFault index) h = absurd (not_unread (files_of h.0.0) index h.0.2)
 
-pub answers : (e : Exit) (w : World) → Explains e w → IsExitOf e w
-answers e w h = record { cause = h; complete = λ no. complete_exit w no e h }
+  port_fails : (port : List ℕ) → WroteUpTo (port ∷ []) w.writes → ⊥
+  port_fails port h = true≢false (sym (write_fails (port ∷ []) w.writes h) ∙ no.written)
+
+  complete_serve : (l : Listening) (job : ServeJob) → has_listen_failed l.listens ≡ false → (e : Exit) → ExplainsServe e w l job → (e ≡ Done) ⊎ (e ≡ OutOfMemory)
+  complete_serve l job heard Done h = inl (λ i. Done)
+  complete_serve l job heard OutOfMemory h = inr (λ i. OutOfMemory)
+  complete_serve l job heard WriteFault (inl front, rose) = absurd (true≢false (sym (write_fails _ w.writes front.each) ∙ no.written))
+  complete_serve l job heard WriteFault (inr port, rose) = absurd (port_fails _ port.each)
+  complete_serve l job heard ListenFault h = absurd (true≢false (sym h.1 ∙ heard))
+  complete_serve l job heard Usage h = absurd h
+  complete_serve l job heard (ConfigRefused at) h = absurd h
+  complete_serve l job heard TooLong h = absurd h
+  complete_serve l job heard ReadFault h = absurd h
+  complete_serve l job heard (FileFault index) h = absurd h
+  complete_serve l job heard (SettingsRefused refused) h = absurd h
+
+  complete_call : (l : Listening) → has_listen_failed l.listens ≡ false → (e : Exit) → ExplainsCall e w l → (e ≡ Done) ⊎ (e ≡ OutOfMemory)
+  complete_call l heard e (inl h) = complete_exit e h.0
+  complete_call l heard e (inr h) = complete_serve l h.0 heard e h.2
+
+pub answers : (e : Exit) (w : World) (l : Listening) → ExplainsCall e w l → IsExitOf e w l
+answers e w l h = record { cause = h; complete = λ no heard. complete_call w no l heard e h }

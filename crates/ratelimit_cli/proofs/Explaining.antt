@@ -19,17 +19,17 @@ use Rattle.ratelimit_cli.specs.declared.work.Work.{Work}
 use Rattle.ratelimit_cli.specs.declared.work.Work.TheVariants.{Lookup, Drive}
 use Rattle.ratelimit_cli.specs.declared.exit.Exit.{Exit}
 use Rattle.ratelimit_cli.specs.declared.exit.Exit.TheVariants.{Done, Usage, ConfigRefused, TooLong, ReadFault, WriteFault, FileFault}
-use Rattle.ratelimit_cli.specs.declared.exit.Exit.TheVariants.{OutOfMemory, SettingsRefused}
+use Rattle.ratelimit_cli.specs.declared.exit.Exit.TheVariants.{OutOfMemory, ListenFault, SettingsRefused}
 
 -- a command by its work reads these files
 pub configs_same : (configs : List (List ℕ)) (work : Work) → configs ≡ files_of (command_with configs work)
 configs_same configs Lookup = refl
-configs_same configs (Drive workers cells start global_shadow) = refl
+configs_same configs (Drive setup) = refl
 
 -- such a command reads configuration files
 pub reads_configs : (configs : List (List ℕ)) (work : Work) → ReadsConfigs (command_with configs work)
 reads_configs configs Lookup = tt
-reads_configs configs (Drive workers cells start global_shadow) = tt
+reads_configs configs (Drive setup) = tt
 
 pub explain_files : (w : World) (command : Command) → command_of w.words ≡ Some command → NothingRead w → NothingWritten w
     → (e : Exit) → IsOfFiles w.content (files_of command) w.file_faults e w.files → Explains e w
@@ -40,6 +40,7 @@ explain_files w command is unread none Done h = absurd h
 explain_files w command is unread none Usage h = absurd h
 explain_files w command is unread none (ConfigRefused at) h = absurd h
 explain_files w command is unread none ReadFault h = absurd h
+explain_files w command is unread none ListenFault h = absurd h
 explain_files w command is unread none WriteFault h = absurd h
 explain_files w command is unread none (SettingsRefused refused) h = absurd h
 
@@ -56,6 +57,7 @@ explain_config w command reading say unread none Done h = absurd h
 explain_config w command reading say unread none Usage h = absurd h
 explain_config w command reading say unread none TooLong h = absurd h
 explain_config w command reading say unread none ReadFault h = absurd h
+explain_config w command reading say unread none ListenFault h = absurd h
 explain_config w command reading say unread none WriteFault h = absurd h
 explain_config w command reading say unread none (SettingsRefused refused) h = absurd h
 explain_config w command reading say unread none (FileFault index) h = absurd h
@@ -64,6 +66,7 @@ module _ (w : World) (command : Command) (config : List DomainTree) (say : Files
   pub explain_input : NothingWritten w → (e : Exit) → IsOfInput w.left w.source_faults e w.reads → Explains e w
   explain_input none TooLong h = (inr ((command, (config, say)), h.0, h.1), none)
   explain_input none ReadFault h = ((command, (config, say)), h.0, h.1, none)
+  explain_input none ListenFault h = absurd h
   explain_input none OutOfMemory h = (inl (command, say.named), none)
   explain_input none Done h = absurd h
   explain_input none Usage h = absurd h
@@ -89,6 +92,7 @@ module _ (w : World) (command : Command) (named : command_of w.words ≡ Some co
   explain_output (ConfigRefused at) h = absurd h
   explain_output TooLong h = absurd h
   explain_output ReadFault h = absurd h
+  explain_output ListenFault h = absurd h
   explain_output (SettingsRefused refused) h = absurd h
   explain_output (FileFault index) h = absurd h
 
@@ -101,10 +105,10 @@ made_output w configs Lookup config bytes read are pieces made = record {
   read = read;
   made = subst (λ (b : List ℕ). IsOfWork Lookup config b pieces) (sym are) made;
 }
-made_output w configs (Drive workers cells start global_shadow) config bytes read are pieces made = record {
+made_output w configs (Drive setup) config bytes read are pieces made = record {
   config = config;
   read = read;
-  made = subst (λ (b : List ℕ). IsOfWork (Drive workers cells start global_shadow) config b pieces) (sym are) made;
+  made = subst (λ (b : List ℕ). IsOfWork (Drive setup) config b pieces) (sym are) made;
 }
 
 -- what a settings file says, and what its streams say
@@ -116,6 +120,7 @@ settings_fault file streams Done h = absurd h
 settings_fault file streams Usage h = absurd h
 settings_fault file streams (ConfigRefused at) h = absurd h
 settings_fault file streams ReadFault h = absurd h
+settings_fault file streams ListenFault h = absurd h
 settings_fault file streams WriteFault h = absurd h
 settings_fault file streams (FileFault index) h = absurd h
 
@@ -128,6 +133,7 @@ streams_fault file streams settings spells Done h = absurd h
 streams_fault file streams settings spells Usage h = absurd h
 streams_fault file streams settings spells (ConfigRefused at) h = absurd h
 streams_fault file streams settings spells ReadFault h = absurd h
+streams_fault file streams settings spells ListenFault h = absurd h
 streams_fault file streams settings spells WriteFault h = absurd h
 streams_fault file streams settings spells (FileFault index) h = absurd h
 
@@ -137,14 +143,15 @@ module _ (w : World) (job : QuotaJob) (is : command_of w.words ≡ Some (Quota j
   pub explain_replay : NothingWritten w → (e : Exit) → IsOfReplay file streams e → Explains e w
   explain_replay none TooLong h =
       let says : QuotaSays w job (Ok (Some h.0)) = record { named = is; file = file; streams = streams; contents = contents; spells = h.1 } in
-      (inl (inr (job, (h.0, (says, h.2))), unread), none)
+      (inl (inr (inl (job, (h.0, (says, h.2)))), unread), none)
   explain_replay none (SettingsRefused refused) h =
-      ((job, record { named = is; file = file; streams = streams; contents = contents; spells = h }), unread, none)
+      (inl (job, record { named = is; file = file; streams = streams; contents = contents; spells = h }), unread, none)
   explain_replay none OutOfMemory h = (inl (Quota job, is), none)
   explain_replay none Done h = absurd h
   explain_replay none Usage h = absurd h
   explain_replay none (ConfigRefused at) h = absurd h
   explain_replay none ReadFault h = absurd h
+  explain_replay none ListenFault h = absurd h
   explain_replay none WriteFault h = absurd h
   explain_replay none (FileFault index) h = absurd h
 

@@ -1,10 +1,13 @@
 pub mod Pieces
 pub mod Told
 pub mod Explaining
+pub mod Pooling
 mod Completing
 pub mod Histories
 pub mod Apps
 pub mod Numbers
 pub mod Founds
 pub mod Lines
+pub mod Serving
 pub mod Lining
+pub mod Ranges

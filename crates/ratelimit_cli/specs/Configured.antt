@@ -11,8 +11,8 @@ use Rattle.rls_core.specs.declared.totals.Total.{Total}
 use Rattle.reply_text.specs.declared.record.Record.{Record}
 use Rattle.text_lines.specs.Lines.{cut}
 use Rattle.drive_run.specs.Script.{script_of}
-use Rattle.drive_run.specs.Totals.{AreTotalsOf}
-use Rattle.drive_run.specs.Run.{IsRun}
+use Rattle.script_run.specs.Totals.{AreTotalsOf}
+use Rattle.script_run.specs.Run.{IsRun}
 use Rattle.ratelimit_cli.specs.Output.{lines_of}
 use Rattle.ratelimit_cli.specs.Words.{command_of}
 use Rattle.ratelimit_cli.specs.Jobs.{files_of, ReadsConfigs}
@@ -52,12 +52,12 @@ pub record HasRead (w : World) (command : Command) (config : List DomainTree) : 
   pub input : IsInput w.left w.reads
   pub rest : IsAtEnd w.rest
 
--- these are the texts of a lawful run of these bytes, as a script, by this configuration, and of its totals
-pub record IsRunText (config : List DomainTree) (cells start : ℕ) (global_shadow : Bool) (bytes : List ℕ)
+-- these are the texts of a lawful run of these bytes, as a script, by this configuration and so many workers, and of its totals
+pub record IsRunText (config : List DomainTree) (workers cells start : ℕ) (global_shadow : Bool) (bytes : List ℕ)
     (pieces : List (List ℕ)) : Type 0 where
   pub records : List Record
   pub totals : List Total
-  pub run : IsRun config cells start global_shadow (script_of bytes) records
+  pub run : IsRun config workers cells start global_shadow (script_of bytes) records
   pub sums : AreTotalsOf start (script_of bytes) records totals
   pub texts : pieces ≡ lines_of records totals
 
@@ -65,7 +65,7 @@ pub record IsRunText (config : List DomainTree) (cells start : ℕ) (global_shad
 abbrev pub IsMadeBy : Command → List DomainTree → List ℕ → List (List ℕ) → Type 0
 IsMadeBy (Plain configs) config bytes pieces = pieces ≡ lookup_output config bytes
 IsMadeBy (Threads (Drive configs workers cells start global_shadow)) config bytes pieces =
-    IsRunText config cells start global_shadow bytes pieces
+    IsRunText config workers cells start global_shadow bytes pieces
 IsMadeBy other config bytes pieces = ⊥
 
 -- a text that a command makes of its files and its input

@@ -10,15 +10,19 @@ use Rattle.config_json.specs.Reading.{reading_of}
 use Rattle.ratelimit_cli.specs.Output.{AppendsFront}
 use Rattle.ratelimit_cli.specs.Words.{command_of}
 use Rattle.ratelimit_cli.specs.declared.command.Command.{Command}
-use Rattle.ratelimit_cli.specs.declared.command.Command.TheVariants.{Quota, Help, Version}
+use Rattle.ratelimit_cli.specs.declared.command.Command.TheVariants.{Quota, Pool, Threads, Help, Version}
+use Rattle.ratelimit_cli.specs.declared.command.ThreadJob.TheVariants.{Serve}
+use Rattle.ratelimit_cli.specs.declared.command.ServeJob.{ServeJob}
 use Rattle.ratelimit_cli.specs.declared.help.TheConstants.{HELP, VERSION}
 use Rattle.ratelimit_cli.specs.declared.exit.Exit.{Exit}
 use Rattle.ratelimit_cli.specs.declared.exit.Exit.TheVariants.{Done, Usage, ConfigRefused, TooLong, ReadFault, WriteFault, FileFault}
-use Rattle.ratelimit_cli.specs.declared.exit.Exit.TheVariants.{OutOfMemory, SettingsRefused}
+use Rattle.ratelimit_cli.specs.declared.exit.Exit.TheVariants.{OutOfMemory, ListenFault, SettingsRefused}
 use Rattle.ratelimit_cli.specs.World.{World, IsTooLong, HasLongFile, FileFails}
 use Rattle.ratelimit_cli.specs.World.{NoFileAsked, NothingRead, NothingWritten, IsCommand, WroteUpTo}
 use Rattle.ratelimit_cli.specs.Configured.{AreRefused, IsConfigured, IsMade}
+use Rattle.ratelimit_cli.specs.Served.{Listening, NothingListened, has_listen_failed, ExplainsServe}
 use Rattle.ratelimit_cli.specs.Replayed.{IsSettingsRefused, HasLongStream, IsReplayed, AreReplayable}
+use Rattle.ratelimit_cli.specs.Pooled.{ArePoolsRefused, HasLongEvents, IsPooled, ArePoolable}
 
 -- a text that a command has, whatever files and input hold
 pub record IsFixed (w : World) (command : Command) (text : List ℕ) (pieces : List (List ℕ)) : Type 0 where
@@ -27,12 +31,13 @@ pub record IsFixed (w : World) (command : Command) (text : List ℕ) (pieces : L
   pub unread : NothingRead w
   pub text_alone : pieces ≡ text ∷ []
 
--- The output of a command, piece by piece: the help, the version, what comes of streams, or what is made of the configuration
--- and the input.
+-- The output of a command, piece by piece: the help, the version, what comes of streams or of events, or what is made of the
+-- configuration and the input.
 abbrev pub IsOutput : World → Command → List (List ℕ) → Type 0
 IsOutput w Help pieces = IsFixed w Help HELP.now pieces
 IsOutput w Version pieces = IsFixed w Version VERSION.now pieces
 IsOutput w (Quota job) pieces = IsReplayed w job pieces
+IsOutput w (Pool job) pieces = IsPooled w job pieces
 IsOutput w command pieces = IsMade w command pieces
 
 -- The output of a command was written, each piece by one call, and nothing else.
@@ -51,9 +56,10 @@ pub record WritesFront (w : World) : Type 0 where
   pub each : WroteUpTo pieces w.writes
   pub bytes : AppendsFront w.written w.after (concat pieces)
 
--- the files of a command have no refusal, and its streams aren't too long
+-- the files of a command have no refusal, and its streams and its events aren't too long
 abbrev pub AreLawful : Command → List (List ℕ) → Type 0
 AreLawful (Quota job) files = AreReplayable files
+AreLawful (Pool job) files = ArePoolable files
 AreLawful command files = (at : At) → reading_of files ≡ Err at → ⊥
 
 -- The words are a command; no read and no write failed; files and input are within the limits; and the bytes that came of the
@@ -75,15 +81,21 @@ Explains Done w = Writes w
 Explains Usage w = (command_of w.words ≡ None) × NoFileAsked w × NothingRead w × NothingWritten w
 Explains (ConfigRefused at) w = AreRefused w at × NothingRead w × NothingWritten w
 Explains TooLong w =
-    (((HasLongFile w ⊎ HasLongStream w) × NothingRead w) ⊎ (IsConfigured w × IsTooLong (given w.reads) × Told w.left IsTooLong))
+    (((HasLongFile w ⊎ HasLongStream w ⊎ HasLongEvents w) × NothingRead w) ⊎ (IsConfigured w × IsTooLong (given w.reads) × Told w.left IsTooLong))
     × NothingWritten w
 Explains ReadFault w = IsConfigured w × (has_failed w.reads ≡ true) × Rose w.source_faults.0 w.source_faults.1 × NothingWritten w
 Explains WriteFault w = WritesFront w × Rose w.sink_faults.0 w.sink_faults.1
 Explains (FileFault index) w = FileFails w index × Rose w.file_faults.0 w.file_faults.1 × NothingRead w × NothingWritten w
-Explains (SettingsRefused refused) w = IsSettingsRefused w refused × NothingRead w × NothingWritten w
+Explains (SettingsRefused refused) w = (IsSettingsRefused w refused ⊎ ArePoolsRefused w refused) × NothingRead w × NothingWritten w
+Explains ListenFault w = ⊥
 Explains OutOfMemory w = (IsCommand w ⊎ (NoFileAsked w × NothingRead w)) × NothingWritten w
 
+-- the same, where `serve` may have listened
+abbrev pub ExplainsCall : Exit → World → Listening → Type 0
+ExplainsCall exit w l = (Explains exit w × NothingListened l)
+    ⊎ ((job : ServeJob) × (command_of w.words ≡ Some (Threads (Serve job))) × ExplainsServe exit w l job)
+
 -- What the call answers: the exit's cause, and that it is Done, or want of memory, where there is no other cause.
-pub record IsExitOf (exit : Exit) (w : World) : Type 0 where
-  pub cause : Explains exit w
-  pub complete : HasNoCause w → (exit ≡ Done) ⊎ (exit ≡ OutOfMemory)
+pub record IsExitOf (exit : Exit) (w : World) (l : Listening) : Type 0 where
+  pub cause : ExplainsCall exit w l
+  pub complete : HasNoCause w → has_listen_failed l.listens ≡ false → (exit ≡ Done) ⊎ (exit ≡ OutOfMemory)

@@ -6,6 +6,9 @@ pub mod Quota
 pub mod World
 pub mod Configured
 pub mod Replayed
+pub mod Pooled
+pub mod Served
 pub mod Exits
 pub mod Parts
+pub mod Serving
 pub mod Reports

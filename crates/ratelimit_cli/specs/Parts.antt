@@ -1,18 +1,24 @@
 -- Inside: what the parts of the top call answer: reading the files, the configuration and the input, and writing the output.
-use Rattle.std.specs.Prelude.{◌≡◌, ℕ, List, [], map, true, Option, Some, Result, Ok, Err, All, ⊤}
+use Rattle.std.specs.Prelude.{◌≡◌, ℕ, ◌<◌, ◌≤◌, List, [], length, map, true, Option, Some, Result, Ok, Err, All, ⊤}
 use Rattle.std.specs.List.{concat}
 use Rattle.rate_types.specs.declared.refused.At.{At}
 use Rattle.rate_types.specs.declared.refused.Refused.{Refused}
+use Rattle.rate_types.specs.declared.limits.TheConstants.{MOST_LINES}
 use Rattle.rate_io.specs.Causes.{Rose}
 use Rattle.rate_io.specs.Content.{Told, Appends}
 use Rattle.rate_io.specs.Events.{Event, wrote, FileEvent, given, has_failed}
+use Rattle.text_lines.specs.Lines.{cut}
 use Rattle.descriptor_tree.specs.Trees.{DomainTree}
 use Rattle.quota_settings.specs.Covering.{AllSettings}
 use Rattle.quota_stream.specs.Tasks.{IsShort}
 use Rattle.quota_stream.specs.Runs.{HasTooLong}
+use Rattle.quota_pools.specs.Pools.{AllPools}
+use Rattle.quota_server.specs.Outcomes.{pool_output, server_after}
+use Rattle.quota_server.specs.Servers.{AllFit}
 use Rattle.ratelimit_cli.specs.Output.{AppendsFront}
 use Rattle.ratelimit_cli.specs.Lookup.{lookup_output}
 use Rattle.ratelimit_cli.specs.Quota.{settings_of, streams_output}
+use Rattle.ratelimit_cli.specs.Pooled.{pools_of}
 use Rattle.ratelimit_cli.specs.World.{StopsAt, IsLong, IsUnread, IsTooLong, WroteUpTo}
 use Rattle.ratelimit_cli.specs.Configured.{IsRunText}
 use Rattle.ratelimit_cli.specs.declared.work.Work.{Work}
@@ -50,7 +56,7 @@ pub record Sinks : Type 0 where
 -- what this work makes of a configuration and an input
 abbrev pub IsOfWork : Work → List DomainTree → List ℕ → List (List ℕ) → Type 0
 IsOfWork Lookup config bytes pieces = pieces ≡ lookup_output config bytes
-IsOfWork (Drive workers cells start global_shadow) config bytes pieces = IsRunText config cells start global_shadow bytes pieces
+IsOfWork (Drive setup) config bytes pieces = IsRunText config setup.workers setup.cells setup.start setup.global_shadow bytes pieces
 
 -- pieces of which this holds were written
 pub record Wrote (Is : List (List ℕ) → Type 0) (s : Sinks) (writes : List Event) : Type 0 where
@@ -73,8 +79,8 @@ IsOfOutput Is s WriteFault writes = WroteFront Is s writes × Rose s.faults.0 s.
 IsOfOutput Is s OutOfMemory writes = (writes ≡ []) × (s.after ≡ s.written)
 IsOfOutput Is s other writes = ⊥
 
--- why a settings file is none, by what it spells
-abbrev pub IsOfSettings : Result (Option AllSettings) Refused → Exit → Type 0
+-- why a file of settings or of pools is none, by what it spells
+abbrev pub IsOfSettings : {X : Type 0} → Result (Option X) Refused → Exit → Type 0
 IsOfSettings reading (SettingsRefused refused) = reading ≡ Err refused
 IsOfSettings reading OutOfMemory = ⊤
 IsOfSettings reading other = ⊥
@@ -99,3 +105,18 @@ pub record Replays (file : List ℕ) (streams pieces : List (List ℕ)) : Type 0
   pub spells : settings_of file ≡ Ok (Some settings)
   pub short : All IsShort streams
   pub replayed : pieces ≡ streams_output settings streams
+
+-- why these events weren't answered by this file of pools
+abbrev pub IsOfSharing : List ℕ → List ℕ → Exit → Type 0
+IsOfSharing file events (SettingsRefused refused) = pools_of file ≡ Err refused
+IsOfSharing file events TooLong = (pools : AllPools) × (pools_of file ≡ Ok (Some pools)) × (MOST_LINES < length (cut events))
+IsOfSharing file events OutOfMemory = ⊤
+IsOfSharing file events other = ⊥
+
+-- these are the lines of the answers to these events by this file of pools
+pub record Answers (file events : List ℕ) (pieces : List (List ℕ)) : Type 0 where
+  pub pools : AllPools
+  pub spells : pools_of file ≡ Ok (Some pools)
+  pub few : length (cut events) ≤ MOST_LINES
+  pub answered : pieces ≡ pool_output pools events
+  pub fit : AllFit (server_after pools events)

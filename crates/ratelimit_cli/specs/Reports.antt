@@ -5,7 +5,7 @@ use Rattle.std.specs.Str.{chars}
 use Rattle.std.specs.Char.{encode_utf8, is_control}
 use Rattle.ratelimit_cli.specs.declared.exit.Exit.{Exit}
 use Rattle.ratelimit_cli.specs.declared.exit.Exit.TheVariants.{Done, Usage, ConfigRefused, TooLong, ReadFault, WriteFault, FileFault}
-use Rattle.ratelimit_cli.specs.declared.exit.Exit.TheVariants.{OutOfMemory, SettingsRefused}
+use Rattle.ratelimit_cli.specs.declared.exit.Exit.TheVariants.{OutOfMemory, ListenFault, SettingsRefused}
 
 -- the exit status
 abbrev pub status_of : Exit → ℕ
@@ -17,6 +17,7 @@ status_of ReadFault = 4
 status_of WriteFault = 5
 status_of (FileFault index) = 6
 status_of OutOfMemory = 7
+status_of ListenFault = 8
 status_of (SettingsRefused refused) = 9
 
 -- a hexadecimal digit
@@ -42,5 +43,6 @@ text_of ReadFault = Some (codes "ratelimit: read failed")
 text_of WriteFault = Some (codes "ratelimit: write failed")
 text_of (FileFault index) = Some (codes "ratelimit: file " ++ decimal index ++ codes ": read failed")
 text_of OutOfMemory = Some (codes "ratelimit: out of memory")
+text_of ListenFault = Some (codes "ratelimit: listen failed")
 text_of (SettingsRefused refused) = Some (codes "ratelimit: settings: refused " ++ decimal refused.number ++ codes " at "
     ++ shown_place refused.at)

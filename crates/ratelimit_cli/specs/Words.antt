@@ -1,19 +1,19 @@
 -- The words of the program: which of them are a command.
 use Rattle.std.specs.Prelude.{ℕ, ◌&&◌, ◌||◌, List, [], ◌∷◌, length, Bool, true, false, nat_lt, Option, None, Some}
-use Rattle.std.specs.Prelude.{option_and_then, unwrap_or, if◌then◌else◌, codes}
+use Rattle.std.specs.Prelude.{option_and_then, unwrap_or, if◌then◌else◌, codes, ⊤}
 use Rattle.std.specs.List.{list_all}
 use Rattle.std.specs.Str.{bytes_eq}
 use Rattle.std.specs.Str.Parse.{digits_value, without_leading_plus}
 use Rattle.std.specs.Char.{digit_value}
-use Rattle.rate_types.specs.declared.limits.TheConstants.{DEFAULT_CELLS, LATEST_MOMENT, MOST_CELLS, MOST_WORKERS}
+use Rattle.rate_types.specs.declared.limits.TheConstants.{DEFAULT_CELLS, DEFAULT_WORKERS, LATEST_MOMENT, MOST_CELLS, MOST_CONNECTIONS, MOST_WORKERS}
 use Rattle.clap.specs.Words.{App, Row, Rule, new_app, new_rule, with_rule, first_of, all_of, matches_of, fault_of, rows_of, found_of}
 use Rattle.clap.specs.Kinds.{Kinds}
 use Rattle.clap.specs.declared.parser.matches.ArgMatches.{ArgMatches}
 use Rattle.clap.specs.declared.builder.action.ArgAction.TheVariants.{Append, SetTrue}
+use Rattle.http_limiter.specs.Limited.{IsInRange}
 use Rattle.ratelimit_cli.specs.declared.command.Command.{Command}
-use Rattle.ratelimit_cli.specs.declared.command.Command.TheVariants.{Plain, Quota, Threads, Help, Version}
-use Rattle.ratelimit_cli.specs.declared.command.TheConstants.{QUOTA_WORKERS}
-use Rattle.ratelimit_cli.specs.declared.command.ThreadJob.TheVariants.{Drive}
+use Rattle.ratelimit_cli.specs.declared.command.Command.TheVariants.{Plain, Quota, Pool, Threads, Help, Version}
+use Rattle.ratelimit_cli.specs.declared.command.ThreadJob.TheVariants.{Drive, Serve}
 
 -- ---- what each command takes
 
@@ -46,6 +46,20 @@ required_named name = record (option_named name) { required = true }
 unfoldable pub quota_app : App
 quota_app = with_rule (with_rule (with_rule (new_app (codes "quota")) (required_named (codes "settings")))
     (option_named (codes "workers"))) (files_named (codes "streams"))
+
+-- the name of one file
+abbrev pub file_named : List ℕ → Rule
+file_named name = record (new_rule name) { required = true }
+
+-- `pool --pools F EVENTS`
+unfoldable pub pool_app : App
+pool_app = with_rule (with_rule (new_app (codes "pool")) (required_named (codes "pools"))) (file_named (codes "events"))
+
+-- `serve --port P --connections N [--workers N] [--cells N] [--global-shadow] CONFIG..`
+unfoldable pub serve_app : App
+serve_app = with_rule (with_rule (with_rule (with_rule (with_rule (with_rule (new_app (codes "serve")) (required_named (codes "port")))
+    (required_named (codes "connections"))) (option_named (codes "workers"))) (option_named (codes "cells")))
+    (flag_named (codes "global-shadow"))) (files_named (codes "configs"))
 
 -- what is made of the words where a command takes them: where it has no fault in them
 abbrev pub if_taken : {X : Type 0} → Kinds → Option X → Option X
@@ -87,9 +101,9 @@ abbrev pub job_of : List (List ℕ) → Option ℕ → Option ℕ → Option ℕ
 job_of configs (Some workers) (Some cells) (Some start) global_shadow = Some (Threads (Drive configs workers cells start global_shadow))
 job_of configs workers cells start global_shadow = None
 
--- the run that `drive` makes: `--workers` is 1, `--cells` 1 to 1,048,576, `--start` 0 to 1,000,000,000,000
+-- the run that `drive` makes: `--workers` is 1 to 64, `--cells` 1 to 1,048,576, `--start` 0 to 1,000,000,000,000
 abbrev pub drive_job : List Row → Option Command
-drive_job rows = job_of (configs_in rows) (number_in 1 1 1 (first_of (codes "workers") rows))
+drive_job rows = job_of (configs_in rows) (number_in 1 MOST_WORKERS 1 (first_of (codes "workers") rows))
     (number_in 1 MOST_CELLS DEFAULT_CELLS (first_of (codes "cells") rows))
     (number_in 0 LATEST_MOMENT 0 (first_of (codes "start") rows)) (is_given (first_of (codes "global-shadow") rows))
 
@@ -114,11 +128,50 @@ quota_job_of settings streams workers = None
 -- the replay that `quota` makes: `--workers` is 1 to 64
 abbrev pub quota_job : List Row → Option Command
 quota_job rows = quota_job_of (first_of (codes "settings") rows) (streams_in rows)
-    (number_in 1 MOST_WORKERS QUOTA_WORKERS (first_of (codes "workers") rows))
+    (number_in 1 MOST_WORKERS DEFAULT_WORKERS (first_of (codes "workers") rows))
 
 -- the words of `quota`
 abbrev pub quota_of : List (List ℕ) → Option Command
 quota_of words = if_taken (fault_of quota_app words) (quota_job (matches_of quota_app words))
+
+-- the answers by these, where both are there
+abbrev pub pool_job_of : Option (List ℕ) → Option (List ℕ) → Option Command
+pool_job_of (Some pools) (Some events) = Some (Pool (record { pools = pools; events = events }))
+pool_job_of pools events = None
+
+-- the answers that `pool` gives
+abbrev pub pool_job : List Row → Option Command
+pool_job rows = pool_job_of (first_of (codes "pools") rows) (first_of (codes "events") rows)
+
+-- the words of `pool`
+abbrev pub pool_of : List (List ℕ) → Option Command
+pool_of words = if_taken (fault_of pool_app words) (pool_job (matches_of pool_app words))
+
+-- the number of an option that has to be there
+abbrev pub required_in : ℕ → Option (List ℕ) → Option ℕ
+required_in most None = None
+required_in most (Some text) = number_in 0 most 0 (Some text)
+
+-- the serving of connections by these numbers, where all are there
+abbrev pub serve_job_of : List (List ℕ) → Option ℕ → Option ℕ → Option ℕ → Option ℕ → Bool → Option Command
+serve_job_of configs (Some port) (Some connections) (Some workers) (Some cells) global_shadow = Some (Threads (Serve (record {
+  configs = configs;
+  setup = record { workers = workers; cells = cells; global_shadow = global_shadow };
+  port = port;
+  connections = connections;
+})))
+serve_job_of configs port connections workers cells global_shadow = None
+
+-- what `serve` does: `--port` is 0 to 65,535, `--connections` 0 to 1,048,576, `--workers` 1 to 64, `--cells` 1 to 1,048,576
+abbrev pub serve_job : List Row → Option Command
+serve_job rows = serve_job_of (configs_in rows) (required_in 65535 (first_of (codes "port") rows))
+    (required_in MOST_CONNECTIONS (first_of (codes "connections") rows))
+    (number_in 1 MOST_WORKERS DEFAULT_WORKERS (first_of (codes "workers") rows))
+    (number_in 1 MOST_CELLS DEFAULT_CELLS (first_of (codes "cells") rows)) (is_given (first_of (codes "global-shadow") rows))
+
+-- the words of `serve`
+abbrev pub serve_of : List (List ℕ) → Option Command
+serve_of words = if_taken (fault_of serve_app words) (serve_job (matches_of serve_app words))
 
 -- a command of one word
 abbrev pub alone : List (List ℕ) → Command → Option Command
@@ -130,8 +183,10 @@ abbrev pub command_named : List ℕ → List (List ℕ) → Option Command
 command_named name words = if bytes_eq name (codes "drive") then drive_of words
     else (if bytes_eq name (codes "lookup") then lookup_of words
     else (if bytes_eq name (codes "quota") then quota_of words
+    else (if bytes_eq name (codes "pool") then pool_of words
+    else (if bytes_eq name (codes "serve") then serve_of words
     else (if bytes_eq name (codes "--help") then alone words Help
-    else (if bytes_eq name (codes "--version") then alone words Version else None))))
+    else (if bytes_eq name (codes "--version") then alone words Version else None))))))
 
 -- The command that the words are: the first names it, and it takes the rest.
 abbrev pub command_of : List (List ℕ) → Option Command
@@ -141,3 +196,8 @@ command_of (first ∷ more) = command_named first (first ∷ more)
 -- the rows of matches
 abbrev pub rows_in : ArgMatches → List Row
 rows_in m = rows_of (found_of m)
+
+-- the numbers of a command are in their ranges
+abbrev pub AreInRange : Command → Type 0
+AreInRange (Threads (Serve job)) = IsInRange job.setup job.connections
+AreInRange other = ⊤

@@ -20,8 +20,10 @@ pub enum Exit {
     WriteFault,
     /// The file of this index, from 0, couldn't be read.
     FileFault(u64),
-    /// There was no memory, and nothing was written.
+    /// There was no memory. Nothing was written, but for the port by `serve`.
     OutOfMemory,
+    /// The port couldn't be had, or a connection couldn't be accepted.
+    ListenFault,
     /// A settings file is refused: the place and the number of its first fault.
     SettingsRefused(Refused),
 }
@@ -40,6 +42,7 @@ impl Exit {
             Exit::WriteFault => 5,
             Exit::FileFault(_) => 6,
             Exit::OutOfMemory => 7,
+            Exit::ListenFault => 8,
             Exit::SettingsRefused(_) => 9,
         }
     }

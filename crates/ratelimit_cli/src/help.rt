@@ -2,12 +2,12 @@
 
 /// What `--help` prints: each command with its options and their defaults, and the exits.
 pub const HELP: &str = "\
-ratelimit: a rate limiter after Envoy's rate limit service, over recorded traffic
+ratelimit: a rate limiter after Envoy's rate limit service, over recorded traffic and over HTTP
 
   drive [--workers N] [--cells N] [--start T] [--global-shadow] CONFIG..
       Reads configuration files and then a script from standard input, and prints a record for each line of the script
       and a total for each counter whose window is open at its end.
-        --workers N        workers: 1 (default 1)
+        --workers N        workers: 1 to 64 (default 1)
         --cells N          cells for counters: 1 to 1048576 (default 262144)
         --start T          the moment of the start, in seconds: 0 to 1000000000000 (default 0)
         --global-shadow    no reply has the overall code OVER_LIMIT
@@ -19,13 +19,26 @@ ratelimit: a rate limiter after Envoy's rate limit service, over recorded traffi
       client would have done: decisions, assignments with their effect, usage reports.
         --settings F       the settings file
         --workers N        workers: 1 to 64 (default 4); the output is the same for every number
+  pool --pools F EVENTS
+      Reads pools of quota and recorded usage reports of clients, and prints the assignments of a quota server whose clients
+      together hold at most each pool.
+        --pools F          the file of pools
+  serve --port P --connections N [--workers N] [--cells N] [--global-shadow] CONFIG..
+      Reads configuration files and answers checks over HTTP at the loopback address: POST /json with a RateLimitRequest, GET
+      /healthcheck. Prints its port, and after N connections how each of them ended.
+        --port P           the port, 0 for a free one
+        --connections N    how many connections are served: 0 to 1048576
+        --workers N        passes of the limiter: 1 to 64 (default 4)
+        --cells N          cells for counters: 1 to 1048576 (default 262144)
+        --global-shadow    no reply has the overall code OVER_LIMIT
   --help
       Prints this text.
   --version
       Prints the version.
 
 Exits: 0 done, 1 usage, 2 a configuration file is refused, 3 a file or the input is too long, 4 reading the input failed,
-5 writing the output failed, 6 reading a file failed, 7 out of memory, 9 quota settings are refused.
+5 writing the output failed, 6 reading a file failed, 7 out of memory, 8 listening failed, 9 quota settings or
+pools are refused.
 ";
 
 /// What `--version` prints.

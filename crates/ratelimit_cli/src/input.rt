@@ -13,9 +13,9 @@ use rate_types::limits::{MOST_BYTES, MOST_LINES};
 use std::alloc::Global;
 use text_lines::cut_line;
 
-// Whether there are at most 1,048,576 lines.
+/// Whether there are at most 1,048,576 lines.
 #[tactic(auto, using(crate::proofs::Lines::none_cut))]
-fn are_few_lines(bytes: &[u8]) -> bool
+pub fn are_few_lines(bytes: &[u8]) -> bool
     ensures few { result ≡ true → length (cut bytes.now) ≤ MOST_LINES }
     ensures many { result ≡ false → MOST_LINES < length (cut bytes.now) }
 {

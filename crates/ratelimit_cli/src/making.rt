@@ -11,23 +11,26 @@ use crate::lookup::lookup_lines;
 use crate::output::all_lines;
 use crate::work::Work;
 use descriptor_tree::Config;
-use drive_run::{Script, ScriptFault, drive_script};
-use rate_types::{OutOfMemory, Seconds};
+use drive_run::{Script, ScriptFault, Setup, drive_script};
+use rate_types::OutOfMemory;
 use rule_lookup::Index;
 use std::alloc::Global;
-use std::sync::Arc;
+use std::sync::{Arc, Wait};
+use std::thread::Threads;
+use worker_run::Gate;
 
 // The lines of a run of an input as a script.
-fn run_lines(
+fn run_lines<R: Threads + Wait + Sync, G: Gate>(
+    rt: &R,
     alloc: Global,
     config: Config,
     bytes: &[u8],
-    cells: u32,
-    start: Seconds,
-    global_shadow: bool,
+    setup: Setup,
+    gate: &G,
 ) -> Result<Vec<String>, OutOfMemory>
     requires { length (cut bytes.now) ≤ MOST_LINES }
-    ensures { IfOk result (λ v. IsRunText (config_view config) cells start global_shadow bytes.now (map (λ t. string_bytes t) v.items)) }
+    ensures { IfOk result (λ v. IsRunText (config_view config) setup.workers setup.cells setup.start setup.global_shadow bytes.now
+        (map (λ t. string_bytes t) v.items)) }
 {
     let script = match Script::read(alloc, bytes) {
         Ok(script) => script,
@@ -35,7 +38,7 @@ fn run_lines(
         Err(ScriptFault::OutOfMemory) => return Err(OutOfMemory),
     };
     let config = Arc::new(alloc, config)?;
-    let driven = drive_script(alloc, script, config, cells, start, global_shadow)?;
+    let driven = drive_script(rt, alloc, script, config, setup, gate)?;
     let lines = all_lines(alloc, driven.records.items(), driven.totals.items())?;
     Ok(lines)
 }
@@ -52,22 +55,19 @@ fn found_lines(alloc: Global, config: Config, bytes: &[u8]) -> Result<Vec<String
 }
 
 /// The lines of the output of this work, each with its line feed.
-pub fn made_lines(
+pub fn made_lines<R: Threads + Wait + Sync, G: Gate>(
+    rt: &R,
     alloc: Global,
     work: Work,
     config: Config,
     bytes: &[u8],
+    gate: &G,
 ) -> Result<Vec<String>, OutOfMemory>
     requires { length (cut bytes.now) ≤ MOST_LINES }
     ensures { IfOk result (λ v. IsOfWork work (config_view config) bytes.now (map (λ t. string_bytes t) v.items)) }
 {
     match work {
         Work::Lookup => found_lines(alloc, config, bytes),
-        Work::Drive {
-            cells,
-            start,
-            global_shadow,
-            ..
-        } => run_lines(alloc, config, bytes, cells, start, global_shadow),
+        Work::Drive(setup) => run_lines(rt, alloc, config, bytes, setup, gate),
     }
 }

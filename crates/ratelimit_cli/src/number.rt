@@ -18,6 +18,7 @@ pub fn number_in(text: Option<&str>, least: u64, most: u64, default: u64) -> Opt
     requires { default ≤ most }
     ensures number { result ≡ spec.number_in least most default (option_map (λ t. t.now) text.entry) }
     ensures bound { IfSome result (λ n. n ≤ most) }
+    ensures least { least ≤ default → IfSome result (λ n. least ≤ n) }
 {
     let Some(text) = text else {
         return Some(default);
@@ -32,7 +33,8 @@ pub fn number_in(text: Option<&str>, least: u64, most: u64, default: u64) -> Opt
 /// The same for numbers of 32 bits.
 pub fn count_in(text: Option<&str>, least: u32, most: u32, default: u32) -> Option<u32>
     requires { default ≤ most }
-    ensures { result ≡ spec.number_in least most default (option_map (λ t. t.now) text.entry) }
+    ensures number { result ≡ spec.number_in least most default (option_map (λ t. t.now) text.entry) }
+    ensures bound { least ≤ default → IfSome result (λ n. (least ≤ n) × (n ≤ most)) }
 {
     match number_in(text, u64::from(least), u64::from(most), u64::from(default)) {
         Some(n) => Some(n as u32),

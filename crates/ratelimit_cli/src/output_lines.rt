@@ -1,5 +1,5 @@
 // From texts to lines, and from lines to a sink.
-ghost use Rattle.std.specs.Prelude.{◌≡◌, ℕ, ◌<◌, ◌≤◌, ◌==◌, List, ◌++◌, map, length, position, IfSome, IfOk, OnOk, OnErr};
+ghost use Rattle.std.specs.Prelude.{◌≡◌, ℕ, ◌<◌, ◌≤◌, List, ◌++◌, map, length, IfOk, OnOk, OnErr};
 ghost use Rattle.std.specs.List.{concat, AllByRecursion};
 ghost use Rattle.rate_io.specs.Causes.{HasCause};
 ghost use Rattle.rate_io.specs.Content.{Appends};
@@ -12,14 +12,7 @@ ghost use Rattle.ratelimit_cli.specs.Quota.{in_order};
 use rate_io::{Failed, Sink};
 use rate_types::{OutOfMemory, Word};
 use std::alloc::Global;
-
-// The place of the first line feed.
-fn line_feed(bytes: &[u8]) -> Option<usize>
-    ensures at { result ≡ position (λ b. b == 10) bytes.now }
-    ensures within { IfSome result (λ at. at < length bytes.now) }
-{
-    bytes.iter().position(|b| *b == b'\n')
-}
+use text_lines::line_feed;
 
 // How many bytes the first line has, with its line feed.
 fn first_line(bytes: &[u8]) -> usize

@@ -9,24 +9,24 @@ use clap::error::ErrorKind;
 use clap::{Arg, ArgAction, ArgMatches, Command};
 use std::alloc::{AllocError, Global};
 
-// An option with a value.
-fn option_arg<'a>(alloc: Global, name: &'a str) -> Arg<'a>
+/// An option with a value.
+pub fn option_arg<'a>(alloc: Global, name: &'a str) -> Arg<'a>
     ensures rule { rule_of result ≡ spec.option_named name.entry.now }
     ensures local { result.global ≡ false }
 {
     Arg::new(alloc, name).long(name)
 }
 
-// A flag.
-fn flag_arg<'a>(alloc: Global, name: &'a str) -> Arg<'a>
+/// A flag.
+pub fn flag_arg<'a>(alloc: Global, name: &'a str) -> Arg<'a>
     ensures rule { rule_of result ≡ spec.flag_named name.entry.now }
     ensures local { result.global ≡ false }
 {
     Arg::new(alloc, name).long(name).action(ArgAction::SetTrue)
 }
 
-// The names of files, one or more.
-fn files_arg<'a>(alloc: Global, name: &'a str) -> Arg<'a>
+/// The names of files, one or more.
+pub fn files_arg<'a>(alloc: Global, name: &'a str) -> Arg<'a>
     ensures rule { rule_of result ≡ spec.files_named name.entry.now }
     ensures local { result.global ≡ false }
 {
@@ -61,8 +61,8 @@ pub fn lookup_parser<'a>(alloc: Global) -> Result<Command<'a>, AllocError>
     Ok(command)
 }
 
-// An option with a value that has to be there.
-fn required_arg<'a>(alloc: Global, name: &'a str) -> Arg<'a>
+/// An option with a value that has to be there.
+pub fn required_arg<'a>(alloc: Global, name: &'a str) -> Arg<'a>
     ensures rule { rule_of result ≡ spec.required_named name.entry.now }
     ensures local { result.global ≡ false }
 {

@@ -82,6 +82,7 @@ impl Exit {
                 return Ok(Some(format!(in alloc; "ratelimit: file {index}: read failed")?));
             }
             Exit::OutOfMemory => "ratelimit: out of memory",
+            Exit::ListenFault => "ratelimit: listen failed",
             Exit::SettingsRefused(refused) => return Ok(Some(settings_text(alloc, refused)?)),
         };
         Ok(Some(String::from_str(alloc, text)?))

@@ -1,16 +1,22 @@
 mod limits;
 mod lines;
+mod pool;
 mod quota;
 mod reports;
 mod rows;
+mod workers;
 
 use crate::{Exit, ratelimit};
-use rate_io::{MemFile, MemFiles, MemSink, MemSource};
+use rate_io::{FixedClock, MemFile, MemFiles, MemListen, MemSink, MemSource};
 use rate_types::{Blob, Names, Word};
 use std::alloc::Global;
+use std::hash::RandomState;
+use std::random::RandomSource;
 use std::str;
+use std::sync::Wait;
 use std::test::Fail;
 use std::thread::Threads;
+use worker_run::{Gate, Open};
 
 // A limit of 2 a minute for each value of k.
 const A: &str =
@@ -90,6 +96,7 @@ fn exit_text(alloc: Global, exit: &Exit) -> Result<String, Fail> {
         Exit::WriteFault => "write fault",
         Exit::FileFault(index) => return Ok(format!(in alloc; "file {}: fault", index)?),
         Exit::OutOfMemory => "out of memory",
+        Exit::ListenFault => "listen fault",
         Exit::SettingsRefused(refused) => {
             return Ok(format!(in alloc;
                 "settings: {} at {}",
@@ -102,13 +109,26 @@ fn exit_text(alloc: Global, exit: &Exit) -> Result<String, Fail> {
 }
 
 // The exit and then the output of a run of these words over files with the names a, b and c.
-fn said<R: Threads + Sync>(
+fn said<R: Threads + Wait + RandomSource + Sync>(
     rt: &R,
     alloc: Global,
     words: &[&str],
     contents: &[&str],
     script: &str,
     failing: Failing,
+) -> Result<String, Fail> {
+    said_to(rt, alloc, words, contents, script, failing, &Open)
+}
+
+// The same with a gate.
+fn said_to<R: Threads + Wait + RandomSource + Sync, G: Gate>(
+    rt: &R,
+    alloc: Global,
+    words: &[&str],
+    contents: &[&str],
+    script: &str,
+    failing: Failing,
+    gate: &G,
 ) -> Result<String, Fail> {
     let mut names = Vec::new(alloc);
     for text in words {
@@ -125,13 +145,18 @@ fn said<R: Threads + Sync>(
     let mut files = MemFiles::new(files, numbers(alloc, failing.file)?);
     let mut source = MemSource::new(bytes, numbers(alloc, failing.read)?);
     let mut sink = MemSink::new(alloc, numbers(alloc, failing.write)?);
+    let mut listen = MemListen::new(alloc, Vec::new(alloc), Vec::new(alloc))?;
     let exit = ratelimit(
         rt,
         alloc,
+        RandomState::new(rt)?,
         &Names::of(names),
         &mut files,
         &mut source,
         &mut sink,
+        &mut listen,
+        &FixedClock { seconds: 0 },
+        gate,
     );
     let mut text = exit_text(alloc, &exit)?;
     text.push('\n')?;

@@ -2,9 +2,12 @@ ghost use Rattle.std.specs.Prelude.{◌≡◌, ◌≤◌, ◌∷◌, [], List, �
 ghost use Rattle.rate_types.specs.declared.limits.TheConstants.{MOST_LINES};
 ghost use Rattle.rate_io.specs.Events.{Continues, Grew, since};
 ghost use Rattle.descriptor_tree.specs.Views.{config_view};
+ghost use Rattle.http_serve.specs.Links.{IsUnused};
 ghost use Rattle.text_lines.specs.Lines.{cut};
 ghost use Rattle.ratelimit_cli.specs.World.{exit_of};
-ghost use Rattle.ratelimit_cli.specs.Exits.{Explains, IsExitOf};
+ghost use Rattle.ratelimit_cli.specs.Exits.{Explains, ExplainsCall, IsExitOf};
+ghost use Rattle.ratelimit_cli.specs.declared.command.Command.TheVariants.{Threads};
+ghost use Rattle.ratelimit_cli.specs.declared.command.ThreadJob.TheVariants.{Drive};
 ghost use Rattle.ratelimit_cli.specs.Jobs.{command_with};
 ghost use Rattle.ratelimit_cli.specs.Words.{command_of};
 ghost use Rattle.ratelimit_cli.specs.Parts.{IsOfOutput, IsOfWork};
@@ -16,22 +19,30 @@ use crate::help::{HELP, VERSION};
 use crate::input::read_input;
 use crate::making::made_lines;
 use crate::output::write_lines;
+use crate::pool::run_pool;
 use crate::quota::run_quota;
+use crate::serve::run_serve;
 use crate::words::{WordsFault, read_words};
 use crate::work::Work;
 use descriptor_tree::Config;
-use rate_io::{Files, Sink, Source};
-use rate_types::Names;
+use drive_run::Setup;
+use rate_io::{Clock, Files, Listen, Sink, Source};
+use rate_types::{Names, Seconds};
 use std::alloc::Global;
+use std::hash::RandomState;
+use std::sync::Wait;
 use std::thread::Threads;
+use worker_run::Gate;
 
 // Makes the lines of the output of this work, and writes them.
-fn make_and_write<K: Sink>(
+fn make_and_write<R: Threads + Wait + Sync, K: Sink, G: Gate>(
+    rt: &R,
     alloc: Global,
     work: Work,
     config: Config,
     bytes: &[u8],
     sink: &mut K,
+    gate: &G,
 ) -> Result<(), Exit>
     requires { length (cut bytes.now) ≤ MOST_LINES }
     ensures { Grew (K.history sink.old) (K.history sink.new) (IsOfOutput (IsOfWork work (config_view config) bytes.now) (record {
@@ -40,7 +51,7 @@ fn make_and_write<K: Sink>(
       faults = (K.faults sink.old, K.faults sink.new);
     }) (exit_of result)) }
 {
-    let Ok(lines) = made_lines(alloc, work, config, bytes) else {
+    let Ok(lines) = made_lines(rt, alloc, work, config, bytes, gate) else {
         return Err(Exit::OutOfMemory);
     };
     match write_lines(sink, &lines) {
@@ -71,13 +82,15 @@ fn write_text<K: Sink>(alloc: Global, text: &str, sink: &mut K) -> Result<(), Ex
 }
 
 // Does this work by the configuration files of these names: the steps in their order, up to the first that fails.
-fn run_work<F: Files, S: Source, K: Sink>(
+fn run_work<R: Threads + Wait + Sync, F: Files, S: Source, K: Sink, G: Gate>(
+    rt: &R,
     alloc: Global,
     configs: &Names,
     work: Work,
     files: &mut F,
     source: &mut S,
     sink: &mut K,
+    gate: &G,
 ) -> Result<(), Exit>
     ensures exit { (words : List (List ℕ)) → command_of words ≡ Some (command_with configs.now work)
         → Explains (exit_of result) (record {
@@ -110,19 +123,57 @@ fn run_work<F: Files, S: Source, K: Sink>(
         Ok(bytes) => bytes,
         Err(exit) => return Err(exit),
     };
-    make_and_write(alloc, work, config, &bytes, sink)
+    make_and_write(rt, alloc, work, config, &bytes, sink, gate)
+}
+
+// The setup of the run that the words name.
+fn setup_of(
+    words: &Names,
+    configs: &Names,
+    workers: u32,
+    cells: u32,
+    start: Seconds,
+    global_shadow: bool,
+    seed: RandomState,
+) -> Setup
+    requires { command_of words.now ≡ Some (Threads (Drive configs.now workers cells start global_shadow)) }
+    ensures { (result.workers ≡ workers) × (result.cells ≡ cells) × (result.start ≡ start) × (result.global_shadow ≡ global_shadow) }
+{
+    let _ = words;
+    let _ = configs;
+    Setup {
+        workers,
+        cells,
+        start,
+        global_shadow,
+        seed,
+    }
 }
 
 // Does the command that the words name.
-fn run_command<R: Threads + Sync, F: Files, S: Source, K: Sink>(
+#[tactic(auto, using(crate::proofs::Serving::plain_call, crate::proofs::Histories::stays))]
+fn run_command<
+    R: Threads + Wait + Sync,
+    F: Files,
+    S: Source,
+    K: Sink,
+    L: Listen,
+    C: Clock,
+    G: Gate,
+>(
     rt: &R,
     alloc: Global,
+    seed: RandomState,
     words: &Names,
     files: &mut F,
     source: &mut S,
     sink: &mut K,
+    listen: &mut L,
+    clock: &C,
+    gate: &G,
 ) -> Result<(), Exit>
-    ensures exit { Explains (exit_of result) (record {
+    requires unused { IsUnused (L.history listen.old) }
+    ensures exit { ExplainsCall (exit_of result) (record {
       words = words.now;
       files = since (F.history files.old) (F.history files.new);
       reads = since (S.history source.old) (S.history source.new);
@@ -135,14 +186,19 @@ fn run_command<R: Threads + Sync, F: Files, S: Source, K: Sink>(
       rest = S.left source.new;
       written = K.written sink.old;
       after = K.written sink.new;
+    }) (record {
+      listens = since (L.history listen.old) (L.history listen.new);
+      faults = (L.faults listen.old, L.faults listen.new);
+      bounds = C.bounds clock.now;
     }) }
     ensures files { Continues (F.history files.old) (F.history files.new) }
     ensures source { Continues (S.history source.old) (S.history source.new) }
     ensures sink { Continues (K.history sink.old) (K.history sink.new) }
+    ensures listen { Continues (L.history listen.old) (L.history listen.new) }
 {
     match read_words(alloc, words) {
         Ok(Command::Plain(configs)) => {
-            run_work(alloc, &configs, Work::Lookup, files, source, sink)
+            run_work(rt, alloc, &configs, Work::Lookup, files, source, sink, gate)
         }
         Ok(
             Command::Threads(
@@ -155,15 +211,23 @@ fn run_command<R: Threads + Sync, F: Files, S: Source, K: Sink>(
                 },
             ),
         ) => {
-            let work = Work::Drive {
-                workers,
-                cells,
-                start,
-                global_shadow,
-            };
-            run_work(alloc, &configs, work, files, source, sink)
+            let setup = setup_of(words, &configs, workers, cells, start, global_shadow, seed);
+            run_work(
+                rt,
+                alloc,
+                &configs,
+                Work::Drive(setup),
+                files,
+                source,
+                sink,
+                gate,
+            )
+        }
+        Ok(Command::Threads(ThreadJob::Serve(job))) => {
+            run_serve(rt, alloc, seed, job, files, sink, listen, clock)
         }
         Ok(Command::Quota(job)) => run_quota(rt, alloc, job, files, sink),
+        Ok(Command::Pool(job)) => run_pool(alloc, &seed, job, files, sink),
         Ok(Command::Help) => write_text(alloc, HELP, sink),
         Ok(Command::Version) => write_text(alloc, VERSION, sink),
         Err(WordsFault::Usage) => Err(Exit::Usage),
@@ -174,18 +238,35 @@ fn run_command<R: Threads + Sync, F: Files, S: Source, K: Sink>(
 /// Does the command that the words name. `drive` reads configuration files and a script from the source, and writes one
 /// record per line of the script and then one total per counter whose window is open at its end; `lookup` reads
 /// configuration files and requests, and writes what each of their descriptors finds; `quota` reads a settings file and
-/// recorded streams, and writes what a lawful client would have done; `--help` and `--version` write their text.
+/// recorded streams, and writes what a lawful client would have done; `pool` reads pools and recorded reports, and writes the answers of
+/// a quota server; `serve` reads configuration files, accepts connections and
+/// answers their requests, and writes its port and how each connection ended; `--help` and `--version` write their text.
+///
+/// The workers of `drive` and `quota` are threads. Those of `drive` tell `gate` of each line. The hashes of names go by `seed`.
 ///
 /// The order of work is: the words, the files in order, the first refusal of a file, the input, the numbers of lines, the
 /// run or the look-ups, the output. Each exit comes where its cause is the first.
-pub fn ratelimit<R: Threads + Sync, F: Files, S: Source, K: Sink>(
+pub fn ratelimit<
+    R: Threads + Wait + Sync,
+    F: Files,
+    S: Source,
+    K: Sink,
+    L: Listen,
+    C: Clock,
+    G: Gate,
+>(
     rt: &R,
     alloc: Global,
+    seed: RandomState,
     words: &Names,
     files: &mut F,
     source: &mut S,
     sink: &mut K,
+    listen: &mut L,
+    clock: &C,
+    gate: &G,
 ) -> Exit
+    requires unused { IsUnused (L.history listen.old) }
     ensures exit { IsExitOf result (record {
       words = words.now;
       files = since (F.history files.old) (F.history files.new);
@@ -199,12 +280,19 @@ pub fn ratelimit<R: Threads + Sync, F: Files, S: Source, K: Sink>(
       rest = S.left source.new;
       written = K.written sink.old;
       after = K.written sink.new;
+    }) (record {
+      listens = since (L.history listen.old) (L.history listen.new);
+      faults = (L.faults listen.old, L.faults listen.new);
+      bounds = C.bounds clock.now;
     }) }
     ensures files { Continues (F.history files.old) (F.history files.new) }
     ensures source { Continues (S.history source.old) (S.history source.new) }
     ensures sink { Continues (K.history sink.old) (K.history sink.new) }
+    ensures listen { Continues (L.history listen.old) (L.history listen.new) }
 {
-    match run_command(rt, alloc, words, files, source, sink) {
+    match run_command(
+        rt, alloc, seed, words, files, source, sink, listen, clock, gate,
+    ) {
         Ok(()) => Exit::Done,
         Err(exit) => exit,
     }

@@ -4,12 +4,14 @@ ghost use Rattle.std.specs.Str.{bytes_eq};
 ghost use Rattle.ratelimit_cli.specs.Words as spec;
 ghost use Rattle.ratelimit_cli.specs.declared.words.WordsFault.TheVariants.{Usage};
 
-use crate::command::{Command, QUOTA_WORKERS, QuotaJob, ThreadJob};
+use crate::command::{Command, QuotaJob, ThreadJob};
 use crate::number::{count_in, number_in};
 use crate::parsers::{all_in, drive_parser, first_in, lookup_parser, parse, quota_parser};
+use crate::pool_words::read_pool;
+use crate::serve_words::read_serve;
 use crate::texts::{names_of, texts_of, word_of};
 use clap::ArgMatches;
-use rate_types::limits::{DEFAULT_CELLS, LATEST_MOMENT, MOST_CELLS, MOST_WORKERS};
+use rate_types::limits::{DEFAULT_CELLS, DEFAULT_WORKERS, LATEST_MOMENT, MOST_CELLS, MOST_WORKERS};
 use rate_types::{Names, OutOfMemory, Seconds, Word};
 use std::alloc::{AllocError, Global};
 use thiserror::Error;
@@ -47,8 +49,8 @@ impl From<AllocError> for WordsFault {
     }
 }
 
-// Whether a flag was given.
-fn is_given(text: Option<&str>) -> bool
+/// Whether a flag was given.
+pub fn is_given(text: Option<&str>) -> bool
     ensures { result ≡ spec.is_given (option_map (λ t. t.now) text.entry) }
 {
     match text {
@@ -66,7 +68,8 @@ fn job_of(
     global_shadow: bool,
 ) -> Option<Command>
     requires { IfSome start (λ n. n ≤ LATEST_MOMENT) }
-    ensures { result ≡ spec.job_of configs workers cells start global_shadow }
+    ensures job { result ≡ spec.job_of configs workers cells start global_shadow }
+    ensures range { IfSome result spec.AreInRange }
 {
     match (workers, cells, start) {
         (Some(workers), Some(cells), Some(start)) => Some(Command::Threads(ThreadJob::Drive {
@@ -83,10 +86,11 @@ fn job_of(
 // The run that these matches ask for.
 fn drive_job(alloc: Global, matches: &ArgMatches<'_>) -> Result<Command, WordsFault>
     ensures command { IfOk result (λ c. spec.drive_job (spec.rows_in matches.now) ≡ Some c) }
+    ensures range { IfOk result spec.AreInRange }
     ensures usage { result ≡ Err Usage → spec.drive_job (spec.rows_in matches.now) ≡ None }
 {
     let configs = names_of(alloc, all_in(matches, "configs"))?;
-    let workers = count_in(first_in(matches, "workers"), 1, 1, 1);
+    let workers = count_in(first_in(matches, "workers"), 1, MOST_WORKERS, 1);
     let cells = count_in(first_in(matches, "cells"), 1, MOST_CELLS, DEFAULT_CELLS);
     let start = number_in(first_in(matches, "start"), 0, LATEST_MOMENT, 0);
     let global_shadow = is_given(first_in(matches, "global-shadow"));
@@ -99,6 +103,7 @@ fn drive_job(alloc: Global, matches: &ArgMatches<'_>) -> Result<Command, WordsFa
 // The words of `drive`.
 fn read_drive(alloc: Global, words: &[Word]) -> Result<Command, WordsFault>
     ensures command { IfOk result (λ c. spec.drive_of words.now ≡ Some c) }
+    ensures range { IfOk result spec.AreInRange }
     ensures usage { result ≡ Err Usage → spec.drive_of words.now ≡ None }
 {
     let texts = texts_of(alloc, words)?;
@@ -114,6 +119,7 @@ fn read_drive(alloc: Global, words: &[Word]) -> Result<Command, WordsFault>
 // The words of `lookup`.
 fn read_lookup(alloc: Global, words: &[Word]) -> Result<Command, WordsFault>
     ensures command { IfOk result (λ c. spec.lookup_of words.now ≡ Some c) }
+    ensures range { IfOk result spec.AreInRange }
     ensures usage { result ≡ Err Usage → spec.lookup_of words.now ≡ None }
 {
     let texts = texts_of(alloc, words)?;
@@ -128,7 +134,8 @@ fn read_lookup(alloc: Global, words: &[Word]) -> Result<Command, WordsFault>
 
 // A replay by these, where all are there.
 fn quota_job_of(settings: Option<Word>, streams: Names, workers: Option<u32>) -> Option<Command>
-    ensures { result ≡ spec.quota_job_of settings streams workers }
+    ensures job { result ≡ spec.quota_job_of settings streams workers }
+    ensures range { IfSome result spec.AreInRange }
 {
     let Some(settings) = settings else {
         return None;
@@ -146,11 +153,17 @@ fn quota_job_of(settings: Option<Word>, streams: Names, workers: Option<u32>) ->
 // The replay that these matches ask for.
 fn quota_job(alloc: Global, matches: &ArgMatches<'_>) -> Result<Command, WordsFault>
     ensures command { IfOk result (λ c. spec.quota_job (spec.rows_in matches.now) ≡ Some c) }
+    ensures range { IfOk result spec.AreInRange }
     ensures usage { result ≡ Err Usage → spec.quota_job (spec.rows_in matches.now) ≡ None }
 {
     let settings = word_of(alloc, first_in(matches, "settings"))?;
     let streams = names_of(alloc, all_in(matches, "streams"))?;
-    let workers = count_in(first_in(matches, "workers"), 1, MOST_WORKERS, QUOTA_WORKERS);
+    let workers = count_in(
+        first_in(matches, "workers"),
+        1,
+        MOST_WORKERS,
+        DEFAULT_WORKERS,
+    );
     match quota_job_of(settings, streams, workers) {
         Some(job) => Ok(job),
         None => Err(WordsFault::Usage),
@@ -160,6 +173,7 @@ fn quota_job(alloc: Global, matches: &ArgMatches<'_>) -> Result<Command, WordsFa
 // The words of `quota`.
 fn read_quota(alloc: Global, words: &[Word]) -> Result<Command, WordsFault>
     ensures command { IfOk result (λ c. spec.quota_of words.now ≡ Some c) }
+    ensures range { IfOk result spec.AreInRange }
     ensures usage { result ≡ Err Usage → spec.quota_of words.now ≡ None }
 {
     let texts = texts_of(alloc, words)?;
@@ -183,10 +197,11 @@ fn alone(words: &[Word], command: Command) -> Result<Command, WordsFault>
     }
 }
 
-/// The command that the words name: the first is `drive`, `lookup`, `quota`, `--help` or `--version`, and the rest is read by
-/// that command.
+/// The command that the words name: the first is `drive`, `lookup`, `quota`, `pool`, `serve`, `--help` or `--version`, and the rest
+/// is read by that command.
 pub fn read_words(alloc: Global, words: &Names) -> Result<Command, WordsFault>
     ensures command { IfOk result (λ c. spec.command_of words.now ≡ Some c) }
+    ensures range { IfOk result spec.AreInRange }
     ensures usage { result ≡ Err Usage → spec.command_of words.now ≡ None }
 {
     let words = words.items();
@@ -202,6 +217,12 @@ pub fn read_words(alloc: Global, words: &Names) -> Result<Command, WordsFault>
     }
     if first == "quota" {
         return read_quota(alloc, words);
+    }
+    if first == "pool" {
+        return read_pool(alloc, words);
+    }
+    if first == "serve" {
+        return read_serve(alloc, words);
     }
     if first == "--help" {
         return alone(words, Command::Help);

@@ -1,4 +1,4 @@
-use rate_types::Seconds;
+use drive_run::Setup;
 
 /// What is done with a configuration and an input.
 #[derive(Clone, Copy)]
@@ -6,10 +6,5 @@ pub enum Work {
     /// Each line of the input is looked up.
     Lookup,
     /// The input is run as a script.
-    Drive {
-        workers: u32,
-        cells: u32,
-        start: Seconds,
-        global_shadow: bool,
-    },
+    Drive(Setup),
 }

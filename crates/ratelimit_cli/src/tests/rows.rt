@@ -1,6 +1,8 @@
 // Commands over configurations, scripts and requests with what they write.
 use super::{A, A0, CHECK_A, CHECK_B, NONE, joined, said};
 use std::alloc::Global;
+use std::random::RandomSource;
+use std::sync::Wait;
 use std::test::Fail;
 use std::thread::Threads;
 
@@ -9,7 +11,7 @@ const A1: &str =
     r#"{"domain":"d","descriptors":[{"key":"k","rateLimit":{"unit":"MINUTE","requestsPerUnit":1}}]}"#;
 
 // The exit and the output of a command over one file, and those of a whole run that writes these lines.
-fn run<R: Threads + Sync>(
+fn run<R: Threads + Wait + RandomSource + Sync>(
     rt: &R,
     alloc: Global,
     words: &[&str],
@@ -329,7 +331,7 @@ fn files_are_refused_at_their_places(rt: HostRuntime) -> Result<(), Fail> {
 // A table is a text. Each of its lines is words that are no command.
 const NO_COMMANDS: &str = "drive
 drive --workers 0 a
-drive --workers 2 a
+drive --workers 65 a
 drive --cells 0 a
 drive --cells 1048577 a
 drive --start 1000000000001 a

@@ -1,0 +1,193 @@
+-- From what the parts of `serve` answer to what its exit says.
+use Rattle.std.proofs.Common.{◌≡◌, ℕ, zero, suc, ◌+◌, ◌≤◌, ◌<◌, ◌||◌, List, [], ◌∷◌, ◌++◌, length, map, take, replicate, Bool, true, false, Option, Some, inl, inr, refl, sym, ap, ◌∙◌, subst, arith, append_assoc}
+use Rattle.std.specs.Prelude.{slice_get, cond}
+use Rattle.std.specs.List.{concat, filter_map, count_by, list_any}
+use Rattle.std.proofs.lemmas.List.{append-nil, map-append}
+use Rattle.std.proofs.lemmas.List.Elements.{filter_map-append}
+use Rattle.std.proofs.lemmas.List.Sums.{sum_by-append, sum_by-cons}
+use Rattle.std.proofs.lemmas.List.Folds.{list_any-append}
+use Rattle.rate_io.specs.Causes.{Rose}
+use Rattle.rate_io.specs.Content.{Appends}
+use Rattle.rate_io.specs.Events.{Event, wrote, write_failed, since}
+use Rattle.rate_io.specs.Listeners.{ListenEvent, bound, accepted, accept_failed, is_accepted, accepted_count, number_back}
+use Rattle.descriptor_tree.specs.Trees.{DomainTree}
+use Rattle.http_endpoint.specs.declared.link_end.LinkEnd.{LinkEnd}
+use Rattle.http_endpoint.specs.ServeLines.{link_end_line}
+use Rattle.http_serve.specs.Service.{Service}
+use Rattle.http_serve.specs.Links.{IsUnused, accepts, given_back, ends_of}
+use Rattle.http_limiter.specs.Limited.{ServedByLimiter}
+use Rattle.http_limiter.specs.declared.limited.Setup.{Setup}
+use Rattle.ratelimit_cli.specs.Output.{AppendsFront, with_line_feed}
+use Rattle.ratelimit_cli.specs.World.{World, WroteUpTo}
+use Rattle.ratelimit_cli.specs.Exits.{Explains, ExplainsCall}
+use Rattle.ratelimit_cli.specs.Served.{Listening, is_listen_failed, has_listen_failed, port_line, end_lines, serve_lines, HasBegun, ExplainsServe, PortWritten}
+use Rattle.ratelimit_cli.specs.Serving.{Found, world_of, EndsServing}
+use Rattle.ratelimit_cli.specs.Parts.{Sinks, Wrote, WroteFront, IsOfOutput}
+use Rattle.ratelimit_cli.specs.declared.command.ServeJob.{ServeJob}
+use Rattle.ratelimit_cli.specs.declared.exit.Exit.{Exit}
+use Rattle.ratelimit_cli.specs.declared.exit.Exit.TheVariants.{Done, Usage, ConfigRefused, TooLong, ReadFault, WriteFault, FileFault}
+use Rattle.ratelimit_cli.specs.declared.exit.Exit.TheVariants.{OutOfMemory, ListenFault, SettingsRefused}
+use Rattle.ratelimit_cli.proofs.Histories.{none_since}
+use Rattle.ratelimit_cli.proofs.Pieces.{appends_more}
+
+-- a command that listens to nothing
+pub plain_call : (e : Exit) (w : World) (old : List ListenEvent) (faults : ℕ × ℕ) (bounds : Option (ℕ × ℕ)) → Explains e w
+    → ExplainsCall e w (record { listens = since old old; faults = faults; bounds = bounds })
+plain_call e w old faults bounds h = inl (h, none_since old)
+
+-- one line more
+pub end_lines_push : (n : ℕ) (es : List LinkEnd) (e : LinkEnd) (k : ℕ) → k ≡ n + length es → end_lines n (es ++ e ∷ []) ≡ end_lines n es ++ with_line_feed (link_end_line k e) ∷ []
+end_lines_push n [] e k is = let same : n ≡ k = omega arith in ap (λ (j : ℕ). end_lines j (e ∷ [])) same
+end_lines_push n (x ∷ xs) e k is = ap (λ (l : List (List ℕ)). with_line_feed (link_end_line n x) ∷ l) (end_lines_push (n + 1) xs e k (omega arith))
+
+-- a listener that was bound and has accepted nothing
+pub unused_bound : (old : List ListenEvent) (asked port : ℕ) → IsUnused old → IsUnused (old ++ bound asked port ∷ [])
+unused_bound old asked port h = record {
+  none_accepted =
+      let a : accepted_count (old ++ bound asked port ∷ []) ≡ accepted_count old + accepted_count (bound asked port ∷ [])
+      = sum_by-append (λ (x : ListenEvent). cond (is_accepted x) 1 0) old (bound asked port ∷ []) in
+      let b = h.none_accepted in
+      omega arith;
+  none_back = filter_map-append number_back old (bound asked port ∷ []) ∙ ap (λ (l : List ℕ). l ++ []) h.none_back;
+}
+
+-- what a listener has beyond an earlier state
+pub record From (config : List DomainTree) (setup : Setup) (bounds : Option (ℕ × ℕ)) (old new : List ListenEvent) (services : List Service) (is_all : Bool) : Type 0 where
+  pub more : List ListenEvent
+  pub grew : new ≡ old ++ more
+  pub served : ServedByLimiter config setup bounds [] more services is_all
+
+pub served_from : (config : List DomainTree) (setup : Setup) (bounds : Option (ℕ × ℕ)) (old new : List ListenEvent) (services : List Service) (is_all : Bool)
+    → ServedByLimiter config setup bounds old new services is_all → From config setup bounds old new services is_all
+served_from config setup bounds old new services is_all h = record {
+  more = accepts (length services) is_all ++ given_back services;
+  grew = h.served.handled;
+  served = record {
+    limiter = h.limiter;
+    shadow = h.shadow;
+    before = h.before;
+    as_many = h.as_many;
+    fresh = h.fresh;
+    after = h.after;
+    served = record { numbered = h.served.numbered; asked = h.served.asked; served = h.served.served; handled = refl };
+  };
+}
+
+or_right : (b : Bool) → (b || true) ≡ true
+or_right true = refl
+or_right false = refl
+
+any_front : (xs ys : List ListenEvent) → has_listen_failed xs ≡ true → has_listen_failed (xs ++ ys) ≡ true
+any_front xs ys h = list_any-append is_listen_failed xs ys ∙ ap (λ (b : Bool). b || has_listen_failed ys) h
+
+any_last : (xs : List ListenEvent) → has_listen_failed (xs ++ accept_failed ∷ []) ≡ true
+any_last xs = list_any-append is_listen_failed xs (accept_failed ∷ []) ∙ or_right (has_listen_failed xs)
+
+pub accept_fails : (asked port : ℕ) (more : List ListenEvent) (n : ℕ) (services : List Service) → more ≡ accepts n false ++ given_back services
+    → has_listen_failed (bound asked port ∷ more) ≡ true
+accept_fails asked port more n services is = ap has_listen_failed is ∙ any_front (accepts n false) (given_back services) (any_last (replicate n accepted))
+
+-- two writings, one after the other
+pub wrote_both : (first : List ℕ) (pieces : List (List ℕ)) (a b c : Option (List ℕ)) → Appends a b first → Appends b c (concat pieces)
+    → Appends a c (concat (first ∷ pieces))
+wrote_both first pieces a b c p q = appends_more a b c first (concat pieces) p q
+
+pub front_both : (first : List ℕ) (pieces : List (List ℕ)) (a b c : Option (List ℕ)) → Appends a b first → AppendsFront b c (concat pieces)
+    → AppendsFront a c (concat (first ∷ pieces))
+front_both first pieces a b c p q = (
+  first ++ q.0,
+  q.1,
+  ap (λ (l : List ℕ). first ++ l) q.2 ∙ sym (append_assoc first q.0 q.1),
+  appends_more a b c first q.0 p q.3,
+)
+
+pub up_to_both : (first : List ℕ) (pieces : List (List ℕ)) (writes : List Event) → WroteUpTo pieces writes → WroteUpTo (first ∷ pieces) (wrote first ∷ writes)
+up_to_both first pieces writes h = record {
+  count = suc h.count;
+  piece = h.piece;
+  next = h.next;
+  each = ap (λ (l : List Event). wrote first ∷ l) h.each;
+}
+
+pub length_front : {A : Type 0} (k : ℕ) (xs : List A) → k ≤ length xs → length (take k xs) ≡ k
+length_front zero xs h = refl
+length_front (suc k) [] h = absurd (omega arith)
+length_front (suc k) (x ∷ xs) h = ap suc (length_front k xs (omega arith))
+
+pub port_written : (f : Found) (s : Sinks) (writes : List Event) (port : ℕ) → Wrote (λ pieces. pieces ≡ port_line port ∷ []) s writes → PortWritten (world_of f s writes) port
+port_written f s writes port h = record {
+  each = h.each ∙ ap (map wrote) h.are;
+  bytes = subst (λ (ps : List (List ℕ)). Appends s.written s.after (concat ps)) h.are h.bytes;
+}
+
+module _ (f : Found) (job : ServeJob) (config : List DomainTree) (l : Listening) (port : ℕ) (a b c : Option (List ℕ)) (first_faults faults : ℕ × ℕ) (first writes : List Event)
+    (more : List ListenEvent) (heard : ℕ × ℕ) (events : l.listens ≡ bound job.port port ∷ more)
+    (h : Wrote (λ pieces. pieces ≡ port_line port ∷ []) (record { written = a; after = b; faults = first_faults }) first)
+    (begun : HasBegun (world_of f (record { written = a; after = c; faults = (first_faults.0, faults.1) }) (first ++ writes)) job config)
+    (later : first_faults.0 ≤ faults.0) (heard_first : l.faults.0 ≤ heard.0) (heard_last : l.faults.1 ≡ heard.1) where
+  abbrev W : World
+  W = world_of f (record { written = a; after = c; faults = (first_faults.0, faults.1) }) (first ++ writes)
+
+  firsts : first ≡ wrote (port_line port) ∷ []
+  firsts = h.each ∙ ap (map wrote) h.are
+
+  first_bytes : Appends a b (port_line port)
+  first_bytes = subst (λ (bs : List ℕ). Appends a b bs) (append-nil (port_line port)) (subst (λ (ps : List (List ℕ)). Appends a b (concat ps)) h.are h.bytes)
+
+  alone : writes ≡ [] → c ≡ b → PortWritten W port
+  alone none same = record {
+    each = ap (λ (ws : List Event). first ++ ws) none ∙ append-nil first ∙ firsts;
+    bytes = subst (λ (x : Option (List ℕ)). Appends a x (concat (port_line port ∷ []))) (sym same) (subst (λ (ps : List (List ℕ)). Appends a b (concat ps)) h.are h.bytes);
+  }
+
+  rises : Rose faults.0 faults.1 → Rose first_faults.0 faults.1
+  rises r = omega arith
+
+  heard_rises : Rose heard.0 heard.1 → Rose l.faults.0 l.faults.1
+  heard_rises r = omega arith
+
+  pub serve_exit : (e : Exit) → EndsServing config job l.bounds heard (record { written = b; after = c; faults = faults }) more writes e → ExplainsServe e W l job
+  serve_exit Done (services, count, served, w) = record {
+    config = config;
+    begun = begun;
+    port = port;
+    services = services;
+    count = count;
+    listened = record { more = more; events = events; served = served };
+    each = ap (λ (x : List Event). x ++ writes) firsts ∙ ap (λ (y : List Event). wrote (port_line port) ∷ y) (w.each ∙ ap (map wrote) w.are);
+    bytes = wrote_both (port_line port) (end_lines 0 (ends_of services)) a b c first_bytes (subst (λ (ps : List (List ℕ)). Appends b c (concat ps)) w.are w.bytes);
+  }
+  serve_exit WriteFault (services, count, served, w, rose) = (
+    inl (record {
+      config = config;
+      begun = begun;
+      port = port;
+      services = services;
+      count = count;
+      listened = record { more = more; events = events; served = served };
+      each = subst (λ (x : List Event). WroteUpTo (serve_lines port (ends_of services)) (x ++ writes)) (sym firsts)
+          (up_to_both (port_line port) (end_lines 0 (ends_of services)) writes (subst (λ (ps : List (List ℕ)). WroteUpTo ps writes) w.are w.each));
+      bytes = front_both (port_line port) (end_lines 0 (ends_of services)) a b c first_bytes (subst (λ (ps : List (List ℕ)). AppendsFront b c (concat ps)) w.are w.bytes);
+    }),
+    rises rose,
+  )
+  serve_exit ListenFault (services, count, served, rose, none, same) = (
+    inr (record {
+      config = config;
+      begun = begun;
+      port = port;
+      services = services;
+      count = count;
+      listened = record { more = more; events = events; served = served };
+      written = alone none same;
+    }),
+    ap has_listen_failed events ∙ accept_fails job.port port more (length services) services served.served.handled,
+    heard_rises rose,
+  )
+  serve_exit OutOfMemory (none, same) = (begun.unread, inr (port, alone none same))
+  serve_exit Usage h' = absurd h'
+  serve_exit (ConfigRefused at) h' = absurd h'
+  serve_exit TooLong h' = absurd h'
+  serve_exit ReadFault h' = absurd h'
+  serve_exit (FileFault index) h' = absurd h'
+  serve_exit (SettingsRefused refused) h' = absurd h'

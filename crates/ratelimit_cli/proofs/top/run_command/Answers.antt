@@ -1,0 +1,43 @@
+use Rattle.std.proofs.Common.{◌≡◌, [], ◌∷◌, Some, inl, refl, ap, ◌∙◌}
+use Rattle.rate_io.specs.Events.{since}
+use Rattle.ratelimit_cli.specs.World.{World, exit_of}
+use Rattle.ratelimit_cli.specs.Words.{command_of}
+use Rattle.ratelimit_cli.specs.Parts.{IsOfOutput}
+use Rattle.ratelimit_cli.specs.declared.command.Command.TheVariants.{Help}
+use Rattle.ratelimit_cli.specs.declared.help.TheConstants.{HELP}
+use Rattle.ratelimit_cli.proofs.Histories.{none_since, grew_since}
+use Rattle.ratelimit_cli.proofs.Explaining.{explain_output, sinks}
+use Rattle.ratelimit_cli.proofs.top.run_command.Goals as goal
+
+pub returns-in-Ok-Help-clause-exit : goal.returns-in-Ok-Help-clause-exit
+returns-in-Ok-Help-clause-exit g c =
+    let F = g.F.Files in
+    let S = g.S.Source in
+    let K = g.K.Sink in
+    let w : World = record {
+      words = c.args.words.now;
+      files = since (F.history c.args.files.now) (F.history c.args.files.now);
+      reads = since (S.history c.args.source.now) (S.history c.args.source.now);
+      writes = since (K.history c.args.sink.now) (K.history c.write_text.new.sink);
+      file_faults = (F.faults c.args.files.now, F.faults c.args.files.now);
+      source_faults = (S.faults c.args.source.now, S.faults c.args.source.now);
+      sink_faults = (K.faults c.args.sink.now, K.faults c.write_text.new.sink);
+      content = F.content c.args.files.now;
+      left = S.left c.args.source.now;
+      rest = S.left c.args.source.now;
+      written = K.written c.args.sink.now;
+      after = K.written c.write_text.new.sink;
+    } in
+    let named : command_of w.words ≡ Some Help = c.in-Ok-Help.ensures.command ∙ ap Some c.in-Ok-Help.field-0-is in
+    inl (
+      explain_output w Help named (λ pieces. pieces ≡ HELP.now ∷ [])
+          (λ pieces is. record {
+            named = named;
+            unasked = none_since (F.history c.args.files.now);
+            unread = none_since (S.history c.args.source.now);
+            text_alone = is;
+          })
+          (exit_of c.write_text.result)
+          (grew_since (K.history c.args.sink.now) (K.history c.write_text.new.sink) (IsOfOutput (λ pieces. pieces ≡ HELP.now ∷ []) (sinks w) (exit_of c.write_text.result)) c.write_text.ensures),
+      none_since (g.L.Listen.history c.args.listen.now),
+    )

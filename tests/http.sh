@@ -1,0 +1,114 @@
+#!/usr/bin/env bash
+# Starts the real program as a server on a free port of the loopback address and drives it with curl and with plain sockets.
+# Usage: tests/http.sh [PROGRAM]
+# Prints `ok NAME` or `FAILED NAME: ...` for each case, and ends with 1 if any failed. It needs curl and python3.
+set -u
+here=$(cd "$(dirname "${BASH_SOURCE[0]}")" && pwd)
+top=$(cd "$here/.." && pwd)
+program=${1:-$top/crates/ratelimit/out/ratelimit}
+
+if [ $# -eq 0 ]; then
+    # The root script builds the program where it is missing or older than its sources; without words it ends with usage.
+    "$top/ratelimit" </dev/null >/dev/null 2>&1
+fi
+if [ ! -x "$program" ]; then
+    printf 'FAILED program: there is none at %s\n' "$program"
+    exit 1
+fi
+
+work=$(mktemp -d) || exit 1
+server=
+trap '[ -n "$server" ] && kill "$server" 2>/dev/null; rm -rf "$work"' EXIT
+failed=0
+
+# The limits are a day's, so no window ends in the middle of a run.
+while [ $(($(date +%s) % 86400)) -ge 86340 ]; do sleep 1; done
+
+cat >"$work/limits.json" <<'END'
+{"domain":"d","descriptors":[
+  {"key":"k","rateLimit":{"unit":"DAY","requestsPerUnit":2}},
+  {"key":"many","rateLimit":{"unit":"DAY","requestsPerUnit":5000}}]}
+END
+
+# same NAME WANTED FOUND
+same() {
+    if [ "$2" = "$3" ]; then
+        printf 'ok %s\n' "$1"
+    else
+        printf 'FAILED %s: %s, not %s\n' "$1" "$3" "$2"
+        failed=1
+    fi
+}
+
+# start CONNECTIONS WORD..: the server, and its port
+start() {
+    local connections=$1
+    shift
+    : >"$work/out"
+    timeout 120 "$program" serve --port 0 --connections "$connections" "$@" "$work/limits.json" \
+        </dev/null >"$work/out" 2>"$work/err" &
+    server=$!
+    port=
+    for _ in $(seq 200); do
+        port=$(sed -n '1s/.*"listening":\([0-9]*\).*/\1/p' "$work/out")
+        [ -n "$port" ] && break
+        sleep 0.05
+    done
+    url=http://127.0.0.1:$port
+}
+
+# ended NAME LINES: the server has served its connections, and has printed so many lines
+ended() {
+    wait "$server"
+    same "$1 ends" 0 "$?"
+    server=
+    same "$1 prints its lines" "$2" "$(wc -l <"$work/out")"
+    same "$1 says nothing on standard error" 0 "$(wc -c <"$work/err")"
+}
+
+# status WORD..: the status that curl gets
+status() {
+    curl -s -o "$work/answer" -w '%{http_code}' --max-time 20 "$@"
+}
+
+ask='{"domain":"d","descriptors":[{"entries":[{"key":"k","value":"a"}]}]}'
+
+start 14
+same "the health check" 200 "$(status "$url/healthcheck")"
+same "its body" OK "$(cat "$work/answer")"
+same "the first check" 200 "$(status -d "$ask" "$url/json")"
+same "the second check" 200 "$(status -d "$ask" "$url/json")"
+same "the third check" 429 "$(status -d "$ask" "$url/json")"
+same "its overall code" '{"overallCode":"OVER_LIMIT"' "$(cut -d, -f1 "$work/answer")"
+same "a request without descriptors" 400 "$(status -d '{"domain":"d"}' "$url/json")"
+same "its refusal" '{"refused":{"at":"","number":21}}' "$(cat "$work/answer")"
+same "a body that is no JSON" 400 "$(status -d '{' "$url/json")"
+same "another path" 404 "$(status "$url/none")"
+same "another method" 405 "$(status "$url/json")"
+same "HEAD, which has no body" 405 "$(status -I "$url/json")"
+same "a body in chunks" 411 "$(status -H 'Transfer-Encoding: chunked' -d "$ask" "$url/json")"
+same "a body that is too long" 413 "$(status -H 'Content-Length: 1048577' -d "$ask" "$url/json")"
+same "a head that is too long" 431 "$(status -H "X: $(head -c 20000 /dev/zero | tr '\0' a)" "$url/healthcheck")"
+same "two requests on one connection" '200 200' \
+    "$(curl -s -o "$work/answer" -o "$work/answer" -w '%{http_code} ' --max-time 20 "$url/healthcheck" "$url/healthcheck" | sed 's/ $//')"
+same "a request that is cut" '' "$(printf 'GET /healthcheck HT' | timeout 20 python3 "$here/http_client.py" raw "$port")"
+ended "the server" 15
+same "the connections that were kept" 1 "$(grep -c '"answers":2,' "$work/out")"
+same "the connection that was cut" 1 "$(grep -c '"end":"CUT_SHORT"' "$work/out")"
+same "the last line" '{"answers":0,"connection":13,"end":"CUT_SHORT"}' "$(tail -1 "$work/out")"
+
+start 2 --cells 1
+same "the counter that has the one cell" 200 "$(status -d "$ask" "$url/json")"
+same "the counter that finds none" 503 "$(status -d "${ask/\"a\"/\"b\"}" "$url/json")"
+ended "the server with one cell" 3
+
+start 64 --workers 64
+same "64 connections at once" 64 "$(timeout 60 python3 "$here/http_client.py" beside "$port" 64)"
+ended "the server of 64 connections" 65
+
+start 20
+same "20000 requests of which 5000 are admitted" 5000 "$(timeout 110 python3 "$here/http_client.py" many "$port" 20 1000)"
+ended "the server of 20000 requests" 21
+same "their answers" 20 "$(grep -c '"answers":1000,' "$work/out")"
+
+exit "$failed"
