@@ -1,6 +1,6 @@
 -- Counters that are known, and their pins.
 use Rattle.std.proofs.Common.{◌≡◌, ◌⊎◌, inl, inr, ℕ, zero, suc, ◌+◌, ◌-◌, ◌≤◌, ◌<◌, ◌==◌, ◌&&◌, List, [], ◌∷◌, ◌++◌, length, map, take, get_or, cond}
-use Rattle.std.proofs.Common.{Bool, true, false, Option, Some, None, IfSome, refl, sym, ap, ◌∙◌, subst, arith, eq-eqb, length-append}
+use Rattle.std.proofs.Common.{Bool, true, false, true≢false, Option, Some, None, IfSome, refl, sym, ap, ◌∙◌, subst, arith, eq-eqb, length-append}
 use Rattle.std.proofs.lemmas.List.{append-nil, map-append, length-map}
 use Rattle.std.proofs.lemmas.List.Elements.{All-push}
 use Rattle.std.proofs.lemmas.Bool.Decides.{nat_tests}
@@ -40,7 +40,8 @@ use Rattle.counter_directory.specs.Spots.{Bound}
 use Rattle.over_cache.specs.Entries.{Entries, is_key, known_of, known_then, asked, noted, without}
 use Rattle.over_cache.specs.declared.known.Known.{Known}
 use Rattle.over_cache.specs.declared.over_cache.TheConstants.{MOST_KNOWN}
-use Rattle.rate_limiter.specs.Known.{key_of, key_bindings, IsBoundEntry, AreBoundEntries}
+use Rattle.rate_limiter.specs.Known.{key_of, key_bindings, pins_under, IsBoundEntry, AreBoundEntries, SameSpots, spot_in, PinsGrow}
+use Rattle.rate_limiter.specs.Sought.{IsOwnSpot}
 use Rattle.rate_limiter.specs.PassStep.{HasClaimed}
 use Rattle.rate_limiter.specs.Pinned.{HasWaited, SameButPins, ArePinned, HasPins, HasPinCause, HasNoPins}
 use Rattle.rate_limiter.proofs.Lists.{total_more, total_at, each_more, prefix_self, prefix_then}
@@ -98,6 +99,59 @@ module _ (P : List ℕ × Known → Type 0) where
       by None p = h
       by (Some e) p = (p, rest_of (is_key key) entries h)
 
+entry_passes : (test : List ℕ → Bool) (xs : Entries) (e : List ℕ × Known) → lookup_entry test xs ≡ Some e → test e.0 ≡ true
+entry_passes test [] e h = absurd (cc)
+entry_passes test (x ∷ xs) e h = by (test x.0) refl h (entry_passes test xs e)
+  where
+    by : (b : Bool) → test x.0 ≡ b → cond b (Some x) (lookup_entry test xs) ≡ Some e → (lookup_entry test xs ≡ Some e → test e.0 ≡ true) → test e.0 ≡ true
+    by true is f rest = let g : x ≡ e = cc in subst (λ (y : List ℕ × Known). test y.0 ≡ true) g is
+    by false is f rest = rest f
+
+-- another key of the one that is asked for isn't the key of the entry found
+apart : (k key x e : List ℕ) → is_key key x ≡ false → is_key key e ≡ true → is_key k x ≡ true → is_key k e ≡ false
+apart k key x e differs equal at = by (is_key k e) refl
+  where
+    by : (b : Bool) → is_key k e ≡ b → b ≡ false
+    by false is = refl
+    by true is =
+        let same : key ≡ x = same_bytes key e equal ∙ sym (same_bytes k e is) ∙ same_bytes k x at in
+        absurd (true≢false (sym ((bytes_decides key x).1 same) ∙ differs))
+
+asked_at : (k key : List ℕ) (xs : Entries) (e : List ℕ × Known) → lookup_entry (is_key key) xs ≡ Some e
+    → cond (is_key k e.0) (Some e.1) (lookup (is_key k) (remove_entry (is_key key) xs)) ≡ lookup (is_key k) xs
+asked_at k key [] e h = absurd (cc)
+asked_at k key (x ∷ xs) e h = by (is_key key x.0) refl h (asked_at k key xs e)
+  where
+    other : (b c : Bool) → is_key k e.0 ≡ b → is_key k x.0 ≡ c → (c ≡ true → b ≡ false)
+        → cond b (Some e.1) (lookup (is_key k) (remove_entry (is_key key) xs)) ≡ lookup (is_key k) xs
+        → cond b (Some e.1) (cond c (Some x.1) (lookup (is_key k) (remove_entry (is_key key) xs))) ≡ cond c (Some x.1) (lookup (is_key k) xs)
+    other true true is at f rest = absurd (true≢false (f refl))
+    other false true is at f rest = refl
+    other true false is at f rest = rest
+    other false false is at f rest = rest
+
+    by : (b : Bool) → is_key key x.0 ≡ b → cond b (Some x) (lookup_entry (is_key key) xs) ≡ Some e
+        → (lookup_entry (is_key key) xs ≡ Some e
+        → cond (is_key k e.0) (Some e.1) (lookup (is_key k) (remove_entry (is_key key) xs)) ≡ lookup (is_key k) xs)
+        → cond (is_key k e.0) (Some e.1) (lookup (is_key k) (cond b xs (x ∷ remove_entry (is_key key) xs))) ≡ cond (is_key k x.0) (Some x.1) (lookup (is_key k) xs)
+    by true is f rest =
+        let g : x ≡ e = cc in
+        subst (λ (y : List ℕ × Known). cond (is_key k y.0) (Some y.1) (lookup (is_key k) xs) ≡ cond (is_key k x.0) (Some x.1) (lookup (is_key k) xs)) g refl
+    by false is f rest =
+        other (is_key k e.0) (is_key k x.0) refl refl (λ at. apart k key x.0 e.0 is (entry_passes (is_key key) xs e f) at) (rest f)
+
+-- a question leaves what is known of each key
+asked_known : (k key : List ℕ) (entries : Entries) → known_of k (asked key entries) ≡ known_of k entries
+asked_known k key entries = by (lookup_entry (is_key key) entries) refl
+  where
+    by : (o : Option (List ℕ × Known)) → lookup_entry (is_key key) entries ≡ o
+        → known_of k (option_map_or (λ e. e ∷ without key entries) o entries) ≡ known_of k entries
+    by None is = refl
+    by (Some e) is = asked_at k key entries e is
+
+pub asked_spots : (key : List ℕ) (entries new : Entries) → new ≡ asked key entries → SameSpots entries new
+asked_spots key entries new is k = ap (λ (l : Entries). spot_in (known_of k l)) is ∙ ap spot_in (asked_known k key entries)
+
 -- what is known of a key holds of it
 pub known_all : (P : List ℕ → Known → Type 0) (key : List ℕ) (entries : Entries) → AllByRecursion (λ e. P e.0 e.1) entries → (k : Known)
     → known_of key entries ≡ Some k → P key k
@@ -108,24 +162,22 @@ known_all P key (x ∷ entries) h k e = by (is_key key x.0) refl e (known_all P 
     by true is f rest = let g : x.1 ≡ k = cc in subst (P key) g (subst (λ b. P b x.1) (sym (same_bytes key x.0 is)) h.0)
     by false is f rest = rest f
 
--- what is known of a counter's key is where a claim binds the counter
-pub entry_bound : (cells : ℕ) (claims : List Claim) (q : CounterKey) (bytes : List ℕ) → ((x : CounterKey) → key_of x ≡ bytes → x ≡ q) → (entries : Entries)
-    → AreBoundEntries cells claims entries → (k : Known) → known_of bytes entries ≡ Some k
-    → (k.spot.cell < cells) × (1 ≤ bindings_of q k.spot.cell k.spot.claim claims)
-entry_bound cells claims q bytes only entries h k e =
-    let b = known_all (λ key known. IsBoundEntry cells claims (key, known)) bytes entries h k e in
+-- what is known of a counter's key is where a claim binds the counter, and where a pin was good
+pub entry_bound : (cells : ℕ) (claims : List Claim) (pins : List (ℕ × ℕ)) (q : CounterKey) (bytes : List ℕ) → ((x : CounterKey) → key_of x ≡ bytes → x ≡ q)
+    → (entries : Entries) → AreBoundEntries cells claims pins entries → (k : Known) → known_of bytes entries ≡ Some k → IsOwnSpot cells claims pins q k.spot
+entry_bound cells claims pins q bytes only entries h k e =
+    let b = known_all (λ key known. IsBoundEntry cells claims pins (key, known)) bytes entries h k e in
     let n = key_bound q bytes only k.spot.cell k.spot.claim claims in
     let m = b.bound in
-    (b.there, omega arith)
+    record { there = b.there; bound = omega arith; had = b.had }
 
 -- what is found by the bytes that were written for a descriptor's counter
-pub found_bound : (cells : ℕ) (claims : List Claim) (named domain : List ℕ) (d : Descriptor) (unit : Unit) (moment begin : ℕ) (out bytes : List ℕ)
+pub found_bound : (cells : ℕ) (claims : List Claim) (pins : List (ℕ × ℕ)) (named domain : List ℕ) (d : Descriptor) (unit : Unit) (moment begin : ℕ) (out bytes : List ℕ)
     → ((n : List ℕ) (es : List Entry) (u : Unit) (s : ℕ) → key_bytes n es u s ≡ out → (n ≡ named) × (es ≡ d.entries) × (u ≡ unit) × (s ≡ begin))
-    → named ≡ domain → begin ≡ window_start unit moment → bytes ≡ out → (entries : Entries) → AreBoundEntries cells claims entries → (k : Known)
-    → known_of bytes entries ≡ Some k
-    → (k.spot.cell < cells) × (1 ≤ bindings_of (counter_of domain d unit moment) k.spot.cell k.spot.claim claims)
-found_bound cells claims named domain d unit moment begin out bytes of same at is entries h k e =
-    entry_bound cells claims (counter_of domain d unit moment) bytes
+    → named ≡ domain → begin ≡ window_start unit moment → bytes ≡ out → (entries : Entries) → AreBoundEntries cells claims pins entries → (k : Known)
+    → known_of bytes entries ≡ Some k → IsOwnSpot cells claims pins (counter_of domain d unit moment) k.spot
+found_bound cells claims pins named domain d unit moment begin out bytes of same at is entries h k e =
+    entry_bound cells claims pins (counter_of domain d unit moment) bytes
     (one_counter (counter_of domain d unit moment) bytes (λ n es u s b. let r = of n es u s (b ∙ is) in (r.0 ∙ same, r.1, r.2, r.3 ∙ at))) entries h k e
 
 -- ---- pins
@@ -154,12 +206,12 @@ under_in cell (p ∷ ps) h = pick (p.0 == cell) refl (under_in cell ps)
 -- ---- one more in lists of one length
 
 module _ {A : Type 0} where
-  at_less : (xs : List A) (i : ℕ) (x : A) → get_elem? xs i ≡ some x → i < length xs
+  pub at_less : (xs : List A) (i : ℕ) (x : A) → get_elem? xs i ≡ some x → i < length xs
   at_less [] i x e = absurd (some-ne-none x (sym e))
   at_less (y ∷ xs) zero x e = omega arith
   at_less (y ∷ xs) (suc i) x e = let r = at_less xs i x e in omega arith
 
-  at_append : (xs : List A) (y : A) (i : ℕ) (z : A) → get_elem? (xs ++ y ∷ []) i ≡ some z → (get_elem? xs i ≡ some z) ⊎ ((i ≡ length xs) × (y ≡ z))
+  pub at_append : (xs : List A) (y : A) (i : ℕ) (z : A) → get_elem? (xs ++ y ∷ []) i ≡ some z → (get_elem? xs i ≡ some z) ⊎ ((i ≡ length xs) × (y ≡ z))
   at_append [] y zero z e = inr (refl, some-injective y z e)
   at_append [] y (suc i) z e = absurd (some-ne-none z (sym e))
   at_append (x ∷ xs) y zero z e = inl e
@@ -327,15 +379,25 @@ module _ (v v' w : CellView) (same : SameButPins v v') where
 
 -- ---- entries of later claims, and notes
 
-pub entries_later : (cells : ℕ) (xs ys : List Claim) (entries : Entries) → IsPrefix xs ys → AreBoundEntries cells xs entries → AreBoundEntries cells ys entries
-entries_later cells xs ys entries p h = each_more (IsBoundEntry cells xs) (IsBoundEntry cells ys) later entries h
+pub grow_self : (pins : List (ℕ × ℕ)) → PinsGrow pins pins
+grow_self pins cell number = omega arith
+
+pub grow_then : (a b c : List (ℕ × ℕ)) → PinsGrow a b → PinsGrow b c → PinsGrow a c
+grow_then a b c p q cell number = let x = p cell number in let y = q cell number in omega arith
+
+-- what is bound stays so when claims and pins are added
+pub entries_later : (cells : ℕ) (xs ys : List Claim) (pins more : List (ℕ × ℕ)) (entries : Entries) → IsPrefix xs ys → PinsGrow pins more
+    → AreBoundEntries cells xs pins entries → AreBoundEntries cells ys more entries
+entries_later cells xs ys pins more entries p grow h = each_more (IsBoundEntry cells xs pins) (IsBoundEntry cells ys more) later entries h
   where
-    later : (e : List ℕ × Known) → IsBoundEntry cells xs e → IsBoundEntry cells ys e
+    later : (e : List ℕ × Known) → IsBoundEntry cells xs pins e → IsBoundEntry cells ys more e
     later e b =
         let f : Claim → ℕ = λ x. one_if (is_key e.0 (key_of x.key) && ((x.cell == e.1.spot.cell) && (x.claim == e.1.spot.claim))) in
         let n = ap (total f) (sym p.1) ∙ total_more f xs p.0 in
         let m = b.bound in
-        record { there = b.there; bound = omega arith }
+        let g = grow e.1.spot.cell e.1.spot.claim in
+        let had = b.had in
+        record { there = b.there; bound = omega arith; had = omega arith }
 
 bound_key : (q : CounterKey) (cell number : ℕ) (claims : List Claim) → bindings_of q cell number claims ≤ key_bindings (key_of q) cell number claims
 bound_key q cell number [] = omega arith
@@ -351,25 +413,25 @@ take_all P zero (e ∷ entries) h = tt
 take_all P (suc n) [] h = tt
 take_all P (suc n) (e ∷ entries) h = (h.0, take_all P n entries h.1)
 
--- a note of a counter that a claim binds
-pub noted_all : (cells : ℕ) (claims : List Claim) (q : CounterKey) (s : Spot) (seen : ℕ) (entries : Entries) → s.cell < cells → 1 ≤ bindings_of q s.cell s.claim claims
-    → AreBoundEntries cells claims entries → AreBoundEntries cells claims (noted (key_of q) s seen entries)
-noted_all cells claims q s seen entries there bound h = (
+-- a note of a counter that a claim binds to a cell where a pin was good
+pub noted_all : (cells : ℕ) (claims : List Claim) (pins : List (ℕ × ℕ)) (q : CounterKey) (s : Spot) (seen : ℕ) (entries : Entries)
+    → IsOwnSpot cells claims pins q s → AreBoundEntries cells claims pins entries → AreBoundEntries cells claims pins (noted (key_of q) s seen entries)
+noted_all cells claims pins q s seen entries own h = (
   by (known_of (key_of q) entries),
-  take_all (IsBoundEntry cells claims) (MOST_KNOWN - 1) (without (key_of q) entries) (rest_of (IsBoundEntry cells claims) (is_key (key_of q)) entries h),
+  take_all (IsBoundEntry cells claims pins) (MOST_KNOWN - 1) (without (key_of q) entries) (rest_of (IsBoundEntry cells claims pins) (is_key (key_of q)) entries h),
 )
   where
-    by : (o : Option Known) → IsBoundEntry cells claims (key_of q, known_then o s seen)
-    by None = let k = bound_key q s.cell s.claim claims in record { there = there; bound = omega arith }
-    by (Some old) = let k = bound_key q s.cell s.claim claims in record { there = there; bound = omega arith }
+    by : (o : Option Known) → IsBoundEntry cells claims pins (key_of q, known_then o s seen)
+    by None = let k = bound_key q s.cell s.claim claims in let b = own.bound in record { there = own.there; bound = omega arith; had = own.had }
+    by (Some old) = let k = bound_key q s.cell s.claim claims in let b = own.bound in record { there = own.there; bound = omega arith; had = own.had }
 
 -- a note that was taken or refused
-pub note_bound : {A E : Type 0} (cells : ℕ) (claims : List Claim) (q : CounterKey) (s : Spot) (bytes : List ℕ) (entries new : Entries) (r : Result A E)
-    → OnOk r (new ≡ noted bytes s 0 entries) → OnErr r (new ≡ entries) → bytes ≡ key_of q → s.cell < cells → 1 ≤ bindings_of q s.cell s.claim claims
-    → AreBoundEntries cells claims entries → AreBoundEntries cells claims new
-note_bound cells claims q s bytes entries new (Ok a) ok err is there bound h =
-    subst (AreBoundEntries cells claims) (sym (ok ∙ ap (λ b. noted b s 0 entries) is)) (noted_all cells claims q s 0 entries there bound h)
-note_bound cells claims q s bytes entries new (Err e) ok err is there bound h = subst (AreBoundEntries cells claims) (sym err) h
+pub note_bound : {A E : Type 0} (cells : ℕ) (claims : List Claim) (pins : List (ℕ × ℕ)) (q : CounterKey) (s : Spot) (bytes : List ℕ) (entries new : Entries)
+    (r : Result A E) → OnOk r (new ≡ noted bytes s 0 entries) → OnErr r (new ≡ entries) → bytes ≡ key_of q → IsOwnSpot cells claims pins q s
+    → AreBoundEntries cells claims pins entries → AreBoundEntries cells claims pins new
+note_bound cells claims pins q s bytes entries new (Ok a) ok err is own h =
+    subst (AreBoundEntries cells claims pins) (sym (ok ∙ ap (λ b. noted b s 0 entries) is)) (noted_all cells claims pins q s 0 entries own h)
+note_bound cells claims pins q s bytes entries new (Err e) ok err is own h = subst (AreBoundEntries cells claims pins) (sym err) h
 
 pub map_at : {A B : Type 0} (f : A → B) (xs : List A) (i : ℕ) (d : A) → i < length xs → get_elem? (map f xs) i ≡ some (f (get_or xs i d))
 map_at f [] i d lt = absurd (omega arith)

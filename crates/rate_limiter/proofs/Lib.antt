@@ -15,4 +15,6 @@ pub mod Parting
 pub mod Summing
 pub mod Totalling
 pub mod Knowing
+pub mod Seeking
+pub mod Opening
 pub mod Sent

@@ -41,36 +41,46 @@ use Rattle.rate_limiter.proofs.Lists.{each_append, each_more, prefix_self, last_
 use Rattle.rate_limiter.proofs.Showing.{charged_of, seen_of}
 use Rattle.rate_limiter.proofs.Counting.{counts_of, statuses_of, keys_named, each_front, each_back}
 
--- neither the number nor the ticks nor the moment changed
+-- neither the number nor the ticks nor the moment nor the good pins, present and past, changed
 pub record Still (v w : CellView) : Type 0 where
   pub number : number_of w ≡ number_of v
+  pub pins : w.pairs ≡ v.pairs
   pub ticks : w.ticks ≡ v.ticks
   pub moment : w.moment ≡ v.moment
 
 still_then : (u v w : CellView) → Still u v → Still v w → Still u w
-still_then u v w a b = record { number = b.number ∙ a.number; ticks = b.ticks ∙ a.ticks; moment = b.moment ∙ a.moment }
+still_then u v w a b = record { number = b.number ∙ a.number; pins = b.pins ∙ a.pins; ticks = b.ticks ∙ a.ticks; moment = b.moment ∙ a.moment }
 
 counted_still : (spot : Spot) (limit hits : ℕ) (c : Count) (v w : CellView) → CountedAt spot limit hits c v w → Still v w
-counted_still spot limit hits (Seen seen) v w h = record { number = ap number_of h.2; ticks = ap (λ (x : CellView). x.ticks) h.2; moment = ap (λ (x : CellView). x.moment) h.2 }
+counted_still spot limit hits (Seen seen) v w h = record { number = ap number_of h.2; pins = ap (λ (x : CellView). x.pairs) h.2; ticks = ap (λ (x : CellView). x.ticks) h.2; moment = ap (λ (x : CellView). x.moment) h.2 }
 counted_still spot limit hits (Before before) v w h =
     let e = h.1.charge in
-    record { number = ap number_of e; ticks = ap (λ (x : CellView). x.ticks) e; moment = ap (λ (x : CellView). x.moment) e }
+    record { number = ap number_of e; pins = ap (λ (x : CellView). x.pairs) e; ticks = ap (λ (x : CellView). x.ticks) e; moment = ap (λ (x : CellView). x.moment) e }
 counted_still spot limit hits NoCount v w h = absurd h
 
 same_still : (v w : CellView) → w ≡ v → Still v w
-same_still v w e = record { number = ap number_of e; ticks = ap (λ (x : CellView). x.ticks) e; moment = ap (λ (x : CellView). x.moment) e }
+same_still v w e = record { number = ap number_of e; pins = ap (λ (x : CellView). x.pairs) e; ticks = ap (λ (x : CellView). x.ticks) e; moment = ap (λ (x : CellView). x.moment) e }
 
-done_still : (f : Found) (hits : ℕ) (spot : Option Spot) (c : Count) (v w : CellView) → DoneAt f hits spot c v w → Still v w
+pub done_still : (f : Found) (hits : ℕ) (spot : Option Spot) (c : Count) (v w : CellView) → DoneAt f hits spot c v w → Still v w
 done_still NoRule hits spot c v w h = same_still v w h
 done_still (Unlimited rule) hits spot c v w h = same_still v w h
 done_still (Limited limit unit shadow rule) hits None c v w h = same_still v w h
 done_still (Limited limit unit shadow rule) hits (Some spot) c v w h = counted_still spot limit hits c v w h
 
-each_still : (moment : ℕ) (ps : List Planned) (ss : List Status) (v w : CellView) → DoneEach moment ps ss v w → Still v w
+pub each_still : (moment : ℕ) (ps : List Planned) (ss : List Status) (v w : CellView) → DoneEach moment ps ss v w → Still v w
 each_still moment [] [] v w h = same_still v w h
 each_still moment [] (s ∷ ss) v w h = absurd h
 each_still moment (p ∷ ps) [] v w h = absurd h
 each_still moment (p ∷ ps) (s ∷ ss) v w h = still_then v h.0 w (done_still p.found p.hits p.spot s.count v h.0 h.1.1) (each_still moment ps ss h.0 w h.2)
+
+-- pins that are given back
+leaves_still : (v w : CellView) → LeavesAllButPins v w → Still v w
+leaves_still v w h = record {
+  number = ap number_of h;
+  pins = ap (λ (x : CellView). x.pairs) h;
+  ticks = ap (λ (x : CellView). x.ticks) h;
+  moment = ap (λ (x : CellView). x.moment) h;
+}
 
 -- a pass that only ticked has its looks and charges
 module _ (p q : PassView) (same : KeepsAllButTicks p q) where
@@ -160,7 +170,7 @@ module _ (limiter : LimiterView) (request : RequestParts) (now : ℕ) (p p1 p2 q
       let config = p2.version.index in
       let sts = r.statuses.items in
       let index : q.version.index ≡ config = ap (λ (s : PassState (List DomainTree)). s.index) version in
-      let after : Still mid q.cells = record { number = ap number_of leaves; ticks = ap (λ (x : CellView). x.ticks) leaves; moment = ap (λ (x : CellView). x.moment) leaves } in
+      let after = leaves_still mid q.cells leaves in
       let all = still_then w mid q.cells (each_still w.moment (planned_each request ds rules spots) sts w mid done) after in
       let moment : q.cells.moment ≡ w.moment = all.moment in
       let names_so : names ≡ names_under request ds (map (found_for config request) ds) = names_are ∙ ap (names_under request ds) rules_are in

@@ -1,6 +1,6 @@
 -- What a turn at the directory leaves of a pass.
-use Rattle.std.proofs.Common.{◌≡◌, ℕ, suc, ◌+◌, ◌-◌, ◌≤◌, ◌==◌, ◌&&◌, nat_lt, List, [], ◌∷◌, ◌++◌, length, true, refl, sym, ap, ◌∙◌, subst, arith, length-append}
-use Rattle.std.specs.Prelude.{Ok, Err}
+use Rattle.std.proofs.Common.{◌≡◌, ℕ, suc, ◌+◌, ◌-◌, ◌≤◌, ◌==◌, ◌&&◌, nat_lt, List, [], ◌∷◌, ◌++◌, length, All, true, refl, sym, ap, ◌∙◌, subst, arith, length-append, eq-eqb}
+use Rattle.std.specs.Prelude.{Ok, Err, Result}
 use Rattle.std.proofs.lemmas.List.{append-nil}
 use Rattle.std.proofs.lemmas.Bool.Decides.{nat_tests}
 use mathlib.Core.Option.{some}
@@ -25,10 +25,13 @@ use Rattle.counter_directory.specs.Keys.{keys_at, key_count}
 use Rattle.counter_directory.specs.Spots.{Bound, pinned_on}
 use Rattle.counter_directory.specs.Acquired.{Bounds, ClaimTableView, HasTicked, PinsAfterMisses, HasBound, IsWanted, AreHeld}
 use Rattle.counter_directory.specs.Turns.{Turned}
+use Rattle.rate_limiter.specs.Known.{pins_under, PinsGrow}
 use Rattle.rate_limiter.specs.PassStep.{HasClaimed}
 use Rattle.rate_limiter.specs.Pinned.{HasWaited, HasPins, HasNoPins}
 use Rattle.window_keys.proofs.Counters.{is_same}
 use Rattle.rate_limiter.proofs.Meeting.{never_ticked}
+use Rattle.rate_limiter.proofs.Knowing.{grow_self, grow_then}
+use Rattle.rate_limiter.proofs.Readying.{all_cons}
 use Rattle.rate_limiter.proofs.Lists.{total_at, total_more, prefix_self, parts}
 
 -- what pins leave of a view
@@ -207,3 +210,51 @@ no_turn v t = record {
 pub no_names : (names : List CounterName) (spots : List Spot) → (length names == 0) ≡ true → spots ≡ [] → (v : CellView) (t : TokenView Claim) → HasPins names spots v v t t
 no_names [] spots e s v t = subst (λ (l : List Spot). HasPins [] l v v t t) (sym s) (no_turn v t)
 no_names (x ∷ xs) spots e s v t = let z : suc (length xs) ≡ 0 = grind (arith, nat_tests) in absurd (omega arith)
+
+-- ---- pins that were good
+
+had_here : (cell claim : ℕ) (pins : List (ℕ × ℕ)) → 1 ≤ pins_under cell claim ((cell, claim) ∷ pins)
+had_here cell claim pins =
+    let one : one_if ((cell == cell) && (claim == claim)) ≡ 1 = λ i. one_if (eq-eqb cell cell refl i && eq-eqb claim claim refl i) in
+    omega arith
+
+pinned_grow : (ss : List Spot) (v : CellView) → PinsGrow v.pairs (pinned_on ss v).pairs
+pinned_grow [] v = grow_self v.pairs
+pinned_grow (s ∷ ss) v =
+    let w = good_pin s.cell s.claim v in
+    grow_then v.pairs w.pairs (pinned_on ss w).pairs (λ cell number. omega arith) (pinned_grow ss w)
+
+pinned_had : (ss : List Spot) (v : CellView) → All (λ (s : Spot). 1 ≤ pins_under s.cell s.claim (pinned_on ss v).pairs) ss
+pinned_had [] v = λ k d lt. absurd (omega arith)
+pinned_had (s ∷ ss) v =
+    let w = good_pin s.cell s.claim v in
+    let h = had_here s.cell s.claim v.pairs in
+    let g = pinned_grow ss w s.cell s.claim in
+    all_cons (λ (t : Spot). 1 ≤ pins_under t.cell t.claim (pinned_on ss w).pairs) s ss (omega arith) (pinned_had ss w)
+
+ticked_grow : (v w : CellView) → HasTicked v w → PinsGrow v.pairs w.pairs
+ticked_grow v w h = subst (PinsGrow v.pairs) (sym (ap (λ (x : CellView). x.pairs) h.view)) (grow_self v.pairs)
+
+pins_grow : (ss : List Spot) (v w : CellView) → PinsAfterMisses ss v w → PinsGrow v.pairs w.pairs
+pins_grow ss v w p = subst (PinsGrow v.pairs) (sym (ap (λ (x : CellView). x.pairs) p.1)) (pinned_grow ss (record v { others = v.others ++ p.0 }))
+
+-- after a turn as many pins were good as before, or more, and one on each spot
+pub turned_grow : (b : Bounds) (names : List CounterName) (r : Result Acquired AcquireFault) (v w : CellView) (t u : TokenView Claim) → Turned b names v r w t u
+    → PinsGrow v.pairs w.pairs
+turned_grow b names (Ok a) v w t u h =
+    let d = h.did.0 in
+    grow_then v.pairs d.ticked.pairs w.pairs (ticked_grow v d.ticked d.ticks) (pins_grow a.spots.items d.ticked w d.pins)
+turned_grow b names (Err OutOfMemory) v w t u h = ticked_grow v w h.did.0
+turned_grow b names (Err (ClaimsSpent claims wanted)) v w t u h = ticked_grow v w h.did.0
+turned_grow b names (Err (CountersFull moment live held wanted)) v w t u h = ticked_grow v w h.did.0
+
+pub turned_had : (b : Bounds) (names : List CounterName) (a : Acquired) (v w : CellView) (t u : TokenView Claim) → Turned b names v (Ok a) w t u
+    → All (λ (s : Spot). 1 ≤ pins_under s.cell s.claim w.pairs) a.spots.items
+turned_had b names a v w t u h =
+    let p = h.did.0.pins in
+    subst (λ (x : CellView). All (λ (s : Spot). 1 ≤ pins_under s.cell s.claim x.pairs) a.spots.items) (sym p.1)
+    (pinned_had a.spots.items (record h.did.0.ticked { others = h.did.0.ticked.others ++ p.0 }))
+
+-- without names nothing is pinned
+pub none_had : (pins : List (ℕ × ℕ)) (ss : List Spot) → ss ≡ [] → All (λ (s : Spot). 1 ≤ pins_under s.cell s.claim pins) ss
+none_had pins ss e = subst (All (λ (s : Spot). 1 ≤ pins_under s.cell s.claim pins)) (sym e) (λ k d lt. absurd (omega arith))

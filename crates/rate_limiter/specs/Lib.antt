@@ -8,6 +8,9 @@ pub mod Ticks
 pub mod Refusals
 pub mod Planned
 pub mod Pinned
+pub mod Sought
+pub mod Opens
+pub mod Opening
 pub mod Versions
 pub mod Made
 pub mod Meeting

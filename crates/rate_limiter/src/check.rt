@@ -1,8 +1,6 @@
 ghost use Rattle.std.specs.Prelude.{◌≡◌};
 
-use crate::over::is_over;
-use crate::pinned::{count_pinned, refuse};
-use crate::plan::plan;
+use crate::pinned::refuse;
 use crate::{Limiter, Pass};
 use counter_cells::CellNaming;
 use rate_types::{Request, Seconds};
@@ -48,24 +46,13 @@ impl<N: CellNaming> Limiter<N> {
             rules.as_slice(),
         ) {
             Err(fault) => Err(refuse(&mut pass.refused, fault)),
-            Ok(spots) => {
-                let moment = pass.cells.moment();
-                let plan = plan(request, descriptors, rules.as_slice(), spots.as_slice());
-                let statuses = count_pinned(
-                    &self.cells,
-                    &mut pass.cells,
-                    plan.as_slice(),
-                    spots.as_slice(),
-                    moment,
-                );
-                let over = is_over(statuses.as_slice(), self.global_shadow);
-                Ok(Reply {
-                    version: pass.version.version(),
-                    moment,
-                    over,
-                    statuses,
-                })
-            }
+            Ok(spots) => Ok(self.answer(
+                &mut pass.cells,
+                pass.version.version(),
+                request,
+                rules.as_slice(),
+                spots.as_slice(),
+            )),
         }
     }
 }

@@ -62,7 +62,8 @@ pub(crate) fn count_each<N: CellNaming>(
     requires few { length plan.now ≤ MOST_DESCRIPTORS }
     requires ready { All (IsReady N.setup.cells pass.old) plan.now }
     ensures done { DoneEach moment plan.now result.items pass.old pass.new }
-    ensures pins { pass.new.good ≡ pass.old.good }
+    ensures good { pass.new.good ≡ pass.old.good }
+    ensures pins { pass.new.pairs ≡ pass.old.pairs }
 {
     let mut statuses = ArrayVec::new();
     'plan: for planned in plan {

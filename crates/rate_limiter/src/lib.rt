@@ -15,14 +15,18 @@
 //! The limits: `check`, `reload` and `meet` may wait for other calls on the limiter.
 #![tactic(auto)]
 
+mod answer;
 mod check;
+mod check_open;
 mod close;
 mod count_each;
 mod known;
 mod limiter;
 mod make;
 mod meet;
+mod missed;
 mod names;
+mod not_open;
 mod over;
 mod pass;
 mod pinned;
@@ -30,11 +34,13 @@ mod plan;
 mod planned;
 mod reload;
 mod renew;
+mod sought;
 mod split;
 mod totals;
 
 pub use close::Closed;
 pub use limiter::{Limiter, Limits};
+pub use not_open::NotOpen;
 pub use pass::Pass;
 
 #[cfg(test)]

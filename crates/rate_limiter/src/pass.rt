@@ -44,7 +44,7 @@ impl<N: CellNaming> Model for Pass<N> {
       refused = p.refused;
     } };
 
-    ghost invariant = { λ p. (p.cells.good ≡ []) × AreBoundEntries N.setup.cells (knows p.claims).known p.known };
+    ghost invariant = { λ p. (p.cells.good ≡ []) × AreBoundEntries N.setup.cells (knows p.claims).known p.cells.pairs p.known };
 }
 
 impl<N: CellNaming> Pass<N> {

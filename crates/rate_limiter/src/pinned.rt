@@ -9,9 +9,10 @@ ghost use Rattle.rate_limiter.specs.Pinned.{fault_of, refused_after};
 
 use crate::Limiter;
 use crate::count_each::count_each;
-use crate::known::{note_names, pin_known};
+use crate::known::note_names;
 use crate::names::names_of;
 use crate::planned::Planned;
+use crate::sought::pin_known;
 use arrayvec::ArrayVec;
 use counter_cells::{CellNaming, CellPass, Cells, Spot};
 use counter_directory::{AcquireFault, Acquired, DirectoryPass, give_back};
@@ -31,7 +32,7 @@ impl<N: CellNaming> Limiter<N> {
     ghost use Rattle.counter_cells.specs.Views.{good_on};
     ghost use Rattle.counter_directory.specs.Spots.{spots_on};
     ghost use Rattle.rate_limiter.specs.Passes.{bounds_of};
-    ghost use Rattle.rate_limiter.specs.Known.{AreBoundEntries};
+    ghost use Rattle.rate_limiter.specs.Known.{AreBoundEntries, PinsGrow, pins_under};
     ghost use Rattle.rate_limiter.specs.Planned.{names_under};
     ghost use Rattle.rate_limiter.specs.Pinned.{HasPins, HasNoPins};
 
@@ -49,6 +50,8 @@ impl<N: CellNaming> Limiter<N> {
         ensures pass { list_of claims.new ≡ self.now.id.claims }
         ensures within { IfOk result (λ ss. All (λ s. s.cell < N.setup.cells) ss.items) }
         ensures pins { IfOk result (λ ss. (cell : ℕ) → good_on cell cell_pass.new ≡ spots_on cell ss.items) }
+        ensures had { IfOk result (λ ss. All (λ s. 1 ≤ pins_under s.cell s.claim cell_pass.new.pairs) ss.items) }
+        ensures grow { PinsGrow cell_pass.old.pairs cell_pass.new.pairs }
         ensures pinned { IfOk result
             (λ ss. HasPins names.now ss.items cell_pass.old cell_pass.new (knows claims.old) (knows claims.new)) }
         ensures refused { IfErr result (λ f. HasNoPins (bounds_of N.setup.cells self.now) names.now f cell_pass.old cell_pass.new
@@ -84,9 +87,9 @@ impl<N: CellNaming> Limiter<N> {
         requires bare { cell_pass.old.good ≡ [] }
         requires few { length descriptors.now ≤ MOST_DESCRIPTORS }
         requires rules { length rules.now ≡ length descriptors.now }
-        requires known { AreBoundEntries N.setup.cells (knows claims.old).known known.old }
+        requires known { AreBoundEntries N.setup.cells (knows claims.old).known cell_pass.old.pairs known.old }
         ensures pass { list_of claims.new ≡ self.now.id.claims }
-        ensures known { AreBoundEntries N.setup.cells (knows claims.new).known known.new }
+        ensures known { AreBoundEntries N.setup.cells (knows claims.new).known cell_pass.new.pairs known.new }
         ensures within { IfOk result (λ ss. All (λ s. s.cell < N.setup.cells) ss.items) }
         ensures pins { IfOk result (λ ss. (cell : ℕ) → good_on cell cell_pass.new ≡ spots_on cell ss.items) }
         ensures pinned { IfOk result (λ ss. HasPins (names_under request.now descriptors.now rules.now) ss.items
@@ -94,7 +97,7 @@ impl<N: CellNaming> Limiter<N> {
         ensures refused { IfErr result (λ f. HasNoPins (bounds_of N.setup.cells self.now)
             (names_under request.now descriptors.now rules.now) f cell_pass.old cell_pass.new (knows claims.old) (knows claims.new)) }
     {
-        if let Some(spots) = pin_known(
+        if let Ok(spots) = pin_known(
             &self.cells,
             claims,
             cell_pass,
@@ -112,14 +115,13 @@ impl<N: CellNaming> Limiter<N> {
         match self.pin_names(rt, claims, cell_pass, names.as_slice()) {
             Err(fault) => Err(fault),
             Ok(spots) => {
-                let moment = cell_pass.moment();
                 note_names(
                     claims,
                     known,
                     key,
                     names.as_slice(),
                     spots.as_slice(),
-                    moment,
+                    cell_pass,
                 );
                 Ok(spots)
             }
@@ -137,10 +139,11 @@ pub(crate) fn count_pinned<N: CellNaming>(
 ) -> ArrayVec<Status, MOST_DESCRIPTORS>
     requires few { length plan.now ≤ MOST_DESCRIPTORS }
     requires within { All (λ s. s.cell < N.setup.cells) spots.now }
-    requires pins { (cell : ℕ) → good_on cell pass.old ≡ spots_on cell spots.now }
+    requires good { (cell : ℕ) → good_on cell pass.old ≡ spots_on cell spots.now }
     requires ready { All (IsReady N.setup.cells pass.old) plan.now }
     ensures done { (mid : CellView) × DoneEach moment plan.now result.items pass.old mid × LeavesAllButPins mid pass.new }
     ensures bare { pass.new.good ≡ [] }
+    ensures pins { pass.new.pairs ≡ pass.old.pairs }
 {
     let statuses = count_each(cells, pass, plan, moment);
     give_back(cells, pass, spots);

@@ -17,6 +17,8 @@ use std::random::RandomSource;
 use std::sync::{Arc, Wait};
 use std::test::Fail;
 
+mod known_counters;
+
 // The node that limits each value of key `k` to so many hits a minute.
 fn node(alloc: Global, limit: u32) -> Result<Node, Fail>
     ensures { IfOk result (λ n. IsWellFormedBranch (node_view n)) }

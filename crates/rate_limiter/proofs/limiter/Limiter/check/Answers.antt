@@ -5,7 +5,7 @@ use Rattle.rate_types.specs.declared.request.Descriptor.{Descriptor}
 use Rattle.rule_lookup.specs.declared.found.Found.{Found}
 use Rattle.rule_lookup.specs.Replaces.{found_among}
 use Rattle.config_versions.specs.Passes.{pass_state, versions_of}
-use Rattle.counter_directory.specs.Spots.{spots_on}
+use Rattle.counter_cells.specs.declared.answers.Spot.{Spot}
 use Rattle.rls_core.specs.Reply.{found_for, is_over_limit}
 use Rattle.rls_core.specs.declared.fault.CheckFault.{CheckFault}
 use Rattle.rls_core.specs.declared.reply.Reply.{Reply}
@@ -78,20 +78,12 @@ returns-in-Err-clause-step g c =
       refused = c.refuse.ensures.refused i;
     }))
 
-pub count_pinned-statuses-requires-clause-ready : goal.count_pinned-statuses-requires-clause-ready
-count_pinned-statuses-requires-clause-ready g c =
+pub answer-requires-clause-count : goal.answer-requires-clause-count
+answer-requires-clause-count g c =
     let request = c.args.request.now in
-    let cells = g.N.CellNaming.setup.cells in
-    let w = c.pin_counters.new.cell_pass in
-    let ds = c.descriptors-descriptors.result.now in
-    let rules = c.as_slice-in-Ok.result.now in
-    let spots = c.as_slice-in-Ok-2.result.now in
-    let count : length spots ≡ length (names_under request ds rules)
-    = ap length c.as_slice-in-Ok-2.ensures.value ∙ c.in-Ok.ensures.pinned.count
-    ∙ ap (λ (fs : List Found). length (names_under request ds fs)) (c.as_slice.ensures.value ∙ sym c.as_slice-in-Ok.ensures.value) in
-    let within = subst (All (λ s. s.cell < cells)) (sym c.as_slice-in-Ok-2.ensures.value) c.in-Ok.ensures.within in
-    let pins = λ (k : ℕ). c.in-Ok.ensures.pins k ∙ ap (spots_on k) (sym c.as_slice-in-Ok-2.ensures.value) in
-    subst (All (IsReady cells w)) (sym (c.as_slice-in-Ok-3.ensures.value ∙ c.plan-plan.ensures)) (ready_all cells w request ds rules spots count within pins)
+    let all = c.descriptors-descriptors.ensures.all in
+    ap length c.as_slice-in-Ok-2.ensures.value ∙ c.in-Ok.ensures.pinned.count
+    ∙ (λ i. length (names_under request (all i) ((c.as_slice.ensures.value ∙ sym c.as_slice-in-Ok.ensures.value) i)))
 
 pub returns-in-Ok-clause-step : goal.returns-in-Ok-clause-step
 returns-in-Ok-clause-step g c =
@@ -124,22 +116,18 @@ returns-in-Ok-clause-step g c =
       limiter = record { claims = list_of c.pin_counters.new.claims; versions = versions_of inside.version };
       version = p2.version;
       claims = view c.pin_counters.new.claims;
-      cells = c.count_pinned-statuses.new.pass;
+      cells = c.answer.new.cell_pass;
       known = c.pin_counters.new.known;
       refused = inside.refused;
     } in
-    let r : Reply = record { version = c.version.result; moment = c.moment-moment.result; over = c.is_over-over.result; statuses = c.count_pinned-statuses.result } in
+    let r = c.answer.result in
     let spots = c.in-Ok.spots.items in
-    let plan : c.as_slice-in-Ok-3.result.now ≡ planned_each request request.descriptors rules spots
-    = c.as_slice-in-Ok-3.ensures.value ∙ c.plan-plan.ensures
-    ∙ (λ i. planned_each request (all i) ((c.as_slice-in-Ok.ensures.value ∙ sym c.as_slice.ensures.value) i) (c.as_slice-in-Ok-2.ensures.value i)) in
-    let did = c.count_pinned-statuses.ensures.done in
+    let did = c.answer.ensures.done in
     let done : DoneEach w.moment (planned_each request request.descriptors rules spots) r.statuses.items w did.0
-    = subst (λ (l : List Planned). DoneEach w.moment l r.statuses.items w did.0) plan
-    (subst (λ n. DoneEach n c.as_slice-in-Ok-3.result.now r.statuses.items w did.0) c.moment-moment.ensures did.1) in
-    let shadow : c.self.inside.global_shadow ≡ limiter.global_shadow = ap (λ (l : LimiterView). l.global_shadow) c.self.view_is in
-    let over : r.over ≡ (list_any (λ (s : Status). is_over_limit s.code) r.statuses.items && not limiter.global_shadow)
-    = c.is_over-over.ensures ∙ (λ i. list_any (λ (s : Status). is_over_limit s.code) (c.as_slice-in-Ok-5.ensures.value i) && not (shadow i)) in
+    = subst (λ (ss : List Spot). DoneEach w.moment (planned_each request request.descriptors rules ss) r.statuses.items w did.0) c.as_slice-in-Ok-2.ensures.value
+    (subst (λ (fs : List Found). DoneEach w.moment (planned_each request request.descriptors fs c.as_slice-in-Ok-2.result.now) r.statuses.items w did.0)
+    (c.as_slice-in-Ok.ensures.value ∙ sym c.as_slice.ensures.value) did.1) in
     step_of limiter request c.args.now p p1 p2 q c.tick.ensures.offered c.tick.ensures.rest rest
     names rules spots w did.0 r renewed rules_are names_are c.in-Ok.ensures.pinned done did.2
-    c.count_pinned-statuses.ensures.bare refl (λ i. record { claims = list i; versions = versions_of inside.version }) refl c.version.ensures c.moment-moment.ensures over
+    c.answer.ensures.bare refl (λ i. record { claims = list i; versions = versions_of inside.version }) refl (c.answer.ensures.version ∙ c.version.ensures) c.answer.ensures.moment
+    c.answer.ensures.over

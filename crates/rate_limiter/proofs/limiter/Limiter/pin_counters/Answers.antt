@@ -9,21 +9,21 @@ use Rattle.rate_limiter.proofs.Knowing.{pinned_known, pins_after, no_pins_after,
 use Rattle.rate_limiter.proofs.Readying.{names_few}
 use Rattle.rate_limiter.proofs.limiter.Limiter.pin_counters.Goals as goal
 
-pub returns-in-Some-clause-pinned : goal.returns-in-Some-clause-pinned
-returns-in-Some-clause-pinned g c =
-    pinned_known g.N.CellNaming.setup.cells (names_under c.args.request.now c.args.descriptors.now c.args.rules.now) c.in-Some.spots.items c.args.cell_pass.now
-    c.pin_known.new.cell_pass (view c.args.claims.now) c.in-Some.ensures.pinned
+pub returns-in-Ok-clause-pinned : goal.returns-in-Ok-clause-pinned
+returns-in-Ok-clause-pinned g c =
+    pinned_known g.N.CellNaming.setup.cells (names_under c.args.request.now c.args.descriptors.now c.args.rules.now) c.in-Ok.spots.items c.args.cell_pass.now
+    c.pin_known.new.cell_pass (view c.args.claims.now) c.in-Ok.ensures.pinned
 
 pub pin_names-requires-clause-few : goal.pin_names-requires-clause-few
 pin_names-requires-clause-few g c =
     let few = names_few c.args.request.now c.args.descriptors.now c.args.rules.now in
-    let names = ap length (c.as_slice.ensures.value ∙ c.in-Ok.ensures.names) in
+    let names = ap length (c.as_slice.ensures.value ∙ c.in-Ok-names_of.ensures.names) in
     omega (arith, few, names, c.requires.few)
 
 pub returns-in-Err-clause-known : goal.returns-in-Err-clause-known
 returns-in-Err-clause-known g c =
-    entries_later g.N.CellNaming.setup.cells (view c.args.claims.now).known (view c.pin_names.new.claims).known c.pin_known.new.known c.in-Err.ensures.refused.knew
-    c.pin_known.ensures.known
+    entries_later g.N.CellNaming.setup.cells (view c.args.claims.now).known (view c.pin_names.new.claims).known c.pin_known.new.cell_pass.pairs c.pin_names.new.cell_pass.pairs
+    c.pin_known.new.known c.in-Err.ensures.refused.knew c.pin_names.ensures.grow c.pin_known.ensures.known
 
 pub returns-in-Err-clause-refused : goal.returns-in-Err-clause-refused
 returns-in-Err-clause-refused g c =
@@ -35,14 +35,14 @@ returns-in-Err-clause-refused g c =
     let u = view c.pin_names.new.claims in
     let missed : SameButPins v mid × (mid.good ≡ []) = search rules in
     no_pins_after v mid w missed.0 b (names_under c.args.request.now c.args.descriptors.now c.args.rules.now) c.in-Err.fault t u
-    (subst (λ (l : List CounterName). HasNoPins b l c.in-Err.fault mid w t u) (c.as_slice.ensures.value ∙ c.in-Ok.ensures.names) c.in-Err.ensures.refused)
+    (subst (λ (l : List CounterName). HasNoPins b l c.in-Err.fault mid w t u) (c.as_slice.ensures.value ∙ c.in-Ok-names_of.ensures.names) c.in-Err.ensures.refused)
 
 pub note_names-requires-clause-known : goal.note_names-requires-clause-known
 note_names-requires-clause-known g c =
     let t = view c.args.claims.now in
     let u = view c.pin_names.new.claims in
-    entries_later g.N.CellNaming.setup.cells t.known u.known c.pin_known.new.known
-    (claimed_prefix (keys_at c.pin_names.new.cell_pass.moment c.as_slice.result.now) c.pin_names.new.cell_pass.moment t u c.in-Ok-pin_names.ensures.pinned.claimed) c.pin_known.ensures.known
+    entries_later g.N.CellNaming.setup.cells t.known u.known c.pin_known.new.cell_pass.pairs c.pin_names.new.cell_pass.pairs c.pin_known.new.known
+    (claimed_prefix (keys_at c.pin_names.new.cell_pass.moment c.as_slice.result.now) c.pin_names.new.cell_pass.moment t u c.in-Ok-pin_names.ensures.pinned.claimed) c.pin_names.ensures.grow c.pin_known.ensures.known
 
 pub returns-clause-pinned : goal.returns-clause-pinned
 returns-clause-pinned g c =
@@ -54,4 +54,4 @@ returns-clause-pinned g c =
     let spots = c.in-Ok-pin_names.spots.items in
     let missed : SameButPins v mid × (mid.good ≡ []) = search rules in
     pins_after v mid w missed.0 (names_under c.args.request.now c.args.descriptors.now c.args.rules.now) spots t u
-    (subst (λ (l : List CounterName). HasPins l spots mid w t u) (c.as_slice.ensures.value ∙ c.in-Ok.ensures.names) c.in-Ok-pin_names.ensures.pinned)
+    (subst (λ (l : List CounterName). HasPins l spots mid w t u) (c.as_slice.ensures.value ∙ c.in-Ok-names_of.ensures.names) c.in-Ok-pin_names.ensures.pinned)

@@ -1,7 +1,7 @@
 use Rattle.std.proofs.Common.{◌∙◌, ◌*◌, ◌-◌, sym}
 use Rattle.told_list.specs.Tokens.{view}
 use Rattle.counter_directory.specs.Acquired.{Bounds}
-use Rattle.rate_limiter.proofs.Turning.{turned_ok, no_names}
+use Rattle.rate_limiter.proofs.Turning.{turned_ok, turned_grow, turned_had, no_names, none_had}
 use Rattle.rate_limiter.proofs.limiter.Limiter.pin_names.Goals as goal
 
 pub returns-then-is_empty-clause-pinned : goal.returns-then-is_empty-clause-pinned
@@ -12,3 +12,18 @@ pub returns-in-Ok-clause-pinned : goal.returns-in-Ok-clause-pinned
 returns-in-Ok-clause-pinned g c =
     let b : Bounds = record { cells = g.N.CellNaming.setup.cells; claims = c.self.inside.directory.claims_max; held = 32 * (c.self.inside.directory.passes - 1) } in
     turned_ok b c.args.names.now c.in-Ok.field-0 c.args.cell_pass.now c.acquire.new.cell_pass (view c.args.claims.now) (view c.acquire.new.pass) c.in-Ok.ensures.turn
+
+pub returns-in-Ok-clause-had : goal.returns-in-Ok-clause-had
+returns-in-Ok-clause-had g c =
+    let b : Bounds = record { cells = g.N.CellNaming.setup.cells; claims = c.self.inside.directory.claims_max; held = 32 * (c.self.inside.directory.passes - 1) } in
+    turned_had b c.args.names.now c.in-Ok.field-0 c.args.cell_pass.now c.acquire.new.cell_pass (view c.args.claims.now) (view c.acquire.new.pass) c.in-Ok.ensures.turn
+
+pub returns-in-Ok-clause-grow : goal.returns-in-Ok-clause-grow
+returns-in-Ok-clause-grow g c =
+    let b : Bounds = record { cells = g.N.CellNaming.setup.cells; claims = c.self.inside.directory.claims_max; held = 32 * (c.self.inside.directory.passes - 1) } in
+    turned_grow b c.args.names.now c.acquire.result c.args.cell_pass.now c.acquire.new.cell_pass (view c.args.claims.now) (view c.acquire.new.pass) c.acquire.ensures.turn
+
+pub returns-in-Err-clause-grow : goal.returns-in-Err-clause-grow
+returns-in-Err-clause-grow g c =
+    let b : Bounds = record { cells = g.N.CellNaming.setup.cells; claims = c.self.inside.directory.claims_max; held = 32 * (c.self.inside.directory.passes - 1) } in
+    turned_grow b c.args.names.now c.acquire.result c.args.cell_pass.now c.acquire.new.cell_pass (view c.args.claims.now) (view c.acquire.new.pass) c.acquire.ensures.turn

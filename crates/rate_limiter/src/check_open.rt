@@ -1,0 +1,57 @@
+ghost use Rattle.std.specs.Prelude.{◌≡◌};
+
+use crate::sought::pin_known;
+use crate::{Limiter, NotOpen, Pass};
+use counter_cells::CellNaming;
+use rate_types::{Request, Seconds};
+use rls_core::Reply;
+use rule_lookup::find_rules;
+
+impl<N: CellNaming> Limiter<N> {
+    ghost use Rattle.std.specs.Prelude.{◌≡◌, ◌≤◌, length};
+    ghost use Rattle.rate_types.specs.declared.limits.TheConstants.{MOST_DESCRIPTORS};
+    ghost use Rattle.rate_limiter.specs.Opens.{Opens};
+
+    /// Answers a request as [`Limiter::check`] does, where no newer version is installed, the pass knows each counter of the
+    /// request at its moment, and their cells are theirs still. It takes no lock and no memory, and waits for nobody.
+    ///
+    /// A refusal charges nothing and leaves no pin. `Behind` does nothing but one load. After the other two the pass's moment may
+    /// have risen. `Unknown` comes before `Reclaimed`, and pins nothing.
+    pub fn check_open(
+        &self,
+        pass: &mut Pass<N>,
+        request: &Request,
+        now: Seconds,
+    ) -> Result<Reply, NotOpen>
+        requires pass { pass.old.limiter ≡ self.now.id }
+        ensures pass { pass.new.limiter ≡ self.now.id }
+        ensures few { length request.now.descriptors ≤ MOST_DESCRIPTORS }
+        ensures step { Opens self.now request.now now pass.old result pass.new }
+    {
+        let descriptors = request.descriptors();
+        if let Some(version) = self.versions.is_behind(&mut pass.version) {
+            return Err(NotOpen::Behind { version });
+        }
+        self.tick(pass, now);
+        let rules = find_rules(pass.version.index(), request.domain(), descriptors);
+        match pin_known(
+            &self.cells,
+            &pass.claims,
+            &mut pass.cells,
+            &mut pass.known,
+            &mut pass.key,
+            request,
+            descriptors,
+            rules.as_slice(),
+        ) {
+            Err(missed) => Err(NotOpen::of(missed)),
+            Ok(spots) => Ok(self.answer(
+                &mut pass.cells,
+                pass.version.version(),
+                request,
+                rules.as_slice(),
+                spots.as_slice(),
+            )),
+        }
+    }
+}

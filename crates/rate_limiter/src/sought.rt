@@ -1,0 +1,254 @@
+// Counters that the pass knows are pinned without a turn at the directory: first all are looked up, then all are pinned.
+ghost use Rattle.std.specs.Prelude.{◌≡◌, ◌≤◌, ◌<◌, ◌+◌, ◌++◌, ℕ, List, [], All, IfOk, IfErr, IfSome, IsOk, length};
+ghost use Rattle.rate_types.specs.declared.limits.TheConstants.{MOST_DESCRIPTORS, MOST_PINS};
+ghost use Rattle.rate_types.specs.declared.counter_name.CounterName.{CounterName as CounterNameValue};
+ghost use Rattle.counter_cells.specs.declared.view.CellView.{CellView};
+ghost use Rattle.window_keys.specs.Counter.{counter_of};
+ghost use Rattle.told_list.specs.Tokens.{view as knows};
+ghost use Rattle.rate_limiter.specs.Known.{AreBoundEntries, SameSpots, PinsGrow, spot_of};
+ghost use Rattle.rate_limiter.specs.Planned.{name_under, names_under};
+ghost use Rattle.rate_limiter.specs.Pinned.{SameButPins, ArePinned};
+ghost use Rattle.rate_limiter.specs.Sought.{IsOwnSpot, IsOwnAt, AreOwn, IsKnownAt, AreKnown, IsUnknownAt, IsFirstUnknown, HasMissedAt, HasMissedFirst};
+ghost use Rattle.rate_limiter.specs.Sought.{HasMissCause, KnowsUnder};
+
+use crate::missed::Missed;
+use arrayvec::ArrayVec;
+use counter_cells::{CellNaming, CellPass, Cells, Pin, Spot};
+use counter_directory::{DirectoryPass, give_back};
+use over_cache::OverCache;
+use rate_types::limits::MOST_DESCRIPTORS;
+use rate_types::{Descriptor, Request, Unit};
+use rule_lookup::Found;
+use window_keys::{KeyBuffer, start, write_key};
+
+// The spot that the pass knows of the descriptor's counter under a unit, in the window of the pass's moment.
+fn find_one<N: CellNaming>(
+    claims: &DirectoryPass<N>,
+    cell_pass: &CellPass<N>,
+    known: &mut OverCache,
+    key: &mut KeyBuffer,
+    request: &Request,
+    descriptor: &Descriptor,
+    unit: Unit,
+) -> Option<Spot>
+    requires known { AreBoundEntries N.setup.cells (knows claims.now).known cell_pass.now.pairs known.old }
+    ensures known { AreBoundEntries N.setup.cells (knows claims.now).known cell_pass.now.pairs known.new }
+    ensures same { SameSpots known.old known.new }
+    ensures spot { result ≡ spot_of (counter_of request.now.domain descriptor.now unit cell_pass.now.moment) known.old }
+    ensures own { IfSome result (IsOwnSpot N.setup.cells (knows claims.now).known cell_pass.now.pairs
+        (counter_of request.now.domain descriptor.now unit cell_pass.now.moment)) }
+{
+    let _ = claims;
+    let moment = cell_pass.moment();
+    write_key(
+        request.domain(),
+        &descriptor.entries,
+        unit,
+        start(unit, moment),
+        key,
+    );
+    let found = known.known(key.as_slice())?;
+    Some(found.spot)
+}
+
+// A counter that the pass doesn't know.
+struct UnknownCounter;
+
+// The spot that the pass knows of a descriptor's counter, where it has a limit.
+fn find_next<N: CellNaming>(
+    claims: &DirectoryPass<N>,
+    cell_pass: &CellPass<N>,
+    known: &mut OverCache,
+    key: &mut KeyBuffer,
+    request: &Request,
+    descriptor: &Descriptor,
+    found: Found,
+) -> Result<Option<Spot>, UnknownCounter>
+    requires known { AreBoundEntries N.setup.cells (knows claims.now).known cell_pass.now.pairs known.old }
+    ensures known { AreBoundEntries N.setup.cells (knows claims.now).known cell_pass.now.pairs known.new }
+    ensures same { SameSpots known.old known.new }
+    ensures own { IfOk result (IsOwnAt N.setup.cells (knows claims.now).known cell_pass.now.pairs request.now cell_pass.now.moment
+        descriptor.now found) }
+    ensures spot { IfOk result (IsKnownAt request.now cell_pass.now.moment known.old descriptor.now found) }
+    ensures unknown { IfErr result (λ _. IsUnknownAt request.now cell_pass.now.moment known.old descriptor.now found) }
+{
+    match found {
+        Found::NoRule => Ok(None),
+        Found::Unlimited { .. } => Ok(None),
+        Found::Limited { unit, .. } => {
+            match find_one(claims, cell_pass, known, key, request, descriptor, unit) {
+                Some(spot) => Ok(Some(spot)),
+                None => Err(UnknownCounter),
+            }
+        }
+    }
+}
+
+// What the pass knows of the counters of the descriptors, at its moment: a spot for each that has a limit. Or the first place whose
+// counter it doesn't know.
+fn find_known<N: CellNaming>(
+    claims: &DirectoryPass<N>,
+    cell_pass: &CellPass<N>,
+    known: &mut OverCache,
+    key: &mut KeyBuffer,
+    request: &Request,
+    descriptors: &[Descriptor],
+    rules: &[Found],
+) -> Result<ArrayVec<Option<Spot>, MOST_DESCRIPTORS>, u32>
+    requires few { length descriptors.now ≤ MOST_DESCRIPTORS }
+    requires rules { length rules.now ≡ length descriptors.now }
+    requires known { AreBoundEntries N.setup.cells (knows claims.now).known cell_pass.now.pairs known.old }
+    ensures known { AreBoundEntries N.setup.cells (knows claims.now).known cell_pass.now.pairs known.new }
+    ensures same { SameSpots known.old known.new }
+    ensures count { IfOk result (λ os. length os.items ≡ length descriptors.now) }
+    ensures own { IfOk result (λ os. AreOwn N.setup.cells (knows claims.now).known cell_pass.now.pairs request.now cell_pass.now.moment
+        descriptors.now rules.now os.items) }
+    ensures spots { IfOk result (λ os. AreKnown request.now cell_pass.now.moment known.old descriptors.now rules.now os.items) }
+    ensures unknown { IfErr result
+        (λ place. IsFirstUnknown request.now cell_pass.now.moment known.old descriptors.now rules.now place) }
+{
+    let mut spots = ArrayVec::new();
+    'descriptors: for place in 0..descriptors.len() {
+        match find_next(
+            claims,
+            cell_pass,
+            known,
+            key,
+            request,
+            &descriptors[place],
+            rules[place],
+        ) {
+            Ok(spot) => spots.push(spot),
+            Err(UnknownCounter) => return Err(place as u32),
+        }
+    }
+    Ok(spots)
+}
+
+// Pins the spot that was found for a descriptor, where there is one. Or the claim under which the pin found the cell.
+fn pin_next<N: CellNaming>(
+    cells: &Cells<N>,
+    claims: &DirectoryPass<N>,
+    cell_pass: &mut CellPass<N>,
+    request: &Request,
+    descriptor: &Descriptor,
+    rule: Found,
+    found: Option<Spot>,
+    spots: &mut ArrayVec<Spot, 32>,
+) -> Result<(), u64>
+    requires room { length cell_pass.old.good < MOST_PINS }
+    requires space { length spots.old.items < MOST_PINS }
+    requires own { IsOwnAt N.setup.cells (knows claims.now).known cell_pass.old.pairs request.now cell_pass.old.moment descriptor.now
+        rule found }
+    ensures pinned { IsOk result → (v : CellView) (names : List CounterNameValue)
+        → ArePinned N.setup.cells (knows claims.now).known names spots.old.items v cell_pass.old
+        → ArePinned N.setup.cells (knows claims.now).known (names ++ name_under request.now descriptor.now rule) spots.new.items v
+        cell_pass.new }
+    ensures others { IsOk result → cell_pass.new.others ≡ cell_pass.old.others }
+    ensures kept { IfErr result (λ _. (v : CellView) (names : List CounterNameValue)
+        → ArePinned N.setup.cells (knows claims.now).known names spots.old.items v cell_pass.old
+        → ArePinned N.setup.cells (knows claims.now).known names spots.new.items v cell_pass.new) }
+    ensures missed { IfErr result (λ claim. HasMissedAt found claim cell_pass.old cell_pass.new) }
+    ensures pins { PinsGrow cell_pass.old.pairs cell_pass.new.pairs }
+    ensures few { length spots.new.items ≤ length spots.old.items + 1 }
+{
+    let _ = claims;
+    let _ = request;
+    let _ = descriptor;
+    let _ = rule;
+    let Some(spot) = found else {
+        return Ok(());
+    };
+    match cells.pin(cell_pass, spot) {
+        Pin::Pinned => {
+            spots.push(spot);
+            Ok(())
+        }
+        Pin::Other { claim, .. } => Err(claim),
+    }
+}
+
+// Pins the spots that were found for the descriptors. Where one misses, those before it are given back.
+fn pin_found<N: CellNaming>(
+    cells: &Cells<N>,
+    claims: &DirectoryPass<N>,
+    cell_pass: &mut CellPass<N>,
+    request: &Request,
+    descriptors: &[Descriptor],
+    rules: &[Found],
+    found: &[Option<Spot>],
+) -> Result<ArrayVec<Spot, 32>, Missed>
+    requires bare { cell_pass.old.good ≡ [] }
+    requires few { length descriptors.now ≤ MOST_DESCRIPTORS }
+    requires rules { length rules.now ≡ length descriptors.now }
+    requires count { length found.now ≡ length descriptors.now }
+    requires own { AreOwn N.setup.cells (knows claims.now).known cell_pass.old.pairs request.now cell_pass.old.moment descriptors.now
+        rules.now found.now }
+    ensures pinned { IfOk result (λ ss. ArePinned N.setup.cells (knows claims.now).known
+        (names_under request.now descriptors.now rules.now) ss.items cell_pass.old cell_pass.new) }
+    ensures kept { IfErr result (λ _. SameButPins cell_pass.old cell_pass.new × (cell_pass.new.good ≡ [])) }
+    ensures missed { IfErr result (λ m. HasMissedFirst found.now m cell_pass.old cell_pass.new) }
+    ensures pins { PinsGrow cell_pass.old.pairs cell_pass.new.pairs }
+{
+    let mut spots = ArrayVec::new();
+    'descriptors: for place in 0..descriptors.len() {
+        let pinned = pin_next(
+            cells,
+            claims,
+            cell_pass,
+            request,
+            &descriptors[place],
+            rules[place],
+            found[place],
+            &mut spots,
+        );
+        if let Err(claim) = pinned {
+            give_back(cells, cell_pass, spots.as_slice());
+            return Err(Missed::Reclaimed {
+                place: place as u32,
+                claim,
+            });
+        }
+    }
+    Ok(spots)
+}
+
+/// Pins the counters of all descriptors that have a limit, at the pass's moment, where the pass knows each and its cell is the
+/// counter's still. Where not, nothing is pinned. A counter that isn't known comes before a cell that is another's.
+pub(crate) fn pin_known<N: CellNaming>(
+    cells: &Cells<N>,
+    claims: &DirectoryPass<N>,
+    cell_pass: &mut CellPass<N>,
+    known: &mut OverCache,
+    key: &mut KeyBuffer,
+    request: &Request,
+    descriptors: &[Descriptor],
+    rules: &[Found],
+) -> Result<ArrayVec<Spot, 32>, Missed>
+    requires bare { cell_pass.old.good ≡ [] }
+    requires few { length descriptors.now ≤ MOST_DESCRIPTORS }
+    requires rules { length rules.now ≡ length descriptors.now }
+    requires known { AreBoundEntries N.setup.cells (knows claims.now).known cell_pass.old.pairs known.old }
+    ensures known { AreBoundEntries N.setup.cells (knows claims.now).known cell_pass.new.pairs known.new }
+    ensures same { SameSpots known.old known.new }
+    ensures pinned { IfOk result (λ ss. ArePinned N.setup.cells (knows claims.now).known
+        (names_under request.now descriptors.now rules.now) ss.items cell_pass.old cell_pass.new) }
+    ensures all { IfOk result (λ _. KnowsUnder (length descriptors.now) request.now cell_pass.old.moment known.old descriptors.now
+        rules.now) }
+    ensures kept { IfErr result (λ _. SameButPins cell_pass.old cell_pass.new × (cell_pass.new.good ≡ [])) }
+    ensures missed { IfErr result (λ m. HasMissCause request.now cell_pass.old.moment known.old descriptors.now rules.now m
+        cell_pass.old cell_pass.new) }
+{
+    match find_known(claims, cell_pass, known, key, request, descriptors, rules) {
+        Err(place) => Err(Missed::Unknown { place }),
+        Ok(found) => pin_found(
+            cells,
+            claims,
+            cell_pass,
+            request,
+            descriptors,
+            rules,
+            found.as_slice(),
+        ),
+    }
+}

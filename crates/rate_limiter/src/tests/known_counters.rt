@@ -1,0 +1,273 @@
+ghost use Rattle.std.specs.Prelude.{◌≡◌, ◌≤◌, ◌+◌, All, IfOk, vec_len};
+ghost use Rattle.counter_cells.specs.Opened.{table_of, setup_of};
+
+use super::super::*;
+use super::{answers, are_shown, config, open, request, take};
+use crate::missed::Missed;
+use crate::sought::pin_known;
+use counter_cells::{CellNaming, OpenedCells};
+use counter_directory::give_back;
+use rate_types::{Request, Seconds};
+use rls_core::{Code, Count};
+use rule_lookup::find_rules;
+use std::alloc::Global;
+use std::marker::Brand;
+use std::process::Abort;
+use std::random::RandomSource;
+use std::sync::Wait;
+use std::test::Fail;
+
+// Whether a check without lock and memory is answered by these codes and counts.
+fn answers_open<N: CellNaming>(
+    limiter: &Limiter<N>,
+    pass: &mut Pass<N>,
+    request: &Request,
+    now: u64,
+    shown: &[(Code, Count)],
+) -> bool
+    requires pass { pass.old.limiter ≡ limiter.now.id }
+    ensures pass { pass.new.limiter ≡ limiter.now.id }
+{
+    match limiter.check_open(pass, request, Seconds::capped(now)) {
+        Ok(reply) => are_shown(reply.statuses.as_slice(), shown),
+        Err(_) => false,
+    }
+}
+
+// Whether it is refused for this.
+fn refuses_open<N: CellNaming>(
+    limiter: &Limiter<N>,
+    pass: &mut Pass<N>,
+    request: &Request,
+    now: u64,
+    fault: NotOpen,
+) -> bool
+    requires pass { pass.old.limiter ≡ limiter.now.id }
+    ensures pass { pass.new.limiter ≡ limiter.now.id }
+{
+    match limiter.check_open(pass, request, Seconds::capped(now)) {
+        Ok(_) => false,
+        Err(found) => found == fault,
+    }
+}
+
+// Whether the pins of a check miss for this, at the pass's moment as it is.
+fn misses<N: CellNaming>(
+    limiter: &Limiter<N>,
+    pass: &mut Pass<N>,
+    request: &Request,
+    wanted: Missed,
+) -> bool
+    requires pass { pass.old.limiter ≡ limiter.now.id }
+    ensures pass { pass.new.limiter ≡ limiter.now.id }
+{
+    let descriptors = request.descriptors();
+    let rules = find_rules(pass.version.index(), request.domain(), descriptors);
+    match pin_known(
+        &limiter.cells,
+        &pass.claims,
+        &mut pass.cells,
+        &mut pass.known,
+        &mut pass.key,
+        request,
+        descriptors,
+        rules.as_slice(),
+    ) {
+        Ok(spots) => {
+            give_back(&limiter.cells, &mut pass.cells, spots.as_slice());
+            false
+        }
+        Err(missed) => missed == wanted,
+    }
+}
+
+#[test]
+fn a_known_counter_is_counted_without_a_turn(rt: HostRuntime) -> Result<(), Fail> {
+    let opened = OpenedCells::make(rt.alloc(), 8, 1, Seconds::capped(0))?;
+    check_known::<Brand, _>(&rt, rt.alloc(), opened)
+}
+
+fn check_known<N: CellNaming, R: Abort + RandomSource + Wait>(
+    rt: &R,
+    alloc: Global,
+    opened: OpenedCells,
+) -> Result<(), Fail>
+    requires name { (table_of opened ≡ N.table) × (setup_of opened ≡ N.setup) }
+    requires passes { N.setup.passes ≡ 1 }
+{
+    let (limiter, mut passes) = open::<N, _>(rt, alloc, opened, 100)?;
+    let mut pass = take(&limiter, &mut passes)?;
+    let free = request(alloc, &[("x", "a", None)])?;
+    let one = request(alloc, &[("k", "a", None)])?;
+    let both = request(
+        alloc,
+        &[("x", "a", None), ("k", "a", Some(0)), ("k", "b", None)],
+    )?;
+    let unknown = NotOpen::Unknown { place: 0 };
+    assert!(rt; answers_open(&limiter, &mut pass, &free, 0, &[(Code::Ok, Count::NoCount)]));
+    assert!(rt; refuses_open(&limiter, &mut pass, &one, 5, unknown));
+    assert!(rt;
+        answers(
+            rt,
+            alloc,
+            &limiter,
+            &mut pass,
+            &one,
+            5,
+            &[(Code::Ok, Count::Before(0))]
+        )
+    );
+    assert!(rt;
+        answers_open(
+            &limiter,
+            &mut pass,
+            &one,
+            6,
+            &[(Code::Ok, Count::Before(1))]
+        )
+    );
+    assert!(rt;
+        answers_open(
+            &limiter,
+            &mut pass,
+            &one,
+            6,
+            &[(Code::OverLimit, Count::Before(2))]
+        )
+    );
+    assert!(rt;
+        answers_open(
+            &limiter,
+            &mut pass,
+            &one,
+            6,
+            &[(Code::OverLimit, Count::Seen(3))]
+        )
+    );
+    assert!(rt;
+        answers(
+            rt,
+            alloc,
+            &limiter,
+            &mut pass,
+            &one,
+            6,
+            &[(Code::OverLimit, Count::Seen(3))]
+        )
+    );
+    assert!(rt; refuses_open(&limiter, &mut pass, &both, 7, NotOpen::Unknown { place: 2 }));
+    assert_eq!(rt; pass.moment().get(), 7);
+    assert!(rt; refuses_open(&limiter, &mut pass, &one, 60, unknown));
+    assert_eq!(rt; (pass.moment().get(), pass.refused()), (60, 0));
+    Ok(())
+}
+
+#[test]
+fn a_newer_version_comes_before_a_counter_that_is_not_known(rt: HostRuntime) -> Result<(), Fail> {
+    let opened = OpenedCells::make(rt.alloc(), 8, 2, Seconds::capped(0))?;
+    check_behind::<Brand, _>(&rt, rt.alloc(), opened)
+}
+
+fn check_behind<N: CellNaming, R: Abort + RandomSource + Wait>(
+    rt: &R,
+    alloc: Global,
+    opened: OpenedCells,
+) -> Result<(), Fail>
+    requires name { (table_of opened ≡ N.table) × (setup_of opened ≡ N.setup) }
+    requires passes { N.setup.passes ≡ 2 }
+{
+    let (limiter, mut passes) = open::<N, _>(rt, alloc, opened, 100)?;
+    let mut one = take(&limiter, &mut passes)?;
+    let mut other = take(&limiter, &mut passes)?;
+    let asked = request(alloc, &[("k", "a", None)])?;
+    assert_eq!(rt;
+        limiter.reload(rt, alloc, &mut one, config(alloc, 5)?),
+        Ok(1)
+    );
+    assert!(rt;
+        refuses_open(
+            &limiter,
+            &mut other,
+            &asked,
+            9,
+            NotOpen::Behind { version: 1 }
+        )
+    );
+    assert_eq!(rt; (other.version(), other.moment().get()), (0, 0));
+    assert!(rt;
+        answers(
+            rt,
+            alloc,
+            &limiter,
+            &mut other,
+            &asked,
+            1,
+            &[(Code::Ok, Count::Before(0))]
+        )
+    );
+    assert!(rt;
+        answers_open(
+            &limiter,
+            &mut other,
+            &asked,
+            1,
+            &[(Code::Ok, Count::Before(1))]
+        )
+    );
+    assert!(rt; refuses_open(&limiter, &mut one, &asked, 1, NotOpen::Unknown { place: 0 }));
+    assert_eq!(rt; limiter.meet(rt, &mut one, &mut other), Ok(()));
+    assert_eq!(rt; (one.version(), other.version()), (1, 1));
+    assert_eq!(rt; one.moment(), other.moment());
+    Ok(())
+}
+
+#[test]
+fn a_cell_that_is_claimed_anew_is_not_pinned(rt: HostRuntime) -> Result<(), Fail> {
+    let opened = OpenedCells::make(rt.alloc(), 1, 2, Seconds::capped(0))?;
+    check_claimed_anew::<Brand, _>(&rt, rt.alloc(), opened)
+}
+
+// With one cell. The pass keeps its moment while another one claims the cell for a later window.
+fn check_claimed_anew<N: CellNaming, R: Abort + RandomSource + Wait>(
+    rt: &R,
+    alloc: Global,
+    opened: OpenedCells,
+) -> Result<(), Fail>
+    requires name { (table_of opened ≡ N.table) × (setup_of opened ≡ N.setup) }
+    requires passes { N.setup.passes ≡ 2 }
+{
+    let (limiter, mut passes) = open::<N, _>(rt, alloc, opened, 100)?;
+    let mut one = take(&limiter, &mut passes)?;
+    let mut other = take(&limiter, &mut passes)?;
+    let asked = request(alloc, &[("x", "a", None), ("k", "a", None)])?;
+    let later = request(alloc, &[("k", "b", None)])?;
+    let both = request(alloc, &[("k", "a", None), ("k", "b", None)])?;
+    let reclaimed = Missed::Reclaimed { place: 1, claim: 1 };
+    let shown = [(Code::Ok, Count::NoCount), (Code::Ok, Count::Before(0))];
+    assert!(rt; answers(rt, alloc, &limiter, &mut one, &asked, 5, &shown));
+    assert!(rt;
+        answers(
+            rt,
+            alloc,
+            &limiter,
+            &mut other,
+            &later,
+            60,
+            &[(Code::Ok, Count::Before(0))]
+        )
+    );
+    assert_eq!(rt; one.moment().get(), 5);
+    assert!(rt; misses(&limiter, &mut one, &asked, reclaimed));
+    assert!(rt; misses(&limiter, &mut one, &both, Missed::Unknown { place: 1 }));
+    assert!(rt; refuses_open(&limiter, &mut one, &asked, 5, NotOpen::Unknown { place: 1 }));
+    assert!(rt;
+        answers_open(
+            &limiter,
+            &mut other,
+            &later,
+            60,
+            &[(Code::Ok, Count::Before(1))]
+        )
+    );
+    Ok(())
+}
