@@ -36,6 +36,3 @@ pub use command::{Command, QuotaJob, ServeJob, ThreadJob};
 pub use exit::Exit;
 pub use top::ratelimit;
 pub use words::{WordsFault, read_words};
-
-#[cfg(test)]
-mod tests;

@@ -9,8 +9,6 @@
 
 mod line;
 mod merging;
-#[cfg(test)]
-mod tests;
 
 pub use line::Line;
 pub use merging::merge;

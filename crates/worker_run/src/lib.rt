@@ -18,8 +18,6 @@ mod finishing;
 mod gate;
 mod lines;
 mod running;
-#[cfg(test)]
-mod tests;
 mod working;
 
 pub use finishing::{Finished, run_script};

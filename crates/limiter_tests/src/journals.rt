@@ -1,8 +1,9 @@
+// Journals merged by line.
 ghost use Rattle.std.specs.Prelude.{◌≡◌};
 
-use crate::merge;
 use rate_types::{OutOfMemory, Seconds};
 use reply_text::{Outcome, Record, Records};
+use script_run::merge;
 use std::alloc::Global;
 use std::test::Fail;
 

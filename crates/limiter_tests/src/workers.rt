@@ -4,10 +4,9 @@ ghost use Rattle.descriptor_tree.specs.Trees.{node_view};
 ghost use Rattle.descriptor_tree.specs.Config.{IsWellFormedBranch};
 ghost use Rattle.counter_cells.specs.Opened.{table_of, setup_of};
 
-use crate::{Gate, Open, run_script};
 use counter_cells::{CellNaming, OpenedCells};
 use descriptor_tree::{Config, Forest, Node, Policy, Texts, Tree};
-use rate_limiter::{Limiter, Limits, Pass};
+use rate_limiter::{Limiter, Limits};
 use rate_types::limits::MOST_CLAIMS;
 use rate_types::{Descriptor, Entries, Entry, Place, Refused, Request, Seconds, Text, Unit};
 use reply_text::{Outcome, Record, Records};
@@ -18,11 +17,10 @@ use std::hash::RandomState;
 use std::marker::Brand;
 use std::process::Abort;
 use std::random::RandomSource;
-use std::sync::atomic::{AtomicU64, Ordering};
 use std::sync::{Arc, Wait};
 use std::test::Fail;
-use std::thread;
 use std::thread::Threads;
+use worker_run::{Gate, Open, run_script};
 
 // The node that limits each value of key `k` to so many hits a minute.
 fn node(alloc: Global, limit: u32) -> Result<Node, Fail>
@@ -184,59 +182,5 @@ fn two_workers_run_each_line_once(rt: HostRuntime) -> Result<(), Fail> {
     assert_eq!(rt; shown(reload), 100);
     assert_eq!(rt; shown(first).min(shown(last)), 0);
     assert_eq!(rt; shown(first).max(shown(last)), 1);
-    Ok(())
-}
-
-// How often line 1 asks whether line 2 is done.
-const TURNS: u32 = 1_000_000;
-
-// Holds line 1 until line 2 is done, and counts what it is told of the two: the first line counts 1, the second 1,000.
-#[derive(Drop)]
-struct SecondLineFirst {
-    begun: AtomicU64,
-    done: AtomicU64,
-}
-
-fn weight(line: u32) -> u64 {
-    if line == 1 { 1 } else { 1_000 }
-}
-
-impl Gate for SecondLineFirst {
-    fn before(&self, _: u32, line: u32) {
-        self.begun.fetch_add(weight(line), Ordering::SeqCst);
-        if line != 1 {
-            return;
-        }
-        for _ in 0..TURNS {
-            if self.done.load(Ordering::SeqCst) != 0 {
-                return;
-            }
-            thread::yield_now();
-        }
-    }
-
-    fn after<N: CellNaming>(&self, _: u32, _: &Line, shown: &Record, _: &Pass<N>) {
-        self.done.fetch_add(weight(shown.line), Ordering::SeqCst);
-    }
-}
-
-#[test]
-fn two_workers_run_side_by_side(rt: HostRuntime) -> Result<(), Fail> {
-    let opened = OpenedCells::make(rt.alloc(), 8, 2, Seconds::capped(0))?;
-    let mut lines = Vec::new(rt.alloc());
-    lines.push(check(rt.alloc())?)?;
-    lines.push(check(rt.alloc())?)?;
-    let gate = SecondLineFirst {
-        begun: AtomicU64::new(0),
-        done: AtomicU64::new(0),
-    };
-    let records = run::<Brand, _, _>(&rt, rt.alloc(), opened, lines, 2, &gate)?;
-    let [first, second] = records.items() else {
-        return Err(Fail::new("two records"));
-    };
-    assert_eq!(rt; (shown(first), shown(second)), (1, 0));
-    assert!(rt; first.worker != second.worker, "two workers");
-    assert_eq!(rt; gate.begun.load(Ordering::SeqCst), 1_001);
-    assert_eq!(rt; gate.done.load(Ordering::SeqCst), 1_001);
     Ok(())
 }

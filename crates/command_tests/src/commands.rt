@@ -6,9 +6,9 @@ mod reports;
 mod rows;
 mod workers;
 
-use crate::{Exit, ratelimit};
 use rate_io::{FixedClock, MemFile, MemFiles, MemListen, MemSink, MemSource};
 use rate_types::{Blob, Names, Word};
+use ratelimit_cli::{Exit, ratelimit};
 use std::alloc::Global;
 use std::hash::RandomState;
 use std::random::RandomSource;

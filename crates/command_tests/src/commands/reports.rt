@@ -1,5 +1,5 @@
 // The status and the text of each exit.
-use crate::Exit;
+use ratelimit_cli::Exit;
 use rate_types::{At, Place, Refused};
 use std::alloc::Global;
 use std::test::Fail;

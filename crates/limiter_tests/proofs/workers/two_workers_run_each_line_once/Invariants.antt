@@ -1,5 +1,5 @@
 use Rattle.counter_cells.specs.Opened.{table_of, setup_of}
-use Rattle.worker_run.proofs.tests.one_worker_runs_line_after_line.Given as goal
+use Rattle.limiter_tests.proofs.workers.two_workers_run_each_line_once.Given as goal
 
 -- the cells that were just opened
 abbrev pub ghosts-run : goal.ghosts-run
