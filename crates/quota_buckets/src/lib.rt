@@ -28,6 +28,3 @@ pub use quota_settings::{
     Attributes, BucketId, BucketSettings, Pair, Part, PartSource, Parts, Settings,
 };
 pub use report::{Report, Reports};
-
-#[cfg(test)]
-mod tests;

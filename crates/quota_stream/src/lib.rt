@@ -32,6 +32,3 @@ pub use replaying::replay;
 pub use stream_task::StreamTask;
 pub use text_parts::{bucket_text, quoted};
 pub use workers::replay_all;
-
-#[cfg(test)]
-mod tests;

@@ -4,6 +4,8 @@
 #[cfg(test)]
 mod bucket;
 #[cfg(test)]
+mod buckets;
+#[cfg(test)]
 mod events;
 #[cfg(test)]
 mod moments;
@@ -11,3 +13,5 @@ mod moments;
 mod pools;
 #[cfg(test)]
 mod settings;
+#[cfg(test)]
+mod streams;

@@ -1,5 +1,5 @@
 use super::steps::{Step, run};
-use crate::Strategy;
+use quota_buckets::Strategy;
 use std::test::Fail;
 
 // The attribute `name` names the bucket, which reports each 5 seconds. An assignment that expires erases it.

@@ -1,6 +1,6 @@
-use crate::StreamTask;
-use crate::tests::settings_with;
+use super::settings_with;
 use futures::executor::block_on;
+use quota_stream::StreamTask;
 use std::alloc::Global;
 use std::test::Fail;
 

@@ -1,4 +1,4 @@
-use crate::tests::{replayed, settings_with};
+use super::{replayed, settings_with};
 use std::test::Fail;
 
 // A bucket that is assigned twice a second while its stream is lost and comes back.

@@ -1,10 +1,11 @@
+// Streams that are replayed.
 mod rows;
 mod sinks;
 mod turns;
 
-use crate::{ReplayFault, replay_all};
 use quota_settings::Settings;
 use quota_settings_json::read_settings;
+use quota_stream::{ReplayFault, replay_all};
 use rate_types::{Blob, Blobs, Names};
 use std::alloc::Global;
 use std::process::Abort;

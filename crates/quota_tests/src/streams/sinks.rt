@@ -1,6 +1,6 @@
-use crate::tests::rows::{RENEWED, RENEWED_OUTPUT};
-use crate::tests::settings_with;
-use crate::{ReplayFault, replay};
+use super::rows::{RENEWED, RENEWED_OUTPUT};
+use super::settings_with;
+use quota_stream::{ReplayFault, replay};
 use rate_io::{MemSink, MemSource};
 use std::alloc::Global;
 use std::test::Fail;

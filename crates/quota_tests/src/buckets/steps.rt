@@ -1,4 +1,4 @@
-use crate::{
+use quota_buckets::{
     AdvanceFault, Assigned, Attributes, BucketId, Buckets, Decided, NoBucket, Pair, Report,
     Reports, Strategy,
 };

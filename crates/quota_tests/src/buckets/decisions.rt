@@ -1,5 +1,5 @@
 use super::steps::{Step, moment, run};
-use crate::Strategy;
+use quota_buckets::Strategy;
 use rate_types::Unit;
 use std::test::Fail;
 

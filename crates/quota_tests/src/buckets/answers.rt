@@ -1,5 +1,5 @@
 use super::steps::{Step, buckets_of, id_named, moment, named, run, value_of};
-use crate::{Assigned, Buckets, Phase, Strategy};
+use quota_buckets::{Assigned, Buckets, Phase, Strategy};
 use std::test::Fail;
 
 // A request with the name `a` belongs to the bucket `first`, one with the name `c` to none, and each other to the

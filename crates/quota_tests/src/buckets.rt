@@ -1,3 +1,4 @@
+// What buckets answer, decide and report.
 mod answers;
 mod decisions;
 mod reports;
