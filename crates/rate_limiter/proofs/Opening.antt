@@ -22,7 +22,7 @@ use Rattle.rate_limiter.specs.Counts.{Keeps}
 use Rattle.rate_limiter.specs.PassStep.{HasRenewed, HasOffered}
 use Rattle.rate_limiter.specs.Pinned.{SameButPins}
 use Rattle.rate_limiter.specs.Sought.{KnowsUnder, IsAt, HasMissCause}
-use Rattle.rate_limiter.specs.Opens.{IsUpToDate, HasStayedOpen, HasNotCounted, KnowsFirst, IsCounterAt, Opens}
+use Rattle.rate_limiter.specs.Opens.{IsUpToDate, HasStayedOpen, HasNotCounted, HasOnlyTicked, KnowsFirst, IsCounterAt, Opens}
 use Rattle.rate_limiter.specs.Opening.{refusal_for}
 use Rattle.rate_limiter.specs.declared.not_open.NotOpen.{NotOpen}
 use Rattle.std.specs.Prelude.{Result, Ok, Err}
@@ -165,7 +165,7 @@ module _ (now : ℕ) (p p1 p2 : PassView) (loads : KeepsAllButVersion p p1) (off
       opens_not limiter_view (Unknown place) same bare c = (
         stayed_open,
         not_counted same bare,
-        c.1 ∙ others_kept,
+        subst (λ (v : CellView). HasOnlyTicked p.cells v) (sym c.1) cells_ticked,
         knows_first place c.0.before,
         c.0.unknown.q,
         counter_here place c.0.d c.0.f c.0.unknown.q c.0.at c.0.unknown.counter,

@@ -6,6 +6,7 @@ use Rattle.rate_types.specs.Requests.{RequestParts}
 use Rattle.rate_types.specs.declared.counter_key.CounterKey.{CounterKey}
 use Rattle.rate_types.specs.declared.request.Descriptor.{Descriptor}
 use Rattle.config_versions.specs.PassState.{PassState, HasLoaded}
+use Rattle.counter_cells.specs.declared.view.CellView.{CellView}
 use Rattle.counter_cells.specs.declared.answers.Spot.{Spot}
 use Rattle.rls_core.specs.Reply.{found_for}
 use Rattle.rls_core.specs.declared.reply.Reply.{Reply}
@@ -36,6 +37,10 @@ pub record HasNotCounted (now : ℕ) (p q : PassView) : Type 0 where
   pub counts : Keeps p.cells q.cells
   pub bare : q.cells.good ≡ []
 
+-- nothing else was done on the cells, so nothing was pinned
+abbrev pub HasOnlyTicked : CellView → CellView → Type 0
+HasOnlyTicked v w = w ≡ record v { ticks = w.ticks; moment = w.moment }
+
 -- before the check the pass knew the counters of the first n descriptors, by its version and at its moment after the check
 abbrev pub KnowsFirst : ℕ → RequestParts → PassView → PassView → Type 0
 KnowsFirst n request p q = (i : ℕ) (d : Descriptor) → i < n → get_elem? request.descriptors i ≡ some d
@@ -55,7 +60,7 @@ Opens limiter request now p (Ok reply) q =
 Opens limiter request now p (Err (Behind version)) q =
     KeepsAllButVersion p q × HasLoaded p.version q.version × (version + 1 ≡ q.version.view.shown) × (p.version.version < version)
 Opens limiter request now p (Err (Unknown place)) q =
-    HasStayedOpen p q × HasNotCounted now p q × (q.cells.others ≡ p.cells.others) × KnowsFirst place request p q
+    HasStayedOpen p q × HasNotCounted now p q × HasOnlyTicked p.cells q.cells × KnowsFirst place request p q
     × (key : CounterKey) × IsCounterAt request q place key × (spot_of key p.known ≡ None)
 Opens limiter request now p (Err (Reclaimed place claim)) q =
     HasStayedOpen p q × HasNotCounted now p q × KnowsFirst (length request.descriptors) request p q

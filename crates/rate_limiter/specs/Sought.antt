@@ -97,6 +97,6 @@ pub record HasMissedKnown (request : RequestParts) (moment : ℕ) (entries : Ent
 -- why the counters of the descriptors aren't pinned
 abbrev pub HasMissCause : RequestParts → ℕ → Entries → List Descriptor → List Found → Missed → CellView → CellView → Type 0
 HasMissCause request moment entries ds fs (Unknown place) v w =
-    IsFirstUnknown request moment entries ds fs place × (w.others ≡ v.others)
+    IsFirstUnknown request moment entries ds fs place × (w ≡ v)
 HasMissCause request moment entries ds fs (Reclaimed place claim) v w =
     HasMissedKnown request moment entries ds fs place claim v w × KnowsUnder (length ds) request moment entries ds fs

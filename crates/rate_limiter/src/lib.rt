@@ -10,7 +10,8 @@
 //! At the end [`Limiter::close`] puts the passes together: the charges of all are one lawful ledger (`specs/Closing.antt`).
 //!
 //! A pass keeps what it knows of its counters. A check whose counters it knows, and whose cells are theirs still, asks the directory
-//! for nothing.
+//! for nothing. [`Limiter::check_open`] is such a check alone: it takes no lock and no memory, or isn't answered, for a cause
+//! (`specs/Opens.antt`).
 //!
 //! The limits: `check`, `reload` and `meet` may wait for other calls on the limiter.
 #![tactic(auto)]
