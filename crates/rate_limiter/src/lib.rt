@@ -43,6 +43,3 @@ pub use close::Closed;
 pub use limiter::{Limiter, Limits};
 pub use not_open::NotOpen;
 pub use pass::Pass;
-
-#[cfg(test)]
-mod tests;

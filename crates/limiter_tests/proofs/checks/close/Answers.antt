@@ -1,7 +1,7 @@
 use Rattle.std.proofs.Common.{◌≡◌, All, sym, subst}
 use Rattle.std.proofs.lemmas.List.Elements.{All-push}
 use Rattle.rate_limiter.specs.Passes.{PassView}
-use Rattle.rate_limiter.proofs.tests.close.Goals as goal
+use Rattle.limiter_tests.proofs.checks.close.Goals as goal
 
 pub close-requires-clause-passes : goal.close-requires-clause-passes
 close-requires-clause-passes g c =

@@ -1,5 +1,5 @@
 use Rattle.counter_cells.specs.Opened.{table_of, setup_of}
-use Rattle.rate_limiter.proofs.tests.a_value_is_over_its_limit_until_its_window_ends.Given as goal
+use Rattle.limiter_tests.proofs.checks.a_value_is_over_its_limit_until_its_window_ends.Given as goal
 
 -- the cells that were just opened
 abbrev pub ghosts-check_one_value : goal.ghosts-check_one_value

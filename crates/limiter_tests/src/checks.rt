@@ -4,9 +4,9 @@ ghost use Rattle.descriptor_tree.specs.Trees.{node_view};
 ghost use Rattle.descriptor_tree.specs.Config.{IsWellFormedBranch};
 ghost use Rattle.counter_cells.specs.Opened.{table_of, setup_of};
 
-use super::*;
 use counter_cells::{CellNaming, OpenedCells};
 use descriptor_tree::{Config, Forest, Node, Policy, Texts, Tree};
+use rate_limiter::{Closed, Limiter, Limits, Pass};
 use rate_types::{Descriptor, Entries, Entry, Request, Seconds, Text, Unit};
 use rls_core::{CheckFault, Code, Count, Status, Total};
 use std::alloc::Global;

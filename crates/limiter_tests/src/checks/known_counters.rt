@@ -1,15 +1,11 @@
 ghost use Rattle.std.specs.Prelude.{◌≡◌, ◌≤◌, ◌+◌, All, IfOk, vec_len};
 ghost use Rattle.counter_cells.specs.Opened.{table_of, setup_of};
 
-use super::super::*;
 use super::{answers, are_shown, config, open, request, take};
-use crate::missed::Missed;
-use crate::sought::pin_known;
 use counter_cells::{CellNaming, OpenedCells};
-use counter_directory::give_back;
+use rate_limiter::{Limiter, NotOpen, Pass};
 use rate_types::{Request, Seconds};
 use rls_core::{Code, Count};
-use rule_lookup::find_rules;
 use std::alloc::Global;
 use std::marker::Brand;
 use std::process::Abort;
@@ -48,36 +44,6 @@ fn refuses_open<N: CellNaming>(
     match limiter.check_open(pass, request, Seconds::capped(now)) {
         Ok(_) => false,
         Err(found) => found == fault,
-    }
-}
-
-// Whether the pins of a check miss for this, at the pass's moment as it is.
-fn misses<N: CellNaming>(
-    limiter: &Limiter<N>,
-    pass: &mut Pass<N>,
-    request: &Request,
-    wanted: Missed,
-) -> bool
-    requires pass { pass.old.limiter ≡ limiter.now.id }
-    ensures pass { pass.new.limiter ≡ limiter.now.id }
-{
-    let descriptors = request.descriptors();
-    let rules = find_rules(pass.version.index(), request.domain(), descriptors);
-    match pin_known(
-        &limiter.cells,
-        &pass.claims,
-        &mut pass.cells,
-        &mut pass.known,
-        &mut pass.key,
-        request,
-        descriptors,
-        rules.as_slice(),
-    ) {
-        Ok(spots) => {
-            give_back(&limiter.cells, &mut pass.cells, spots.as_slice());
-            false
-        }
-        Err(missed) => missed == wanted,
     }
 }
 
@@ -218,56 +184,5 @@ fn check_behind<N: CellNaming, R: Abort + RandomSource + Wait>(
     assert_eq!(rt; limiter.meet(rt, &mut one, &mut other), Ok(()));
     assert_eq!(rt; (one.version(), other.version()), (1, 1));
     assert_eq!(rt; one.moment(), other.moment());
-    Ok(())
-}
-
-#[test]
-fn a_cell_that_is_claimed_anew_is_not_pinned(rt: HostRuntime) -> Result<(), Fail> {
-    let opened = OpenedCells::make(rt.alloc(), 1, 2, Seconds::capped(0))?;
-    check_claimed_anew::<Brand, _>(&rt, rt.alloc(), opened)
-}
-
-// With one cell. The pass keeps its moment while another one claims the cell for a later window.
-fn check_claimed_anew<N: CellNaming, R: Abort + RandomSource + Wait>(
-    rt: &R,
-    alloc: Global,
-    opened: OpenedCells,
-) -> Result<(), Fail>
-    requires name { (table_of opened ≡ N.table) × (setup_of opened ≡ N.setup) }
-    requires passes { N.setup.passes ≡ 2 }
-{
-    let (limiter, mut passes) = open::<N, _>(rt, alloc, opened, 100)?;
-    let mut one = take(&limiter, &mut passes)?;
-    let mut other = take(&limiter, &mut passes)?;
-    let asked = request(alloc, &[("x", "a", None), ("k", "a", None)])?;
-    let later = request(alloc, &[("k", "b", None)])?;
-    let both = request(alloc, &[("k", "a", None), ("k", "b", None)])?;
-    let reclaimed = Missed::Reclaimed { place: 1, claim: 1 };
-    let shown = [(Code::Ok, Count::NoCount), (Code::Ok, Count::Before(0))];
-    assert!(rt; answers(rt, alloc, &limiter, &mut one, &asked, 5, &shown));
-    assert!(rt;
-        answers(
-            rt,
-            alloc,
-            &limiter,
-            &mut other,
-            &later,
-            60,
-            &[(Code::Ok, Count::Before(0))]
-        )
-    );
-    assert_eq!(rt; one.moment().get(), 5);
-    assert!(rt; misses(&limiter, &mut one, &asked, reclaimed));
-    assert!(rt; misses(&limiter, &mut one, &both, Missed::Unknown { place: 1 }));
-    assert!(rt; refuses_open(&limiter, &mut one, &asked, 5, NotOpen::Unknown { place: 1 }));
-    assert!(rt;
-        answers_open(
-            &limiter,
-            &mut other,
-            &later,
-            60,
-            &[(Code::Ok, Count::Before(1))]
-        )
-    );
     Ok(())
 }
