@@ -180,7 +180,6 @@ fn check_behind<N: CellNaming, R: Abort + RandomSource + Wait>(
             &[(Code::Ok, Count::Before(1))]
         )
     );
-    assert!(rt; refuses_open(&limiter, &mut one, &asked, 1, NotOpen::Unknown { place: 0 }));
     assert_eq!(rt; limiter.meet(rt, &mut one, &mut other), Ok(()));
     assert_eq!(rt; (one.version(), other.version()), (1, 1));
     assert_eq!(rt; one.moment(), other.moment());
