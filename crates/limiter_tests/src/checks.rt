@@ -1,56 +1,22 @@
+// Checks of one request after the other.
 ghost use Rattle.std.specs.Prelude.{◌≡◌, ◌≤◌, ◌+◌, All, IfOk, vec_len};
 ghost use Rattle.rate_types.specs.declared.limits.TheConstants.{MOST_CLAIM_NUMBERS};
-ghost use Rattle.descriptor_tree.specs.Trees.{node_view};
-ghost use Rattle.descriptor_tree.specs.Config.{IsWellFormedBranch};
 ghost use Rattle.counter_cells.specs.Opened.{table_of, setup_of};
 
+use crate::configs::config;
 use counter_cells::{CellNaming, OpenedCells};
-use descriptor_tree::{Config, Forest, Node, Policy, Texts, Tree};
 use rate_limiter::{Closed, Limiter, Limits, Pass};
-use rate_types::{Descriptor, Entries, Entry, Request, Seconds, Text, Unit};
+use rate_types::{Descriptor, Entries, Entry, Request, Seconds, Text};
 use rls_core::{CheckFault, Code, Count, Status, Total};
 use std::alloc::Global;
 use std::hash::RandomState;
 use std::marker::Brand;
 use std::process::Abort;
 use std::random::RandomSource;
-use std::sync::{Arc, Wait};
+use std::sync::Wait;
 use std::test::Fail;
 
 mod known_counters;
-
-// The node that limits each value of key `k` to so many hits a minute.
-fn node(alloc: Global, limit: u32) -> Result<Node, Fail>
-    ensures { IfOk result (λ n. IsWellFormedBranch (node_view n)) }
-{
-    Ok(Node {
-        key: Text::new(alloc, "k")?,
-        value: None,
-        policy: Some(Policy::Limited {
-            limit,
-            unit: Unit::Minute,
-        }),
-        name: None,
-        replaces: Texts::new(alloc),
-        shadow: false,
-        below: Forest::of(Vec::new(alloc)),
-    })
-}
-
-// Domain `d` with this node.
-fn config(alloc: Global, limit: u32) -> Result<Arc<Config>, Fail> {
-    let mut nodes = Vec::new(alloc);
-    nodes.push(node(alloc, limit)?)?;
-    let mut trees = Vec::new(alloc);
-    trees.push(Tree {
-        domain: Text::new(alloc, "d")?,
-        forest: Forest::of(nodes),
-    })?;
-    match Config::build(alloc, trees) {
-        Ok(config) => Ok(Arc::new(alloc, config)?),
-        Err(_) => Err(Fail::new("refused")),
-    }
-}
 
 // A descriptor of one entry, with these hits of its own.
 fn descriptor(

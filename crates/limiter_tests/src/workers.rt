@@ -1,14 +1,12 @@
-ghost use Rattle.std.specs.Prelude.{◌≡◌, ◌≤◌, ◌<◌, IfOk, length};
-ghost use Rattle.rate_types.specs.declared.limits.TheConstants.{MOST_LINES};
-ghost use Rattle.descriptor_tree.specs.Trees.{node_view};
-ghost use Rattle.descriptor_tree.specs.Config.{IsWellFormedBranch};
+// Runs of a script.
+ghost use Rattle.std.specs.Prelude.{◌≡◌, ◌≤◌};
 ghost use Rattle.counter_cells.specs.Opened.{table_of, setup_of};
 
+use crate::configs::config;
 use counter_cells::{CellNaming, OpenedCells};
-use descriptor_tree::{Config, Forest, Node, Policy, Texts, Tree};
 use rate_limiter::{Limiter, Limits};
 use rate_types::limits::MOST_CLAIMS;
-use rate_types::{Descriptor, Entries, Entry, Place, Refused, Request, Seconds, Text, Unit};
+use rate_types::{Descriptor, Entries, Entry, Place, Refused, Request, Seconds, Text};
 use reply_text::{Outcome, Record, Records};
 use rls_core::{Count, Status};
 use script_run::Line;
@@ -17,43 +15,10 @@ use std::hash::RandomState;
 use std::marker::Brand;
 use std::process::Abort;
 use std::random::RandomSource;
-use std::sync::{Arc, Wait};
+use std::sync::Wait;
 use std::test::Fail;
 use std::thread::Threads;
 use worker_run::{Gate, Open, run_script};
-
-// The node that limits each value of key `k` to so many hits a minute.
-fn node(alloc: Global, limit: u32) -> Result<Node, Fail>
-    ensures { IfOk result (λ n. IsWellFormedBranch (node_view n)) }
-{
-    Ok(Node {
-        key: Text::new(alloc, "k")?,
-        value: None,
-        policy: Some(Policy::Limited {
-            limit,
-            unit: Unit::Minute,
-        }),
-        name: None,
-        replaces: Texts::new(alloc),
-        shadow: false,
-        below: Forest::of(Vec::new(alloc)),
-    })
-}
-
-// Domain `d` with this node.
-fn config(alloc: Global, limit: u32) -> Result<Arc<Config>, Fail> {
-    let mut nodes = Vec::new(alloc);
-    nodes.push(node(alloc, limit)?)?;
-    let mut trees = Vec::new(alloc);
-    trees.push(Tree {
-        domain: Text::new(alloc, "d")?,
-        forest: Forest::of(nodes),
-    })?;
-    match Config::build(alloc, trees) {
-        Ok(config) => Ok(Arc::new(alloc, config)?),
-        Err(_) => Err(Fail::new("refused")),
-    }
-}
 
 // A check of one hit on k=a.
 fn check(alloc: Global) -> Result<Line, Fail> {

@@ -1,7 +1,8 @@
 ghost use Rattle.std.specs.Prelude.{◌≡◌, ◌≤◌, ◌+◌, All, IfOk, vec_len};
 ghost use Rattle.counter_cells.specs.Opened.{table_of, setup_of};
 
-use super::{answers, are_shown, config, open, request, take};
+use super::{answers, are_shown, open, request, take};
+use crate::configs::config;
 use counter_cells::{CellNaming, OpenedCells};
 use rate_limiter::{Limiter, NotOpen, Pass};
 use rate_types::{Request, Seconds};
