@@ -1,0 +1,9 @@
+pub mod Sums
+pub mod Ledgers
+pub mod Counters
+pub mod Answering
+pub mod Checks
+pub mod Rooms
+pub mod Runs
+pub mod Values
+pub mod Pushed

@@ -1,0 +1,28 @@
+use Rattle.std.proofs.Common.{◌≡◌, ℕ, List, [], ◌∷◌, ◌++◌, Ok, ap, ◌∙◌, codes}
+use Rattle.rate_types.specs.Requests.{request_of}
+use Rattle.rate_types.specs.declared.request.Descriptor.{Descriptor}
+use Rattle.load_gen.specs.Load.{descriptor_for, request_for}
+use Rattle.load_gen.proofs.Values.{one_request}
+use Rattle.load_gen.proofs.lines.request_for.Goals as goal
+
+pub unreachable-requires : goal.unreachable-requires
+unreachable-requires c =
+    let items : c.push_reserved.new.self.items ≡ descriptor_for c.args.value ∷ [] =
+    c.push_reserved.ensures.items ∙ ap (λ (l : List Descriptor). l ++ c.in_ok-descriptor.descriptor ∷ []) c.in_ok-descriptors.ensures.items
+    ∙ ap (λ (d : Descriptor). d ∷ []) c.in_ok-descriptor.ensures in
+    let domain : c.short_text-domain.result ≡ codes "gen" = c.short_text-domain.ensures ∙ c.in_ok-from_str.ensures.ok in
+    let made : c.build.result ≡ Ok (request_for c.args.value) =
+    c.build.ensures ∙ ap (λ (ds : List Descriptor). request_of c.short_text-domain.result ds 1) items
+    ∙ ap (λ (d : List ℕ). request_of d (descriptor_for c.args.value ∷ []) 1) domain ∙ one_request c.args.value in
+    cc
+
+pub returns : goal.returns
+returns c =
+    let items : c.push_reserved.new.self.items ≡ descriptor_for c.args.value ∷ [] =
+    c.push_reserved.ensures.items ∙ ap (λ (l : List Descriptor). l ++ c.in_ok-descriptor.descriptor ∷ []) c.in_ok-descriptors.ensures.items
+    ∙ ap (λ (d : Descriptor). d ∷ []) c.in_ok-descriptor.ensures in
+    let domain : c.short_text-domain.result ≡ codes "gen" = c.short_text-domain.ensures ∙ c.in_ok-from_str.ensures.ok in
+    let made : c.build.result ≡ Ok (request_for c.args.value) =
+    c.build.ensures ∙ ap (λ (ds : List Descriptor). request_of c.short_text-domain.result ds 1) items
+    ∙ ap (λ (d : List ℕ). request_of d (descriptor_for c.args.value ∷ []) 1) domain ∙ one_request c.args.value in
+    cc

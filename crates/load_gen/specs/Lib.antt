@@ -1,0 +1,3 @@
+pub mod Load
+pub mod Sums
+pub mod Summary

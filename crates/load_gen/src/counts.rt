@@ -1,0 +1,95 @@
+// The summary of a run.
+ghost use Rattle.std.specs.Prelude.{◌≡◌, ◌≤◌, length, false, IfOk, string_bytes};
+ghost use Rattle.serde_json.specs.View.{view};
+ghost use Rattle.serde_json.specs.Written.{has_float};
+ghost use Rattle.rate_types.specs.declared.limits.TheConstants.{MOST_LINES};
+ghost use Rattle.load_gen.specs.Summary as spec;
+
+use rate_types::OutOfMemory;
+use reply_text::{Outcome, Record};
+use serde_json::{Value, json};
+use std::alloc::{AllocError, Global};
+
+/// How many checks of a run were answered.
+#[derive(Clone, Copy)]
+pub struct CheckCounts {
+    /// Those whose overall code is OK.
+    pub admitted: u32,
+    /// All of them.
+    pub checks: u32,
+    /// Those whose overall code is OVER_LIMIT.
+    pub denied: u32,
+}
+
+fn is_admitted(outcome: &Outcome) -> bool
+    ensures { result ≡ spec.is_admitted outcome.now }
+{
+    match outcome {
+        Outcome::Checked(answer) => !answer.over(),
+        _ => false,
+    }
+}
+
+fn is_denied(outcome: &Outcome) -> bool
+    ensures { result ≡ spec.is_denied outcome.now }
+{
+    match outcome {
+        Outcome::Checked(answer) => answer.over(),
+        _ => false,
+    }
+}
+
+fn count_checks(records: &[Record]) -> CheckCounts
+    requires { length records.now ≤ MOST_LINES }
+    ensures { result ≡ spec.counted records.now }
+{
+    let mut admitted = 0u32;
+    let mut denied = 0u32;
+    'records: for rec in records {
+        if is_admitted(&rec.outcome) {
+            admitted += 1;
+        }
+        if is_denied(&rec.outcome) {
+            denied += 1;
+        }
+    }
+    CheckCounts {
+        admitted,
+        checks: admitted + denied,
+        denied,
+    }
+}
+
+#[tactic(auto, unfolding(crate::specs::Summary::counts_data))]
+fn counts_value(alloc: Global, counts: CheckCounts) -> Result<Value, AllocError>
+    ensures value { IfOk result (λ v. view v ≡ spec.counts_data counts) }
+    ensures whole { IfOk result (λ v. has_float (view v) ≡ false) }
+{
+    let CheckCounts {
+        admitted,
+        checks,
+        denied,
+    } = counts;
+    json!(in alloc; {"admitted": admitted, "checks": checks, "denied": denied})
+}
+
+// The line of counts, without its line feed.
+fn counts_line(alloc: Global, counts: CheckCounts) -> Result<String, OutOfMemory>
+    ensures { IfOk result (λ t. string_bytes t ≡ spec.counts_line counts) }
+{
+    let value = counts_value(alloc, counts)?;
+    let text = value.to_string(alloc)?;
+    Ok(text)
+}
+
+/// What came of the checks of a run, by its records: how many were answered, how many of them admitted and how many denied. Each lawful
+/// run of a made-up load has the summary of that load.
+pub fn summary(alloc: Global, records: &[Record]) -> Result<String, OutOfMemory>
+    requires { length records.now ≤ MOST_LINES }
+    ensures counted { IfOk result (λ t. string_bytes t ≡ spec.counts_line (spec.counted records.now)) }
+    ensures same { IfOk result (λ t. spec.IsSameForEachRun records.now (string_bytes t)) }
+{
+    let counts = count_checks(records);
+    let text = counts_line(alloc, counts)?;
+    Ok(text)
+}

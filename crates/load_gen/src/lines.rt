@@ -1,0 +1,89 @@
+// The lines of a made-up load.
+ghost use Rattle.std.specs.Prelude.{◌≡◌, ◌≤◌, ◌<◌, ◌∷◌, [], length, map, IfOk};
+ghost use Rattle.rate_types.specs.declared.limits.TheConstants.{MOST_LINES};
+ghost use Rattle.script_run.specs.ScriptLine.{check};
+ghost use Rattle.script_run.specs.Views.{line_view};
+ghost use Rattle.load_gen.specs.declared.constants.TheConstants.{VALUES};
+ghost use Rattle.load_gen.specs.Load as spec;
+
+use crate::config::short_text;
+use crate::constants::{DOMAIN, KEY, STEP, VALUES};
+use rate_types::{Descriptor, Entries, Entry, OutOfMemory, Request, Text};
+use script_run::Line;
+use std::alloc::Global;
+
+// The value of the check of this index, counted from 0.
+#[tactic(auto, using(crate::proofs::Values::value_same))]
+fn value_at(number: u64, index: u32) -> u32
+    ensures value { result ≡ spec.value_at number index }
+    ensures small { result < VALUES }
+{
+    let first = number % u64::from(VALUES);
+    ((first + u64::from(STEP) * u64::from(index)) % u64::from(VALUES)) as u32
+}
+
+// The value's text.
+#[tactic(auto, using(crate::proofs::Values::value_short))]
+fn value_text(alloc: Global, value: u32) -> Result<Text, OutOfMemory>
+    requires { value < VALUES }
+    ensures { IfOk result (λ t. t ≡ spec.value_text value) }
+{
+    let text = format!(in alloc; "v{value}")?;
+    Ok(short_text(text))
+}
+
+// The entry of a value.
+fn entry_for(alloc: Global, value: u32) -> Result<Entry, OutOfMemory>
+    requires { value < VALUES }
+    ensures { IfOk result (λ e. e ≡ spec.entry_for value) }
+{
+    let key = short_text(String::from_str(alloc, KEY)?);
+    let value = value_text(alloc, value)?;
+    Ok(Entry { key, value })
+}
+
+// The descriptor of a value.
+fn descriptor_for(alloc: Global, value: u32) -> Result<Descriptor, OutOfMemory>
+    requires { value < VALUES }
+    ensures { IfOk result (λ d. d ≡ spec.descriptor_for value) }
+{
+    let entry = entry_for(alloc, value)?;
+    let mut entries = Vec::with_capacity(alloc, 1)?;
+    entries.push_reserved(entry);
+    match Entries::build(entries) {
+        Ok(entries) => Ok(Descriptor {
+            entries,
+            own: None,
+            hits: None,
+        }),
+        Err(_) => unreachable!(),
+    }
+}
+
+// The request that asks for a value.
+fn request_for(alloc: Global, value: u32) -> Result<Request, OutOfMemory>
+    requires { value < VALUES }
+    ensures { IfOk result (λ r. r ≡ spec.request_for value) }
+{
+    let domain = short_text(String::from_str(alloc, DOMAIN)?);
+    let descriptor = descriptor_for(alloc, value)?;
+    let mut descriptors = Vec::with_capacity(alloc, 1)?;
+    descriptors.push_reserved(descriptor);
+    match Request::build(domain, descriptors, 1) {
+        Ok(request) => Ok(request),
+        Err(_) => unreachable!(),
+    }
+}
+
+/// The lines of the load of a number: so many checks.
+#[tactic(auto, using(crate::proofs::Pushed::lines_none, crate::proofs::Pushed::lines_more))]
+pub fn load_lines(alloc: Global, number: u64, checks: u32) -> Result<Vec<Line>, OutOfMemory>
+    ensures lines { IfOk result (λ v. map line_view v.items ≡ spec.load_lines number checks) }
+{
+    let mut lines = Vec::with_capacity(alloc, checks as usize)?;
+    for index in 0..checks {
+        let request = request_for(alloc, value_at(number, index))?;
+        lines.push_reserved(Line::Check(request));
+    }
+    Ok(lines)
+}
