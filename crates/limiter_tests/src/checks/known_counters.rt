@@ -64,67 +64,81 @@ fn check_known<N: CellNaming, R: Abort + RandomSource + Wait>(
 {
     let (limiter, mut passes) = open::<N, _>(rt, alloc, opened, 100)?;
     let mut pass = take(&limiter, &mut passes)?;
+    learn_one(rt, alloc, &limiter, &mut pass)?;
+    count_known(rt, alloc, &limiter, &mut pass)?;
+    refuse_unknown(rt, alloc, &limiter, &mut pass)
+}
+
+// Whether a check of one descriptor without lock and memory is answered by this code and count.
+fn answers_one<N: CellNaming>(
+    limiter: &Limiter<N>,
+    pass: &mut Pass<N>,
+    request: &Request,
+    now: u64,
+    code: Code,
+    count: Count,
+) -> bool
+    requires pass { pass.old.limiter ≡ limiter.now.id }
+    ensures pass { pass.new.limiter ≡ limiter.now.id }
+{
+    answers_open(limiter, pass, request, now, &[(code, count)])
+}
+
+// A descriptor without a rule has no counter to know. One with a rule is known once a check has counted it.
+fn learn_one<N: CellNaming, R: Abort + Wait>(
+    rt: &R,
+    alloc: Global,
+    limiter: &Limiter<N>,
+    pass: &mut Pass<N>,
+) -> Result<(), Fail>
+    requires pass { pass.old.limiter ≡ limiter.now.id }
+    ensures pass { pass.new.limiter ≡ limiter.now.id }
+{
     let free = request(alloc, &[("x", "a", None)])?;
     let one = request(alloc, &[("k", "a", None)])?;
-    let both = request(
-        alloc,
-        &[("x", "a", None), ("k", "a", Some(0)), ("k", "b", None)],
-    )?;
     let unknown = NotOpen::Unknown { place: 0 };
-    assert!(rt; answers_open(&limiter, &mut pass, &free, 0, &[(Code::Ok, Count::NoCount)]));
-    assert!(rt; refuses_open(&limiter, &mut pass, &one, 5, unknown));
-    assert!(rt;
-        answers(
-            rt,
-            alloc,
-            &limiter,
-            &mut pass,
-            &one,
-            5,
-            &[(Code::Ok, Count::Before(0))]
-        )
-    );
-    assert!(rt;
-        answers_open(
-            &limiter,
-            &mut pass,
-            &one,
-            6,
-            &[(Code::Ok, Count::Before(1))]
-        )
-    );
-    assert!(rt;
-        answers_open(
-            &limiter,
-            &mut pass,
-            &one,
-            6,
-            &[(Code::OverLimit, Count::Before(2))]
-        )
-    );
-    assert!(rt;
-        answers_open(
-            &limiter,
-            &mut pass,
-            &one,
-            6,
-            &[(Code::OverLimit, Count::Seen(3))]
-        )
-    );
-    assert!(rt;
-        answers(
-            rt,
-            alloc,
-            &limiter,
-            &mut pass,
-            &one,
-            6,
-            &[(Code::OverLimit, Count::Seen(3))]
-        )
-    );
-    assert!(rt; refuses_open(&limiter, &mut pass, &both, 7, NotOpen::Unknown { place: 2 }));
+    let first = [(Code::Ok, Count::Before(0))];
+    assert!(rt; answers_one(limiter, pass, &free, 0, Code::Ok, Count::NoCount));
+    assert!(rt; refuses_open(limiter, pass, &one, 5, unknown));
+    assert!(rt; answers(rt, alloc, limiter, pass, &one, 5, &first));
+    Ok(())
+}
+
+// A known counter is counted as by any check.
+fn count_known<N: CellNaming, R: Abort + Wait>(
+    rt: &R,
+    alloc: Global,
+    limiter: &Limiter<N>,
+    pass: &mut Pass<N>,
+) -> Result<(), Fail>
+    requires pass { pass.old.limiter ≡ limiter.now.id }
+    ensures pass { pass.new.limiter ≡ limiter.now.id }
+{
+    let one = request(alloc, &[("k", "a", None)])?;
+    let over = [(Code::OverLimit, Count::Seen(3))];
+    assert!(rt; answers_one(limiter, pass, &one, 6, Code::Ok, Count::Before(1)));
+    assert!(rt; answers_one(limiter, pass, &one, 6, Code::OverLimit, Count::Before(2)));
+    assert!(rt; answers_one(limiter, pass, &one, 6, Code::OverLimit, Count::Seen(3)));
+    assert!(rt; answers(rt, alloc, limiter, pass, &one, 6, &over));
+    Ok(())
+}
+
+// The first counter that isn't known is told, also where it is one of the next window.
+fn refuse_unknown<N: CellNaming, R: Abort + Wait>(
+    rt: &R,
+    alloc: Global,
+    limiter: &Limiter<N>,
+    pass: &mut Pass<N>,
+) -> Result<(), Fail>
+    requires pass { pass.old.limiter ≡ limiter.now.id }
+    ensures pass { pass.new.limiter ≡ limiter.now.id }
+{
+    let one = request(alloc, &[("k", "a", None)])?;
+    let asked = [("x", "a", None), ("k", "a", Some(0)), ("k", "b", None)];
+    let both = request(alloc, &asked)?;
+    assert!(rt; refuses_open(limiter, pass, &both, 7, NotOpen::Unknown { place: 2 }));
     assert_eq!(rt; pass.moment().get(), 7);
-    assert!(rt; refuses_open(&limiter, &mut pass, &one, 60, unknown));
+    assert!(rt; refuses_open(limiter, pass, &one, 60, NotOpen::Unknown { place: 0 }));
     assert_eq!(rt; (pass.moment().get(), pass.refused()), (60, 0));
     Ok(())
 }
@@ -161,28 +175,26 @@ fn check_behind<N: CellNaming, R: Abort + RandomSource + Wait>(
         )
     );
     assert_eq!(rt; (other.version(), other.moment().get()), (0, 0));
-    assert!(rt;
-        answers(
-            rt,
-            alloc,
-            &limiter,
-            &mut other,
-            &asked,
-            1,
-            &[(Code::Ok, Count::Before(0))]
-        )
-    );
-    assert!(rt;
-        answers_open(
-            &limiter,
-            &mut other,
-            &asked,
-            1,
-            &[(Code::Ok, Count::Before(1))]
-        )
-    );
+    count_twice(rt, alloc, &limiter, &mut other)?;
     assert_eq!(rt; limiter.meet(rt, &mut one, &mut other), Ok(()));
     assert_eq!(rt; (one.version(), other.version()), (1, 1));
     assert_eq!(rt; one.moment(), other.moment());
+    Ok(())
+}
+
+// A check makes a counter known, and the next one counts it without lock and memory.
+fn count_twice<N: CellNaming, R: Abort + Wait>(
+    rt: &R,
+    alloc: Global,
+    limiter: &Limiter<N>,
+    pass: &mut Pass<N>,
+) -> Result<(), Fail>
+    requires pass { pass.old.limiter ≡ limiter.now.id }
+    ensures pass { pass.new.limiter ≡ limiter.now.id }
+{
+    let one = request(alloc, &[("k", "a", None)])?;
+    let first = [(Code::Ok, Count::Before(0))];
+    assert!(rt; answers(rt, alloc, limiter, pass, &one, 1, &first));
+    assert!(rt; answers_one(limiter, pass, &one, 1, Code::Ok, Count::Before(1)));
     Ok(())
 }
