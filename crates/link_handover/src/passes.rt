@@ -25,3 +25,14 @@ pub struct TakePass<N: Drop> {
     pub(crate) pass: QueuePass<N>,
     ghost takes: { ((view pass).puts ≡ false) × ((view pass).parts ≡ 1) },
 }
+
+impl<N: Drop> PutPass<N> {
+    ghost use Rattle.link_handover.specs.Passes.{links_put};
+
+    /// How many links were put.
+    pub fn count(&self) -> u32
+        ensures { result ≡ length (links_put self.now) }
+    {
+        self.next
+    }
+}
