@@ -1,0 +1,11 @@
+pub mod ReadBack
+pub mod Numbers
+pub mod Lists
+pub mod Built
+pub mod Pairs
+pub mod StatusesBack
+pub mod Records
+pub mod Bounds
+pub mod Shapes
+pub mod Reading
+pub mod ReadingTotal

@@ -1,0 +1,9 @@
+pub mod Plain
+pub mod Members
+pub mod Pointers
+pub mod Found
+pub mod FoundTotal
+pub mod Pairs
+pub mod Said
+pub mod Reading
+pub mod Views
