@@ -7,7 +7,8 @@ use Rattle.serde_json.specs.Find.{get, as_u64, as_number}
 use Rattle.rate_types.specs.declared.limits.TheConstants.{MOST_DESCRIPTORS, LATEST_MOMENT}
 use Rattle.rls_core.specs.declared.status.Status.{Status}
 use Rattle.run_text.specs.Members.{below, whole_of, u32_of, moment_of, text_of, one_more, number_before_last, at, items_in}
-use Rattle.run_text.specs.Found.{limit_of, reset_under, count_by, status_in, statuses_in, if_few, answer_in, refused_by, outcome_by, outcome_in, outcome_of, place_in, is_placed, record_in}
+use Rattle.run_text.specs.Found.{limit_of, reset_under, count_by, status_in, statuses_in, if_few, answer_in, refused_by, outcome_by, outcome_in, outcome_of, place_in}
+use Rattle.run_text.specs.Found.{is_placed, record_in}
 use Rattle.run_text.specs.Said.{IsSaidCount, IsSaidLimit, IsSaidStatus, IsSaidOutcome, IsSaid}
 
 below_bound : (bound n : ℕ) → 0 < bound → below bound n < bound

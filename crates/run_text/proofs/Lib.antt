@@ -9,3 +9,5 @@ pub mod Bounds
 pub mod Shapes
 pub mod Reading
 pub mod ReadingTotal
+pub mod RunTexts
+pub mod OneReading

@@ -7,7 +7,8 @@ use Rattle.serde_json.specs.Read.{read}
 use Rattle.reply_text.specs.Shown.{Shown}
 use Rattle.reply_text.specs.declared.record.Outcome.{Outcome}
 use Rattle.reply_text.specs.declared.record.Outcome.TheVariants.{Checked, Ticked, Installed, Bad, Full, Spent, VersionsFull}
-use Rattle.reply_text.specs.Texts.{record_data, record_text_of, outcome_data, checked_line_data, ticked_line_data, installed_line_data, refused_line_data, refused_data, full_data, spent_data, versions_full_data}
+use Rattle.reply_text.specs.Texts.{record_data, record_text_of, outcome_data, checked_line_data, ticked_line_data, installed_line_data, refused_line_data, refused_data}
+use Rattle.reply_text.specs.Texts.{full_data, spent_data, versions_full_data}
 use Rattle.run_text.specs.Found.{place_in, is_placed, record_in}
 use Rattle.run_text.specs.Said.{IsSaid, IsSaidOutcome}
 use Rattle.run_text.specs.Reading.{IsRecordText}

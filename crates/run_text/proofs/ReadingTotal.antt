@@ -1,5 +1,6 @@
 -- A total has one text, and a text one total.
-use Rattle.std.proofs.Common.{◌≡◌, ℕ, ◌^◌, ◌<◌, ◌≤◌, List, [], ◌∷◌, length, map, Bool, true, false, nat_lt, cond, Some, None, refl, sym, ap, ap₂, ◌∙◌, subst, arith, le-ltb, ltb-false}
+use Rattle.std.proofs.Common.{◌≡◌, ℕ, ◌^◌, ◌<◌, ◌≤◌, List, [], ◌∷◌, length, map, Bool, true, false, nat_lt, cond, Some, None, refl, sym, ap, ap₂, ◌∙◌, subst, arith}
+use Rattle.std.proofs.Common.{le-ltb, ltb-false}
 use Rattle.std.proofs.lemmas.Slice.Eq.{bytes_eq-Decides}
 use Rattle.std.specs.Prelude.{codes}
 use Rattle.std.specs.List.{AllByRecursion}
@@ -78,7 +79,7 @@ entries_plain (e ∷ es) = let rest = entries_plain es in ((((tt, (tt, tt)), ref
 w40 : (n : ℕ) → n ≤ LATEST_MOMENT → n < 2 ^ 64
 w40 n h = omega arith
 
-total_plain : (t : Total) → IsSaidTotal t → IsPlain (total_data t) × (depth (total_data t) ≤ 127)
+pub total_plain : (t : Total) → IsSaidTotal t → IsPlain (total_data t) × (depth (total_data t) ≤ 127)
 unfolding total_data counter_data
 total_plain t h =
     let es = entries_plain t.key.name.entries in
@@ -141,6 +142,8 @@ no_total bytes none t is =
     let plain = total_plain t is.said in
     let some = ap read is.text ∙ reads_back (total_data t) plain.0 plain.1 in
     let nothing = none is.utf8 in cc
+
+pub ruleset totals_read = (total_found, total_missing, total_entries)
 
 -- a text is that of one total
 pub only_total : (bytes : List ℕ) (d : Data) (t : Total) → read bytes ≡ Some d → t ≡ total_in d → (u : Total) → IsTotalText bytes u → u ≡ t

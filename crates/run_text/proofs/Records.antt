@@ -7,7 +7,8 @@ use Rattle.reply_text.specs.Answer.{Answer}
 use Rattle.reply_text.specs.Shown.{Shown}
 use Rattle.reply_text.specs.declared.record.Outcome.{Outcome}
 use Rattle.reply_text.specs.declared.record.Outcome.TheVariants.{Checked, Ticked, Installed, Bad, Full, Spent, VersionsFull}
-use Rattle.reply_text.specs.Texts.{code_name, overall_code, status_data, count_data, counts_data, reply_data, refused_data, full_data, spent_data, versions_full_data, checked_line_data, ticked_line_data, installed_line_data, refused_line_data, outcome_data, record_data}
+use Rattle.reply_text.specs.Texts.{code_name, overall_code, status_data, count_data, counts_data, reply_data, refused_data, full_data, spent_data, versions_full_data}
+use Rattle.reply_text.specs.Texts.{checked_line_data, ticked_line_data, installed_line_data, refused_line_data, outcome_data, record_data}
 use Rattle.run_text.specs.Found.{is_over, statuses_in, if_few, answer_in, outcome_in, record_in}
 use Rattle.run_text.specs.Said.{IsSaidStatus, IsSaidOutcome, IsSaid}
 use Rattle.run_text.proofs.Numbers.{whole_back, u32_back, moment_back}

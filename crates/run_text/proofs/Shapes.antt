@@ -16,7 +16,8 @@ use Rattle.reply_text.specs.Answer.{Answer}
 use Rattle.reply_text.specs.Shown.{Shown}
 use Rattle.reply_text.specs.declared.record.Outcome.{Outcome}
 use Rattle.reply_text.specs.declared.record.Outcome.TheVariants.{Checked, Ticked, Installed, Bad, Full, Spent, VersionsFull}
-use Rattle.reply_text.specs.Texts.{whole, member_unless, code_name, limit_members, status_data, count_data, counts_data, reply_data, refused_data, full_data, spent_data, versions_full_data, checked_line_data, ticked_line_data, installed_line_data, refused_line_data, outcome_data, record_data}
+use Rattle.reply_text.specs.Texts.{whole, member_unless, code_name, limit_members, status_data, count_data, counts_data, reply_data, refused_data, full_data}
+use Rattle.reply_text.specs.Texts.{spent_data, versions_full_data, checked_line_data, ticked_line_data, installed_line_data, refused_line_data, outcome_data, record_data}
 use Rattle.run_text.specs.Plain.{IsPlain, ItemsArePlain}
 use Rattle.run_text.specs.Said.{IsSaidCount, IsSaidLimit, IsSaidStatus, IsSaidOutcome, IsSaid}
 

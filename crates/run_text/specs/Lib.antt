@@ -7,3 +7,6 @@ pub mod Pairs
 pub mod Said
 pub mod Reading
 pub mod Views
+pub mod Run
+pub mod ReadTo
+pub mod RunAnswers

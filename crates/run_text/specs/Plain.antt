@@ -1,6 +1,7 @@
 -- Inside: values whose compact text reads back as the value.
 use Rattle.std.specs.Prelude.{◌≡◌, ◌^◌, ◌<◌, ⊤}
-use Rattle.serde_json.specs.Data.{Num, unsigned, negative, float, Data, null, boolean, number, string, array, object, Items, no_items, item, Members, no_members, member, put}
+use Rattle.serde_json.specs.Data.{Num, unsigned, negative, float, Data, null, boolean, number, string, array, object, Items}
+use Rattle.serde_json.specs.Data.{no_items, item, Members, no_members, member, put}
 
 -- these members, and then the others, put in one after the other
 abbrev pub rebuilt : Members → Members → Members

@@ -13,6 +13,7 @@ mod members;
 mod outcomes;
 mod pointer;
 mod record;
+mod run;
 mod said;
 mod statuses;
 #[cfg(test)]
@@ -20,5 +21,6 @@ mod tests;
 mod total;
 
 pub use record::read_record;
+pub use run::{RunText, read_run};
 pub use said::{BadLine, Said};
 pub use total::read_total;

@@ -32,7 +32,8 @@ fn why_value(alloc: Global, at: &str, number: u32) -> Result<Value, AllocError>
 #[tactic(auto, unfolding(reply_text::specs::Texts::refused_line_data))]
 fn line_value(alloc: Global, bad: &BadLine, why: Value) -> Result<Value, AllocError>
     requires { has_float (view why) ≡ false }
-    ensures value { IfOk result (λ v. view v ≡ texts.refused_line_data bad.now.line bad.now.moment bad.now.version bad.now.worker (view why)) }
+    ensures value { IfOk result (λ v. view v
+        ≡ texts.refused_line_data bad.now.line bad.now.moment bad.now.version bad.now.worker (view why)) }
     ensures whole { IfOk result (λ v. has_float (view v) ≡ false) }
 {
     let line = bad.line;

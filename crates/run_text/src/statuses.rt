@@ -128,7 +128,8 @@ pub fn answer_in(
     counts: Option<&Value>,
     reply: Option<&Value>,
 ) -> Result<Statuses, OutOfMemory>
-    ensures { IfOk result (λ s. s ≡ found.answer_in (option_map (λ v. view v.now) counts.entry) (option_map (λ v. view v.now) reply.entry)) }
+    ensures { IfOk result (λ s. s
+        ≡ found.answer_in (option_map (λ v. view v.now) counts.entry) (option_map (λ v. view v.now) reply.entry)) }
 {
     let over = is_over(text_of(at(reply, "overallCode")));
     let statuses = statuses_in(alloc, items_in(counts), items_in(at(reply, "statuses")))?;

@@ -1,4 +1,4 @@
-use crate::{Said, read_record, read_total};
+use crate::{RunText, Said, read_record, read_run, read_total};
 use reply_text::{Outcome, Record, record_text, total_text};
 use rls_core::Count;
 use std::alloc::Global;
@@ -107,6 +107,48 @@ fn totals_are_read(rt: HostRuntime) -> Result<(), Fail> {
     ] {
         let none = read_total(alloc, text.as_bytes())?.is_none();
         assert!(rt; none);
+    }
+    Ok(())
+}
+
+#[test]
+fn runs_are_read(rt: HostRuntime) -> Result<(), Fail> {
+    let alloc = rt.alloc();
+    let tick = "{\"line\":1,\"moment\":5,\"ticked\":5,\"version\":0,\"worker\":0}";
+    let total =
+        "{\"charged\":1,\"counter\":{\"domain\":\"a\",\"entries\":[{\"key\":\"k\",\"value\":\"v\"}],\"start\":60,\"unit\":\"MINUTE\"}}";
+    for (text, records, totals) in [
+        (format!(in alloc; "")?, 0, 0),
+        (format!(in alloc; "{tick}\n")?, 1, 0),
+        (format!(in alloc; "{total}\n")?, 0, 1),
+        (
+            format!(in alloc; "{tick}\n{tick}\n{total}\n{total}\n")?,
+            2,
+            2,
+        ),
+    ] {
+        let RunText::Lines {
+            records: found,
+            totals: sums,
+        } = read_run(alloc, text.as_bytes())?
+        else {
+            return Err("a run".into());
+        };
+        assert_eq!(rt; (found.len(), sums.len()), (records, totals));
+    }
+    for (text, want) in [
+        (format!(in alloc; "\n")?, 1),
+        (format!(in alloc; "{tick}")?, 1),
+        (format!(in alloc; "{tick}\n{total}")?, 2),
+        (format!(in alloc; "{tick}\n\n{total}\n")?, 2),
+        (format!(in alloc; "{tick}\n{total}\n{tick}\n")?, 3),
+        (format!(in alloc; "{tick}\r\n")?, 1),
+        (format!(in alloc; "{tick}\n{total}\nx")?, 3),
+    ] {
+        let RunText::Wrong { line } = read_run(alloc, text.as_bytes())? else {
+            return Err("a line that is neither".into());
+        };
+        assert_eq!(rt; line, want);
     }
     Ok(())
 }

@@ -104,7 +104,7 @@ fn has_text(alloc: Global, total: &Total, bytes: &[u8]) -> Result<bool, OutOfMem
 }
 
 // The total that a value shows, where it has this text.
-#[tactic(auto, using(crate::proofs::ReadingTotal::total_found, crate::proofs::ReadingTotal::total_missing, crate::proofs::ReadingTotal::total_entries))]
+#[tactic(auto, using(crate::proofs::ReadingTotal::totals_read))]
 fn read_value(alloc: Global, value: &Value, bytes: &[u8]) -> Result<Option<Total>, OutOfMemory>
     requires { IsUtf8 bytes.now × (read bytes.now ≡ Some (view value.now)) }
     ensures some { IfOk result (λ o. IfSome o (λ t. IsTotalText bytes.now t)) }
