@@ -13,8 +13,6 @@ mod fact;
 mod kinds;
 mod moments;
 mod offers;
-#[cfg(test)]
-mod tests;
 mod timely;
 mod versions;
 

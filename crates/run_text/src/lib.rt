@@ -16,8 +16,6 @@ mod record;
 mod run;
 mod said;
 mod statuses;
-#[cfg(test)]
-mod tests;
 mod total;
 
 pub use record::read_record;

@@ -1,6 +1,7 @@
-use crate::{RunText, Said, read_record, read_run, read_total};
+// Texts of records, totals and runs.
 use reply_text::{Outcome, Record, record_text, total_text};
 use rls_core::Count;
+use run_text::{RunText, Said, read_record, read_run, read_total};
 use std::alloc::Global;
 use std::test::Fail;
 

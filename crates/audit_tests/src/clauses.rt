@@ -1,6 +1,9 @@
-use crate::{moments_never_fall, one_record_per_line, versions_never_fall, versions_numbered};
+// Clauses of a lawful run, decided.
+ghost use Rattle.std.specs.Prelude.{◌≡◌};
+
 use rate_types::{Place, Refused, Seconds};
 use reply_text::{Outcome, Record};
+use run_audit::{moments_never_fall, one_record_per_line, versions_never_fall, versions_numbered};
 use script_run::Line;
 use std::alloc::Global;
 use std::test::Fail;
