@@ -102,6 +102,11 @@ same "the counter that has the one cell" 200 "$(status -d "$ask" "$url/json")"
 same "the counter that finds none" 503 "$(status -d "${ask/\"a\"/\"b\"}" "$url/json")"
 ended "the server with one cell" 3
 
+start 4 --workers 2
+same "a kept idle connection doesn't hold up others with two workers" '3 1' "$(timeout 60 python3 "$here/http_client.py" idle "$port" 1 3)"
+ended "the server of two workers" 5
+same "the lines stand in the order of accepting" '0 1 2 3' "$(sed -n 's/.*"connection":\([0-9]*\).*/\1/p' "$work/out" | tr '\n' ' ' | sed 's/ $//')"
+
 start 64 --workers 64
 same "64 connections at once" 64 "$(timeout 60 python3 "$here/http_client.py" beside "$port" 64)"
 ended "the server of 64 connections" 65

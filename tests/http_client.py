@@ -2,6 +2,8 @@
 
 raw PORT             sends standard input, ends its side, and prints what comes back
 beside PORT N        N connections that are open at once ask for the health check; prints how many are answered 200
+idle PORT K N        K connections are kept open and ask nothing, while N others, one after the other, ask for the health check, each within
+                     5 seconds; then each of the K asks too. Prints how many of the N and of the K are answered 200
 many PORT N M        N connections ask M times each on one key, in pieces of 100; prints how many answers are 200
 """
 import socket
@@ -38,6 +40,18 @@ def beside(port, count):
     print(sum(read_all(link).startswith(b"HTTP/1.1 200 ") for link in links))
 
 
+def idle(port, kept, count):
+    links = [connected(port) for _ in range(kept)]
+    answered = 0
+    for _ in range(count):
+        with socket.create_connection(("127.0.0.1", port), 5) as link:
+            link.sendall(HEALTH)
+            answered += read_all(link).startswith(b"HTTP/1.1 200 ")
+    for link in links:
+        link.sendall(HEALTH)
+    print(answered, sum(read_all(link).startswith(b"HTTP/1.1 200 ") for link in links))
+
+
 def ask(port, times, found, at):
     with connected(port) as link:
         for _ in range(times // 100):
@@ -70,4 +84,4 @@ def many(port, count, times):
 
 
 if __name__ == "__main__":
-    {"raw": raw, "beside": beside, "many": many}[sys.argv[1]](*map(int, sys.argv[2:]))
+    {"raw": raw, "beside": beside, "idle": idle, "many": many}[sys.argv[1]](*map(int, sys.argv[2:]))

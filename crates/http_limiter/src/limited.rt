@@ -17,6 +17,7 @@ use std::alloc::Global;
 use std::hash::RandomState;
 use std::marker::Brand;
 use std::sync::{Arc, Wait};
+use std::thread::Threads;
 
 /// The most counters that are given cells before the limiter is made anew.
 const SERVED_CLAIMS: u64 = 16_777_216;
@@ -24,7 +25,7 @@ const SERVED_CLAIMS: u64 = 16_777_216;
 /// What a limiter that serves links has.
 #[derive(Clone, Copy, Debug, PartialEq, Eq)]
 pub struct Setup {
-    /// Its passes, each of which serves one link at a time: 1 to 64.
+    /// Its passes, each of which serves one link at a time, in a thread of its own: 1 to 64.
     pub workers: u32,
     /// Its cells: 1 to 1,048,576.
     pub cells: u32,
@@ -41,7 +42,7 @@ fn shared(alloc: Global, config: Config) -> Result<Arc<Config>, OutOfMemory>
 }
 
 // Serves links by a limiter on these cells.
-fn serve_opened<N: CellNaming, R: Wait, L: Listen, C: Clock>(
+fn serve_opened<N: CellNaming + Send + Sync, R: Threads + Wait + Sync, L: Listen, C: Clock>(
     rt: &R,
     alloc: Global,
     seed: RandomState,
@@ -52,6 +53,8 @@ fn serve_opened<N: CellNaming, R: Wait, L: Listen, C: Clock>(
     connections: u32,
     clock: &C,
 ) -> Result<Vec<LinkEnd>, LinksFault>
+where
+    L::Link: Send,
     requires name { (table_of opened ≡ N.table) × (setup_of opened ≡ N.setup) }
     requires cells { N.setup ≡ record { cells = setup.cells; passes = setup.workers; start = 0 } }
     requires range { IsInRange setup connections }
@@ -75,7 +78,7 @@ fn serve_opened<N: CellNaming, R: Wait, L: Listen, C: Clock>(
 /// Serves so many links of a listener, each once, by a limiter of this configuration, which starts at moment 0. Answers how each
 /// link ended. The listener has a port. A check is refused where its counters find no cells, or where 16,777,216 counters had cells
 /// before.
-pub fn serve_limited<R: Wait, L: Listen, C: Clock>(
+pub fn serve_limited<R: Threads + Wait + Sync, L: Listen, C: Clock>(
     rt: &R,
     alloc: Global,
     seed: RandomState,
@@ -85,6 +88,8 @@ pub fn serve_limited<R: Wait, L: Listen, C: Clock>(
     connections: u32,
     clock: &C,
 ) -> Result<Vec<LinkEnd>, LinksFault>
+where
+    L::Link: Send,
     requires range { IsInRange setup connections }
     requires unused { IsUnused (L.history listen.old) }
     ensures { ServesLimited (config_view config) setup (C.bounds clock.now) connections (L.history listen.old) (L.history listen.new)

@@ -1,10 +1,10 @@
 -- The calls of a listener whose links are accepted and given back.
-use Rattle.std.proofs.Common.{◌≡◌, ℕ, zero, suc, ◌+◌, ◌≤◌, ◌<◌, ◌==◌, List, [], ◌∷◌, ◌++◌, length, map, replicate, cond, Bool, true, false, refl, sym, ap, ◌∙◌, subst, arith, append_assoc, length-append}
+use Rattle.std.proofs.Common.{◌≡◌, ℕ, zero, suc, ◌+◌, ◌≤◌, ◌==◌, List, [], ◌∷◌, ◌++◌, length, map, replicate, cond, Bool, true, false, refl, sym, ap, ◌∙◌, subst, arith, length-append}
 use Rattle.std.proofs.lemmas.List.{map-append, append-nil}
 use Rattle.std.proofs.lemmas.List.Elements.{filter_map-append}
 use Rattle.std.proofs.lemmas.List.Sums.{sum_by-append, sum_by-cons}
 use Rattle.std.specs.Prelude.{⊤}
-use Rattle.std.specs.List.{filter_map, count_by, sum_by}
+use Rattle.std.specs.List.{filter_map, count_by}
 use Rattle.rate_types.proofs.Sums.{cond_no}
 use Rattle.rate_io.specs.Events.{Grew}
 use Rattle.rate_io.specs.Listeners.{ListenEvent, accepted, accept_failed, gave_back, is_accepted, accepted_count, number_back, IsOut}

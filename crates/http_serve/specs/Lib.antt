@@ -1,3 +1,5 @@
 pub mod Service
 pub mod Links
 pub mod Accepting
+pub mod Working
+pub mod Merged

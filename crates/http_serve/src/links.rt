@@ -3,12 +3,13 @@ ghost use Rattle.rate_types.specs.declared.limits.TheConstants.{MOST_CONNECTIONS
 ghost use Rattle.http_serve.specs.Links.{IsUnused, ServesLinks, answer_of};
 
 use crate::giving::give_back;
-use crate::here::serve_alone;
+use crate::serving::serve_accepted;
 use http_endpoint::{Checks, LinkEnd};
 use rate_io::{Clock, Listen};
 use rate_types::OutOfMemory;
 use std::alloc::Global;
 use std::sync::Wait;
+use std::thread::Threads;
 use thiserror::Error;
 
 /// Why links weren't served.
@@ -35,7 +36,7 @@ impl From<OutOfMemory> for LinksFault {
 
 /// Accepts so many links and serves each once with one of the checkers, shuts it and gives it back under its number. Answers the checkers in
 /// order, and how each link ended. The listener has a port. After a fault the checkers are given up.
-pub fn serve_links<R: Wait, L: Listen, C: Clock, K: Checks + Drop>(
+pub fn serve_links<R: Threads + Wait + Sync, L: Listen, C: Clock, K: Checks + Send + Drop>(
     rt: &R,
     alloc: Global,
     checks: Vec<K>,
@@ -43,13 +44,15 @@ pub fn serve_links<R: Wait, L: Listen, C: Clock, K: Checks + Drop>(
     connections: u32,
     clock: &C,
 ) -> Result<(Vec<K>, Vec<LinkEnd>), LinksFault>
+where
+    L::Link: Send,
     requires checkers { (1 ≤ vec_len checks) × (vec_len checks ≤ MOST_WORKERS) }
     requires few { connections ≤ MOST_CONNECTIONS }
     requires unused { IsUnused (L.history listen.old) }
     ensures { ServesLinks K.answers (C.bounds clock.now) connections checks.items (L.history listen.old) (L.history listen.new)
         (L.faults listen.old, L.faults listen.new) (answer_of result) }
 {
-    let accepted = serve_alone(rt, alloc, checks, listen, connections, clock)?;
+    let accepted = serve_accepted(rt, alloc, checks, listen, connections, clock)?;
     let ends = give_back(alloc, listen, accepted.served)?;
     if accepted.is_all {
         Ok((accepted.checks, ends))

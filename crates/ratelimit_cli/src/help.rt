@@ -28,7 +28,7 @@ ratelimit: a rate limiter after Envoy's rate limit service, over recorded traffi
       /healthcheck. Prints its port, and after N connections how each of them ended.
         --port P           the port, 0 for a free one
         --connections N    how many connections are served: 0 to 1048576
-        --workers N        passes of the limiter: 1 to 64 (default 4)
+        --workers N        connections served side by side: 1 to 64 (default 4)
         --cells N          cells for counters: 1 to 1048576 (default 262144)
         --global-shadow    no reply has the overall code OVER_LIMIT
   --help

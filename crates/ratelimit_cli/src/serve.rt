@@ -29,6 +29,7 @@ use rate_types::OutOfMemory;
 use std::alloc::Global;
 use std::hash::RandomState;
 use std::sync::Wait;
+use std::thread::Threads;
 
 // The line of the port.
 fn port_text(alloc: Global, port: u16) -> Result<String, OutOfMemory>
@@ -111,7 +112,7 @@ fn write_ends<K: Sink>(alloc: Global, ends: &[LinkEnd], sink: &mut K) -> Result<
 }
 
 // Serves the connections at the port that was had, and writes how each ended.
-fn serve_and_end<R: Wait, K: Sink, L: Listen, C: Clock>(
+fn serve_and_end<R: Threads + Wait + Sync, K: Sink, L: Listen, C: Clock>(
     rt: &R,
     alloc: Global,
     seed: RandomState,
@@ -121,6 +122,8 @@ fn serve_and_end<R: Wait, K: Sink, L: Listen, C: Clock>(
     listen: &mut L,
     clock: &C,
 ) -> Result<(), Exit>
+where
+    L::Link: Send,
     requires range { IsInRange job.now.setup job.now.connections }
     requires unused { IsUnused (L.history listen.old) }
     ensures { HasServing (config_view config) job.now (C.bounds clock.now) (L.faults listen.old, L.faults listen.new) (record {
@@ -146,7 +149,7 @@ fn serve_and_end<R: Wait, K: Sink, L: Listen, C: Clock>(
 }
 
 // Has the port, writes it, and serves the connections.
-fn listen_and_serve<R: Wait, K: Sink, L: Listen, C: Clock>(
+fn listen_and_serve<R: Threads + Wait + Sync, K: Sink, L: Listen, C: Clock>(
     rt: &R,
     alloc: Global,
     seed: RandomState,
@@ -156,6 +159,8 @@ fn listen_and_serve<R: Wait, K: Sink, L: Listen, C: Clock>(
     listen: &mut L,
     clock: &C,
 ) -> Result<(), Exit>
+where
+    L::Link: Send,
     requires range { IsInRange job.now.setup job.now.connections }
     requires unused { IsUnused (L.history listen.old) }
     ensures exit { (f : Found) →
@@ -188,7 +193,7 @@ fn listen_and_serve<R: Wait, K: Sink, L: Listen, C: Clock>(
 
 /// Serves the connections of a job by the configuration of its files, all of which are read first: has the port, writes it, accepts the connections and serves
 /// each once, and writes how each ended, line by line, each line by one call.
-pub fn run_serve<R: Wait, F: Files, K: Sink, L: Listen, C: Clock>(
+pub fn run_serve<R: Threads + Wait + Sync, F: Files, K: Sink, L: Listen, C: Clock>(
     rt: &R,
     alloc: Global,
     seed: RandomState,
@@ -198,6 +203,8 @@ pub fn run_serve<R: Wait, F: Files, K: Sink, L: Listen, C: Clock>(
     listen: &mut L,
     clock: &C,
 ) -> Result<(), Exit>
+where
+    L::Link: Send,
     requires range { IsInRange job.setup job.connections }
     requires unused { IsUnused (L.history listen.old) }
     ensures exit { (words : List (List ℕ)) (faults : ℕ × ℕ) (left : Option (List ℕ)) → command_of words ≡ Some (Threads (Serve job))

@@ -172,6 +172,8 @@ fn run_command<
     clock: &C,
     gate: &G,
 ) -> Result<(), Exit>
+where
+    L::Link: Send,
     requires unused { IsUnused (L.history listen.old) }
     ensures exit { ExplainsCall (exit_of result) (record {
       words = words.now;
@@ -242,7 +244,7 @@ fn run_command<
 /// a quota server; `serve` reads configuration files, accepts connections and
 /// answers their requests, and writes its port and how each connection ended; `--help` and `--version` write their text.
 ///
-/// The workers of `drive` and `quota` are threads. Those of `drive` tell `gate` of each line. The hashes of names go by `seed`.
+/// The workers of `drive`, `quota` and `serve` are threads. Those of `drive` tell `gate` of each line. The hashes of names go by `seed`.
 ///
 /// The order of work is: the words, the files in order, the first refusal of a file, the input, the numbers of lines, the
 /// run or the look-ups, the output. Each exit comes where its cause is the first.
@@ -266,6 +268,8 @@ pub fn ratelimit<
     clock: &C,
     gate: &G,
 ) -> Exit
+where
+    L::Link: Send,
     requires unused { IsUnused (L.history listen.old) }
     ensures exit { IsExitOf result (record {
       words = words.now;

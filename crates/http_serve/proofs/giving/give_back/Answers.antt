@@ -1,4 +1,4 @@
-use Rattle.std.proofs.Common.{◌≡◌, ◌++◌, ◌∷◌, [], List, length, map, true, sym, ap, ◌∙◌, subst, arith, rules, append_assoc}
+use Rattle.std.proofs.Common.{◌≡◌, ◌++◌, ◌∷◌, [], length, true, sym, ap, ◌∙◌, subst, arith, rules, append_assoc}
 use Rattle.std.proofs.lemmas.List.{append-nil, nil_from_length, map-append}
 use Rattle.rate_io.specs.Listeners.{ListenEvent, gave_back, IsOut}
 use Rattle.http_serve.specs.Service.{Service}

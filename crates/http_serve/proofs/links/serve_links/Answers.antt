@@ -1,4 +1,4 @@
-use Rattle.std.proofs.Common.{◌≡◌, sym, ap, subst, ◌∙◌, length}
+use Rattle.std.proofs.Common.{ap, ◌∙◌, length}
 use Rattle.std.specs.List.{filter_map}
 use Rattle.rate_io.specs.Listeners.{number_back}
 use Rattle.http_serve.proofs.Events.{accepts_back}

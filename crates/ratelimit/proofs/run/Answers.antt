@@ -1,0 +1,6 @@
+use denote.Param.Send.{sendable}
+use Rattle.ratelimit.proofs.Sent.{connection_send}
+use Rattle.ratelimit.proofs.run.Goals as goal
+
+pub ratelimit-requires-send-L-Link : goal.ratelimit-requires-send-L-Link
+ratelimit-requires-send-L-Link g c κs within = search (sendable, connection_send)
