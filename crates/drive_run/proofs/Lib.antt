@@ -1,3 +1,4 @@
 pub mod Plain
 pub mod Reloads
 pub mod Firsts
+mod UsualLine

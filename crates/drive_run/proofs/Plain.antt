@@ -1,5 +1,6 @@
 -- Places of nodes are of plain characters, so that their steps can be put behind another place.
-use Rattle.std.proofs.Common.{take, ◌≡◌, ◌≢◌, ℕ, zero, suc, ◌+◌, ◌<◌, ◌==◌, ◌/◌, ◌%◌, List, [], ◌∷◌, ◌++◌, map, length, Bool, true, false, Err, refl, sym, ap, subst, ◌∙◌, codes, decimal, arith, append_assoc, slice_index}
+use Rattle.std.proofs.Common.{take, ◌≡◌, ◌≢◌, ℕ, zero, suc, ◌+◌, ◌<◌, ◌==◌, ◌/◌, ◌%◌, List, [], ◌∷◌, ◌++◌, map, length, Bool, true, false, Err, refl, sym, ap, subst}
+use Rattle.std.proofs.Common.{◌∙◌, codes, decimal, arith, append_assoc, slice_index}
 use Rattle.std.proofs.lemmas.Bool.Decides.{nat_tests}
 use Rattle.std.proofs.lemmas.Grind.{common_steps}
 use Rattle.std.proofs.lemmas.Str.{chars-IsAscii, encode_ascii}

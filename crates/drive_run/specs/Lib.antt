@@ -3,3 +3,4 @@ pub mod Script
 pub mod Views
 pub mod LineAnswers
 pub mod Pointers
+pub mod Usual

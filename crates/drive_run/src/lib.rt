@@ -11,6 +11,7 @@ mod reading;
 mod reload;
 mod run;
 mod script;
+mod usual;
 mod within;
 
 pub use run::{Driven, Setup, drive_script};

@@ -10,6 +10,8 @@ ghost use Rattle.drive_run.specs.Script as scripts;
 
 use crate::field_names::{CHECK, RELOAD, TICK};
 use crate::reload::read_reload;
+use crate::usual::usual_line;
+use json::Scratch;
 use proto_json::{Fields, FormFault, Placed, parse, read_whole};
 use rate_types::limits::LATEST_MOMENT;
 use rate_types::refusals::{NO_EVENT, TWO_EVENTS};
@@ -106,13 +108,23 @@ fn event_of(alloc: Global, bytes: &[u8]) -> Result<Line, FormFault>
     Ok(line)
 }
 
-/// Reads a line of a script.
-pub fn read_line(alloc: Global, bytes: &[u8]) -> Result<Line, OutOfMemory>
+// The line of any bytes, by their value.
+fn any_line(alloc: Global, bytes: &[u8]) -> Result<Line, OutOfMemory>
     ensures { IfOk result (λ l. line_view l ≡ scripts.line_of bytes.now) }
 {
     match event_of(alloc, bytes) {
         Ok(line) => Ok(line),
         Err(FormFault::Refused(refused)) => Ok(Line::Bad(refused)),
         Err(FormFault::OutOfMemory) => Err(OutOfMemory),
+    }
+}
+
+/// Reads a line of a script. The scratch is kept from line to line.
+pub fn read_line(alloc: Global, scratch: &mut Scratch, bytes: &[u8]) -> Result<Line, OutOfMemory>
+    ensures { IfOk result (λ l. line_view l ≡ scripts.line_of bytes.now) }
+{
+    match usual_line(alloc, scratch, bytes)? {
+        Some(line) => Ok(line),
+        None => any_line(alloc, bytes),
     }
 }

@@ -4,6 +4,7 @@ ghost use Rattle.text_lines.specs.Lines.{cut};
 ghost use Rattle.drive_run.specs.declared.script.ScriptFault.TheVariants.{TooManyLines};
 
 use crate::reading::read_line;
+use json::Scratch;
 use rate_types::limits::MOST_LINES;
 use script_run::Line;
 use std::alloc::Global;
@@ -42,6 +43,7 @@ impl Script {
         ensures more { (lines : ℕ) → result ≡ Err (TooManyLines lines) → lines ≤ length (cut bytes.now) }
     {
         let mut lines = Vec::new(alloc);
+        let mut scratch = Scratch::new(alloc);
         let mut rest = bytes;
         'lines: while rest.len() > 0 {
             if lines.len() >= MOST_LINES as usize {
@@ -50,7 +52,7 @@ impl Script {
                 });
             }
             let (first, after) = cut_line(rest);
-            let Ok(line) = read_line(alloc, first) else {
+            let Ok(line) = read_line(alloc, &mut scratch, first) else {
                 return Err(ScriptFault::OutOfMemory);
             };
             if lines.push(line).is_err() {
@@ -59,6 +61,15 @@ impl Script {
             rest = after;
         }
         Ok(Script { lines })
+    }
+
+    /// The script of these lines, which are not too many.
+    #[tactic(auto, unfolding(crate::specs::Views::script_view))]
+    pub fn of(lines: Vec<Line>) -> Script
+        requires { length lines.items ≤ MOST_LINES }
+        ensures { script_view result ≡ map line_view lines.items }
+    {
+        Script { lines }
     }
 
     /// The lines in order, which are moved.

@@ -1,25 +1,58 @@
 // The request that a body is, and the text of its refusal.
-ghost use Rattle.std.specs.Prelude.{◌≡◌, false, IfOk, Some};
+ghost use Rattle.std.specs.Prelude.{◌≡◌, false, IfOk, IfSome, Some, Ok};
 ghost use Rattle.serde_json.specs.View.{view};
 ghost use Rattle.serde_json.specs.Written.{has_float};
 ghost use Rattle.rate_types.specs.Reading.{AnswersReading};
 ghost use Rattle.reply_text.specs.Texts.{refused_data};
 ghost use Rattle.http_front.specs.Requests.{body_reading, refusal_data, refusal_text};
 
+use json::{Reader, Scratch};
 use proto_json::{FormFault, parse};
 use rate_types::{OutOfMemory, Place, Refused, Request, Word};
 use reply_text::{read_request, refused_value};
+use request_tokens::{is_at_end, read_usual};
 use serde_json::{Value, json};
+use simdutf8::compat::from_utf8;
 use std::alloc::{AllocError, Global};
 
-/// The request that a body is.
+// The request that a body is, where it has the form that proxies send: no value is made of it.
+#[tactic(auto, using(request_tokens::proofs::Laws::usual_reads), unfolding(crate::specs::Requests::body_reading))]
+fn usual_body(alloc: Global, body: &[u8]) -> Result<Option<Request>, OutOfMemory>
+    ensures { IfOk result (λ o. IfSome o (λ r. body_reading body.now ≡ Ok (Some r))) }
+{
+    let Ok(text) = from_utf8(body) else {
+        return Ok(None);
+    };
+    let mut scratch = Scratch::new(alloc);
+    let mut reader = Reader::new(text, &mut scratch)?;
+    let Some(request) = read_usual(alloc, &mut reader)? else {
+        return Ok(None);
+    };
+    if is_at_end(&mut reader) {
+        Ok(Some(request))
+    } else {
+        Ok(None)
+    }
+}
+
+// The request that a body is, by its value.
 #[tactic(auto, using(proto_json::specs::Laws::reading_then), unfolding(crate::specs::Requests::body_reading))]
-pub fn read_body(alloc: Global, body: &[u8]) -> Result<Request, FormFault>
+fn any_body(alloc: Global, body: &[u8]) -> Result<Request, FormFault>
     ensures { AnswersReading (λ r. Some r) result (body_reading body.now) }
 {
     let value = parse(alloc, body)?;
     let request = read_request(alloc, value, Place::empty(alloc))?;
     Ok(request)
+}
+
+/// The request that a body is.
+pub fn read_body(alloc: Global, body: &[u8]) -> Result<Request, FormFault>
+    ensures { AnswersReading (λ r. Some r) result (body_reading body.now) }
+{
+    match usual_body(alloc, body)? {
+        Some(request) => Ok(request),
+        None => any_body(alloc, body),
+    }
 }
 
 #[tactic(auto, unfolding(crate::specs::Requests::refusal_data))]

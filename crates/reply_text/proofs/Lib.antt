@@ -1,4 +1,5 @@
-pub mod Wholes
+pub mod Durations
 pub mod Sizes
 pub mod Lawful
 pub mod Keyed
+mod Growing

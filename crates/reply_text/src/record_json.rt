@@ -1,13 +1,15 @@
-ghost use Rattle.std.specs.Prelude.{◌≡◌, false, IfOk, string_bytes};
-ghost use Rattle.serde_json.specs.View.{view};
-ghost use Rattle.serde_json.specs.Written.{has_float};
+// The texts of records.
+ghost use Rattle.std.specs.Prelude.{◌≡◌, ◌++◌, IfOk, OnOk, string_bytes};
+ghost use Rattle.serde_json.specs.Data.{Data};
+ghost use Rattle.serde_json.specs.Written.{compact_text};
 ghost use Rattle.reply_text.specs.Texts as texts;
 
-use crate::reply::{counts_value, reply_value};
+use crate::put::{put_number, put_worker};
+use crate::refused::{full_text, refused_text, spent_text, versions_full_text};
+use crate::reply::{put_counts, put_reply};
 use crate::{Outcome, Record, Statuses};
-use rate_types::{OutOfMemory, Refused};
-use serde_json::{Value, json};
-use std::alloc::{AllocError, Global};
+use rate_types::OutOfMemory;
+use std::alloc::Global;
 
 // What each record has besides its outcome.
 #[derive(Clone, Copy)]
@@ -18,123 +20,62 @@ struct Head {
     worker: u32,
 }
 
-/// A refusal as a JSON value.
-#[tactic(auto, unfolding(crate::specs::Texts::refused_data))]
-pub fn refused_value(alloc: Global, refused: &Refused) -> Result<Value, AllocError>
-    ensures value { IfOk result (λ v. view v ≡ texts.refused_data refused.now) }
-    ensures whole { IfOk result (λ v. has_float (view v) ≡ false) }
+#[tactic(auto, unfolding(serde_json::proofs::OnLiterals::serde_json_on_literals, crate::specs::Texts::checked_line_data))]
+fn put_checked(out: &mut String, head: Head, answer: &Statuses) -> Result<(), OutOfMemory>
+    ensures { OnOk result (string_bytes out.new ≡ string_bytes out.old
+        ++ compact_text (texts.checked_line_data head.line head.moment head.version head.worker (texts.counts_data answer.now.statuses)
+        (texts.reply_data answer.now))) }
 {
-    let at = refused.at.as_str();
-    let number = refused.number;
-    json!(in alloc; {"at": at, "number": number})
+    out.push_str("{\"counts\":")?;
+    put_counts(out, answer.items())?;
+    put_number(out, ",\"line\":", u64::from(head.line))?;
+    put_number(out, ",\"moment\":", head.moment)?;
+    out.push_str(",\"reply\":")?;
+    put_reply(out, answer)?;
+    put_worker(out, head.version, head.worker)
 }
 
-#[tactic(auto, unfolding(crate::specs::Texts::full_data))]
-fn full_value(alloc: Global, live: u32, held: u32, wanted: u32) -> Result<Value, AllocError>
-    ensures value { IfOk result (λ v. view v ≡ texts.full_data live held wanted) }
-    ensures whole { IfOk result (λ v. has_float (view v) ≡ false) }
+#[tactic(auto, unfolding(serde_json::proofs::OnLiterals::serde_json_on_literals, crate::specs::Texts::ticked_line_data))]
+fn put_ticked(out: &mut String, head: Head, ticked: u64) -> Result<(), OutOfMemory>
+    ensures { OnOk result (string_bytes out.new ≡ string_bytes out.old
+        ++ compact_text (texts.ticked_line_data head.line head.moment head.version head.worker ticked)) }
 {
-    json!(in alloc; {"held": held, "live": live, "name": "CountersFull", "wanted": wanted})
+    put_number(out, "{\"line\":", u64::from(head.line))?;
+    put_number(out, ",\"moment\":", head.moment)?;
+    put_number(out, ",\"ticked\":", ticked)?;
+    put_worker(out, head.version, head.worker)
 }
 
-#[tactic(auto, unfolding(crate::specs::Texts::spent_data))]
-fn spent_value(alloc: Global, claims: u64, wanted: u32) -> Result<Value, AllocError>
-    ensures value { IfOk result (λ v. view v ≡ texts.spent_data claims wanted) }
-    ensures whole { IfOk result (λ v. has_float (view v) ≡ false) }
+#[tactic(auto, unfolding(serde_json::proofs::OnLiterals::serde_json_on_literals, crate::specs::Texts::installed_line_data))]
+fn put_installed(out: &mut String, head: Head) -> Result<(), OutOfMemory>
+    ensures { OnOk result (string_bytes out.new ≡ string_bytes out.old
+        ++ compact_text (texts.installed_line_data head.line head.moment head.version head.worker)) }
 {
-    json!(in alloc; {"claims": claims, "name": "ClaimsSpent", "wanted": wanted})
+    put_number(out, "{\"installed\":", u64::from(head.version))?;
+    put_number(out, ",\"line\":", u64::from(head.line))?;
+    put_number(out, ",\"moment\":", head.moment)?;
+    put_worker(out, head.version, head.worker)?;
+    Ok(())
 }
 
-#[tactic(auto, unfolding(crate::specs::Texts::versions_full_data))]
-fn versions_full_value(alloc: Global, versions: u32) -> Result<Value, AllocError>
-    ensures value { IfOk result (λ v. view v ≡ texts.versions_full_data versions) }
-    ensures whole { IfOk result (λ v. has_float (view v) ≡ false) }
+// The record of a refused line, from the text of its reason.
+#[tactic(auto, unfolding(serde_json::proofs::OnLiterals::serde_json_on_literals, crate::specs::Texts::refused_line_data))]
+fn put_refused(out: &mut String, head: Head, why: &str) -> Result<(), OutOfMemory>
+    ensures { OnOk result ((d : Data) → why.now ≡ compact_text d → string_bytes out.new ≡ string_bytes out.old
+        ++ compact_text (texts.refused_line_data head.line head.moment head.version head.worker d)) }
 {
-    json!(in alloc; {"name": "VersionsFull", "versions": versions})
+    put_number(out, "{\"line\":", u64::from(head.line))?;
+    put_number(out, ",\"moment\":", head.moment)?;
+    out.push_str(",\"refused\":")?;
+    out.push_str(why)?;
+    put_worker(out, head.version, head.worker)?;
+    Ok(())
 }
 
-#[tactic(auto, unfolding(crate::specs::Texts::checked_line_data))]
-fn checked_line_value(
-    alloc: Global,
-    head: Head,
-    counts: Value,
-    reply: Value,
-) -> Result<Value, AllocError>
-    requires counts { has_float (view counts) ≡ false }
-    requires reply { has_float (view reply) ≡ false }
-    ensures value { IfOk result (λ v. view v
-        ≡ texts.checked_line_data head.line head.moment head.version head.worker (view counts) (view reply)) }
-    ensures whole { IfOk result (λ v. has_float (view v) ≡ false) }
-{
-    let Head {
-        line,
-        moment,
-        version,
-        worker,
-    } = head;
-    json!(in alloc; {"counts": counts, "line": line, "moment": moment, "reply": reply, "version": version, "worker": worker})
-}
-
-fn checked_value(alloc: Global, head: Head, answer: &Statuses) -> Result<Value, OutOfMemory>
-    ensures value { IfOk result (λ v. view v
-        ≡ texts.checked_line_data head.line head.moment head.version head.worker (texts.counts_data answer.now.statuses)
-        (texts.reply_data answer.now)) }
-    ensures whole { IfOk result (λ v. has_float (view v) ≡ false) }
-{
-    let counts = counts_value(alloc, answer.items())?;
-    let reply = reply_value(alloc, answer)?;
-    let value = checked_line_value(alloc, head, counts, reply)?;
-    Ok(value)
-}
-
-#[tactic(auto, unfolding(crate::specs::Texts::ticked_line_data))]
-fn ticked_line_value(alloc: Global, head: Head, ticked: u64) -> Result<Value, AllocError>
-    ensures value { IfOk result (λ v. view v ≡ texts.ticked_line_data head.line head.moment head.version head.worker ticked) }
-    ensures whole { IfOk result (λ v. has_float (view v) ≡ false) }
-{
-    let Head {
-        line,
-        moment,
-        version,
-        worker,
-    } = head;
-    json!(in alloc; {"line": line, "moment": moment, "ticked": ticked, "version": version, "worker": worker})
-}
-
-#[tactic(auto, unfolding(crate::specs::Texts::installed_line_data))]
-fn installed_line_value(alloc: Global, head: Head) -> Result<Value, AllocError>
-    ensures value { IfOk result (λ v. view v ≡ texts.installed_line_data head.line head.moment head.version head.worker) }
-    ensures whole { IfOk result (λ v. has_float (view v) ≡ false) }
-{
-    let Head {
-        line,
-        moment,
-        version,
-        worker,
-    } = head;
-    json!(in alloc; {"installed": version, "line": line, "moment": moment, "version": version, "worker": worker})
-}
-
-#[tactic(auto, unfolding(crate::specs::Texts::refused_line_data))]
-fn refused_line_value(alloc: Global, head: Head, why: Value) -> Result<Value, AllocError>
-    requires { has_float (view why) ≡ false }
-    ensures value { IfOk result (λ v. view v ≡ texts.refused_line_data head.line head.moment head.version head.worker (view why)) }
-    ensures whole { IfOk result (λ v. has_float (view v) ≡ false) }
-{
-    let Head {
-        line,
-        moment,
-        version,
-        worker,
-    } = head;
-    json!(in alloc; {"line": line, "moment": moment, "refused": why, "version": version, "worker": worker})
-}
-
-/// A record as a JSON value.
+/// Writes the text of a record behind what a text holds, without a line feed. After want of memory a first part of it may stand there.
 #[tactic(auto, unfolding(crate::specs::Texts::record_data))]
-pub fn record_value(alloc: Global, rec: &Record) -> Result<Value, OutOfMemory>
-    ensures value { IfOk result (λ v. view v ≡ texts.record_data rec.now) }
-    ensures whole { IfOk result (λ v. has_float (view v) ≡ false) }
+pub fn put_record(alloc: Global, out: &mut String, rec: &Record) -> Result<(), OutOfMemory>
+    ensures { OnOk result (string_bytes out.new ≡ string_bytes out.old ++ texts.record_text_of rec.now) }
 {
     let head = Head {
         line: rec.line,
@@ -143,33 +84,33 @@ pub fn record_value(alloc: Global, rec: &Record) -> Result<Value, OutOfMemory>
         worker: rec.worker,
     };
     match &rec.outcome {
-        Outcome::Checked(answer) => Ok(checked_value(alloc, head, answer)?),
-        Outcome::Ticked(ticked) => Ok(ticked_line_value(alloc, head, ticked.get())?),
-        Outcome::Installed => Ok(installed_line_value(alloc, head)?),
+        Outcome::Checked(answer) => put_checked(out, head, answer),
+        Outcome::Ticked(ticked) => put_ticked(out, head, ticked.get()),
+        Outcome::Installed => put_installed(out, head),
         Outcome::Bad(refused) => {
-            let why = refused_value(alloc, refused)?;
-            Ok(refused_line_value(alloc, head, why)?)
+            let why = refused_text(alloc, refused)?;
+            put_refused(out, head, &why)
         }
         Outcome::Full { live, held, wanted } => {
-            let why = full_value(alloc, *live, *held, *wanted)?;
-            Ok(refused_line_value(alloc, head, why)?)
+            let why = full_text(alloc, *live, *held, *wanted)?;
+            put_refused(out, head, &why)
         }
         Outcome::Spent { claims, wanted } => {
-            let why = spent_value(alloc, *claims, *wanted)?;
-            Ok(refused_line_value(alloc, head, why)?)
+            let why = spent_text(alloc, *claims, *wanted)?;
+            put_refused(out, head, &why)
         }
         Outcome::VersionsFull { versions } => {
-            let why = versions_full_value(alloc, *versions)?;
-            Ok(refused_line_value(alloc, head, why)?)
+            let why = versions_full_text(alloc, *versions)?;
+            put_refused(out, head, &why)
         }
     }
 }
 
-/// A record as a text, without a line feed.
+/// The text of a record, without a line feed.
 pub fn record_text(alloc: Global, rec: &Record) -> Result<String, OutOfMemory>
     ensures { IfOk result (λ t. string_bytes t ≡ texts.record_text_of rec.now) }
 {
-    let value = record_value(alloc, rec)?;
-    let text = value.to_string(alloc)?;
+    let mut text = String::new(alloc);
+    put_record(alloc, &mut text, rec)?;
     Ok(text)
 }

@@ -1,112 +1,87 @@
-ghost use Rattle.std.specs.Prelude.{◌≡◌, ◌++◌, false, IfOk, string_bytes, decimal, codes, map};
-ghost use Rattle.serde_json.specs.Data.{array};
-ghost use Rattle.serde_json.specs.View.{view, items_of};
-ghost use Rattle.serde_json.specs.Written.{has_float};
+// The texts of replies (Envoy's `RateLimitResponse` in the proto3 JSON mapping), and of their counts.
+ghost use Rattle.std.specs.Prelude.{◌≡◌, ◌++◌, true, map, IfOk, OnOk, string_bytes};
+ghost use Rattle.serde_json.specs.Data.{Items, item, array};
+ghost use Rattle.serde_json.specs.View.{items_of};
+ghost use Rattle.serde_json.specs.Written.{compact_text, items_text};
 ghost use Rattle.reply_text.specs.Texts as texts;
 
 use crate::Statuses;
-use crate::array::array_value;
-use crate::names::{code_name, overall_code};
-use rate_types::{OutOfMemory, OwnLimit};
-use rls_core::{Count, Status};
-use serde_json::{Value, json};
-use std::alloc::{AllocError, Global};
+use crate::put::put_comma;
+use crate::put_status::{put_code, put_count, put_status};
+use rate_types::OutOfMemory;
+use rls_core::{Code, Count, Status};
+use std::alloc::Global;
 
-fn limit_value(alloc: Global, own: OwnLimit) -> Result<Value, AllocError>
-    ensures value { IfOk result (λ v. view v ≡ texts.limit_data own) }
-    ensures whole { IfOk result (λ v. has_float (view v) ≡ false) }
+// One more count of a list, of which more may come.
+fn put_next_count(out: &mut String, later: bool, count: Count) -> Result<(), OutOfMemory>
+    ensures { OnOk result ((ds : Items) → string_bytes out.new ++ items_text true ds
+        ≡ string_bytes out.old ++ items_text later (item (texts.count_data count) ds)) }
 {
-    let unit = own.unit.name();
-    if own.limit == 0 {
-        json!(in alloc; {"unit": unit})
-    } else {
-        json!(in alloc; {"requestsPerUnit": (own.limit), "unit": unit})
+    put_comma(out, later)?;
+    put_count(out, count)?;
+    Ok(())
+}
+
+/// The text of what each status found, in order.
+#[tactic(auto, unfolding(crate::specs::Texts::counts_data))]
+pub fn put_counts(out: &mut String, statuses: &[Status]) -> Result<(), OutOfMemory>
+    ensures { OnOk result (string_bytes out.new ≡ string_bytes out.old ++ compact_text (texts.counts_data statuses.now)) }
+{
+    out.push_str("[")?;
+    'statuses: for index in 0..statuses.len() {
+        put_next_count(out, index > 0, statuses[index].count)?;
     }
+    out.push_str("]")?;
+    Ok(())
 }
 
-fn duration(alloc: Global, seconds: u64) -> Result<String, AllocError>
-    ensures { IfOk result (λ s. string_bytes s ≡ decimal seconds ++ codes "s") }
+// One more status of a list, of which more may come.
+fn put_next_status(out: &mut String, later: bool, status: &Status) -> Result<(), OutOfMemory>
+    ensures { OnOk result ((ds : Items) → string_bytes out.new ++ items_text true ds
+        ≡ string_bytes out.old ++ items_text later (item (texts.status_data status.now) ds)) }
 {
-    format!(in alloc; "{seconds}s")
+    put_comma(out, later)?;
+    put_status(out, status)?;
+    Ok(())
 }
 
-#[tactic(auto, unfolding(crate::specs::Texts::status_data))]
-fn status_value(alloc: Global, status: &Status) -> Result<Value, AllocError>
-    ensures value { IfOk result (λ v. view v ≡ texts.status_data status.now) }
-    ensures whole { IfOk result (λ v. has_float (view v) ≡ false) }
+fn put_statuses(out: &mut String, statuses: &[Status]) -> Result<(), OutOfMemory>
+    ensures { OnOk result (string_bytes out.new
+        ≡ string_bytes out.old ++ compact_text (array (items_of (map texts.status_data statuses.now)))) }
 {
-    let code = code_name(status.code);
-    let remaining = status.remaining;
-    let Some(own) = status.limit else {
-        return if remaining == 0 {
-            json!(in alloc; {"code": code})
-        } else {
-            json!(in alloc; {"code": code, "limitRemaining": remaining})
-        };
-    };
-    let limit = limit_value(alloc, own)?;
-    let reset = duration(alloc, status.reset)?;
-    if remaining == 0 {
-        json!(in alloc; {"code": code, "currentLimit": limit, "durationUntilReset": reset})
-    } else {
-        json!(in alloc; {"code": code, "currentLimit": limit, "durationUntilReset": reset, "limitRemaining": remaining})
+    out.push_str("[")?;
+    'statuses: for index in 0..statuses.len() {
+        put_next_status(out, index > 0, &statuses[index])?;
     }
+    out.push_str("]")?;
+    Ok(())
 }
 
-fn statuses_value(alloc: Global, statuses: &[Status]) -> Result<Value, AllocError>
-    ensures value { IfOk result (λ v. view v ≡ array (items_of (map texts.status_data statuses.now))) }
-    ensures whole { IfOk result (λ v. has_float (view v) ≡ false) }
+// The overall code, from whether a status is over its limit.
+fn overall_code(over: bool) -> Code
+    ensures { result ≡ texts.overall_code over }
 {
-    let mut values = Vec::new(alloc);
-    'statuses: for status in statuses {
-        values.push(status_value(alloc, status)?)?;
-    }
-    let value = array_value(values);
-    Ok(value)
+    if over { Code::OverLimit } else { Code::Ok }
 }
 
-/// The reply as a JSON value (Envoy's `RateLimitResponse` in the proto3 JSON mapping).
-#[tactic(auto, unfolding(crate::specs::Texts::reply_data))]
-pub fn reply_value(alloc: Global, answer: &Statuses) -> Result<Value, OutOfMemory>
-    ensures value { IfOk result (λ v. view v ≡ texts.reply_data answer.now) }
-    ensures whole { IfOk result (λ v. has_float (view v) ≡ false) }
+/// Writes the text of a reply behind what a text holds. After want of memory a first part of it may stand there.
+#[tactic(auto, unfolding(serde_json::proofs::OnLiterals::serde_json_on_literals, crate::specs::Texts::reply_data))]
+pub fn put_reply(out: &mut String, answer: &Statuses) -> Result<(), OutOfMemory>
+    ensures { OnOk result (string_bytes out.new ≡ string_bytes out.old ++ texts.reply_text_of answer.now) }
 {
-    let code = code_name(overall_code(answer.over()));
-    let statuses = statuses_value(alloc, answer.items())?;
-    let value = json!(in alloc; {"overallCode": code, "statuses": statuses})?;
-    Ok(value)
+    out.push_str("{\"overallCode\":")?;
+    put_code(out, overall_code(answer.over()))?;
+    out.push_str(",\"statuses\":")?;
+    put_statuses(out, answer.items())?;
+    out.push_str("}")?;
+    Ok(())
 }
 
-/// The reply as a text.
+/// The text of a reply.
 pub fn reply_body(alloc: Global, answer: &Statuses) -> Result<String, OutOfMemory>
     ensures { IfOk result (λ t. string_bytes t ≡ texts.reply_text_of answer.now) }
 {
-    let value = reply_value(alloc, answer)?;
-    let text = value.to_string(alloc)?;
+    let mut text = String::new(alloc);
+    put_reply(&mut text, answer)?;
     Ok(text)
-}
-
-fn count_value(alloc: Global, count: Count) -> Result<Value, AllocError>
-    ensures value { IfOk result (λ v. view v ≡ texts.count_data count) }
-    ensures whole { IfOk result (λ v. has_float (view v) ≡ false) }
-{
-    match count {
-        Count::NoCount => Ok(Value::Null),
-        Count::Before(before) => json!(in alloc; {"before": before}),
-        Count::Seen(seen) => json!(in alloc; {"seen": seen}),
-    }
-}
-
-/// The counts of the statuses as a JSON value.
-#[tactic(auto, unfolding(crate::specs::Texts::counts_data))]
-pub fn counts_value(alloc: Global, statuses: &[Status]) -> Result<Value, AllocError>
-    ensures value { IfOk result (λ v. view v ≡ texts.counts_data statuses.now) }
-    ensures whole { IfOk result (λ v. has_float (view v) ≡ false) }
-{
-    let mut values = Vec::new(alloc);
-    'statuses: for status in statuses {
-        values.push(count_value(alloc, status.count)?)?;
-    }
-    let value = array_value(values);
-    Ok(value)
 }

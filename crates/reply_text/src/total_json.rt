@@ -1,66 +1,87 @@
-ghost use Rattle.std.specs.Prelude.{◌≡◌, false, IfOk, string_bytes, map};
-ghost use Rattle.serde_json.specs.Data.{array};
-ghost use Rattle.serde_json.specs.View.{view, items_of};
-ghost use Rattle.serde_json.specs.Written.{has_float};
+// The texts of totals.
+ghost use Rattle.std.specs.Prelude.{◌≡◌, ◌++◌, true, map, IfOk, OnOk, string_bytes};
+ghost use Rattle.serde_json.specs.Data.{Items, item, array};
+ghost use Rattle.serde_json.specs.View.{items_of};
+ghost use Rattle.serde_json.specs.Written.{compact_text, items_text};
 ghost use Rattle.reply_text.specs.Texts as texts;
 
-use crate::array::array_value;
+use crate::put::{put_comma, put_number, put_quoted};
+use crate::put_status::put_unit;
 use rate_types::{CounterKey, Entry, OutOfMemory};
 use rls_core::Total;
-use serde_json::{Value, json};
-use std::alloc::{AllocError, Global};
+use std::alloc::Global;
 
-#[tactic(auto, unfolding(crate::specs::Texts::entry_data))]
-fn entry_value(alloc: Global, entry: &Entry) -> Result<Value, AllocError>
-    ensures value { IfOk result (λ v. view v ≡ texts.entry_data entry.now) }
-    ensures whole { IfOk result (λ v. has_float (view v) ≡ false) }
+#[tactic(auto, unfolding(serde_json::proofs::OnLiterals::serde_json_on_literals, crate::specs::Texts::entry_data))]
+fn put_entry(alloc: Global, out: &mut String, entry: &Entry) -> Result<(), OutOfMemory>
+    ensures { OnOk result (string_bytes out.new ≡ string_bytes out.old ++ compact_text (texts.entry_data entry.now)) }
 {
-    let key = entry.key.as_str();
-    let value = entry.value.as_str();
-    json!(in alloc; {"key": key, "value": value})
+    out.push_str("{\"key\":")?;
+    put_quoted(alloc, out, entry.key.as_str())?;
+    out.push_str(",\"value\":")?;
+    put_quoted(alloc, out, entry.value.as_str())?;
+    out.push_str("}")?;
+    Ok(())
 }
 
-fn entries_value(alloc: Global, entries: &[Entry]) -> Result<Value, AllocError>
-    ensures value { IfOk result (λ v. view v ≡ array (items_of (map texts.entry_data entries.now))) }
-    ensures whole { IfOk result (λ v. has_float (view v) ≡ false) }
+// One more entry of a list, of which more may come.
+fn put_next_entry(
+    alloc: Global,
+    out: &mut String,
+    later: bool,
+    entry: &Entry,
+) -> Result<(), OutOfMemory>
+    ensures { OnOk result ((ds : Items) → string_bytes out.new ++ items_text true ds
+        ≡ string_bytes out.old ++ items_text later (item (texts.entry_data entry.now) ds)) }
 {
-    let mut values = Vec::new(alloc);
-    'entries: for entry in entries {
-        values.push(entry_value(alloc, entry)?)?;
+    put_comma(out, later)?;
+    put_entry(alloc, out, entry)?;
+    Ok(())
+}
+
+fn put_entries(alloc: Global, out: &mut String, entries: &[Entry]) -> Result<(), OutOfMemory>
+    ensures { OnOk result (string_bytes out.new
+        ≡ string_bytes out.old ++ compact_text (array (items_of (map texts.entry_data entries.now)))) }
+{
+    out.push_str("[")?;
+    'entries: for index in 0..entries.len() {
+        put_next_entry(alloc, out, index > 0, &entries[index])?;
     }
-    let value = array_value(values);
-    Ok(value)
+    out.push_str("]")?;
+    Ok(())
 }
 
-#[tactic(auto, unfolding(crate::specs::Texts::counter_data))]
-fn counter_value(alloc: Global, counter: &CounterKey) -> Result<Value, AllocError>
-    ensures value { IfOk result (λ v. view v ≡ texts.counter_data counter.now) }
-    ensures whole { IfOk result (λ v. has_float (view v) ≡ false) }
+#[tactic(auto, unfolding(serde_json::proofs::OnLiterals::serde_json_on_literals, crate::specs::Texts::counter_data))]
+fn put_counter(alloc: Global, out: &mut String, counter: &CounterKey) -> Result<(), OutOfMemory>
+    ensures { OnOk result (string_bytes out.new ≡ string_bytes out.old ++ compact_text (texts.counter_data counter.now)) }
 {
-    let entries = entries_value(alloc, counter.name.entries.items())?;
-    let domain = counter.name.domain.as_str();
-    let unit = counter.name.unit.name();
-    let start = counter.start.get();
-    json!(in alloc; {"domain": domain, "entries": entries, "start": start, "unit": unit})
+    out.push_str("{\"domain\":")?;
+    put_quoted(alloc, out, counter.name.domain.as_str())?;
+    out.push_str(",\"entries\":")?;
+    put_entries(alloc, out, counter.name.entries.items())?;
+    put_number(out, ",\"start\":", counter.start.get())?;
+    out.push_str(",\"unit\":")?;
+    put_unit(out, counter.name.unit)?;
+    out.push_str("}")?;
+    Ok(())
 }
 
-/// A total as a JSON value.
-#[tactic(auto, unfolding(crate::specs::Texts::total_data))]
-pub fn total_value(alloc: Global, total: &Total) -> Result<Value, OutOfMemory>
-    ensures value { IfOk result (λ v. view v ≡ texts.total_data total.now) }
-    ensures whole { IfOk result (λ v. has_float (view v) ≡ false) }
+/// Writes the text of a total behind what a text holds, without a line feed. After want of memory a first part of it may stand there.
+#[tactic(auto, unfolding(serde_json::proofs::OnLiterals::serde_json_on_literals, crate::specs::Texts::total_data))]
+pub fn put_total(alloc: Global, out: &mut String, total: &Total) -> Result<(), OutOfMemory>
+    ensures { OnOk result (string_bytes out.new ≡ string_bytes out.old ++ texts.total_text_of total.now) }
 {
-    let charged = total.charged;
-    let counter = counter_value(alloc, &total.key)?;
-    let value = json!(in alloc; {"charged": charged, "counter": counter})?;
-    Ok(value)
+    put_number(out, "{\"charged\":", total.charged)?;
+    out.push_str(",\"counter\":")?;
+    put_counter(alloc, out, &total.key)?;
+    out.push_str("}")?;
+    Ok(())
 }
 
-/// A total as a text, without a line feed.
+/// The text of a total, without a line feed.
 pub fn total_text(alloc: Global, total: &Total) -> Result<String, OutOfMemory>
     ensures { IfOk result (λ t. string_bytes t ≡ texts.total_text_of total.now) }
 {
-    let value = total_value(alloc, total)?;
-    let text = value.to_string(alloc)?;
+    let mut text = String::new(alloc);
+    put_total(alloc, &mut text, total)?;
     Ok(text)
 }

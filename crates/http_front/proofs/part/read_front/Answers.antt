@@ -17,12 +17,14 @@ part_after-requires c =
 pub returns-in-Some-clause-part : goal.returns-in-Some-clause-part
 returns-in-Some-clause-part c =
     let at : head_length (take 16384 c.args.bytes.now) ≡ Some c.in-Some.used = ap head_length (sym c.first_bytes.ensures) ∙ sym c.in-Some.ensures.at in
-    (found_result c.args.bytes.now _ _ c.in-Some.used c.part_after.result at c.split_at.ensures.front c.split_at.ensures.back c.part_after.ensures.part c.part_after.ensures.memory).0
+    (found_result c.args.bytes.now _ _ c.in-Some.used c.part_after.result at c.split_at.ensures.front c.split_at.ensures.back c.part_after.ensures.part
+    c.part_after.ensures.memory).0
 
 pub returns-in-Some-clause-memory : goal.returns-in-Some-clause-memory
 returns-in-Some-clause-memory c =
     let at : head_length (take 16384 c.args.bytes.now) ≡ Some c.in-Some.used = ap head_length (sym c.first_bytes.ensures) ∙ sym c.in-Some.ensures.at in
-    (found_result c.args.bytes.now _ _ c.in-Some.used c.part_after.result at c.split_at.ensures.front c.split_at.ensures.back c.part_after.ensures.part c.part_after.ensures.memory).1
+    (found_result c.args.bytes.now _ _ c.in-Some.used c.part_after.result at c.split_at.ensures.front c.split_at.ensures.back c.part_after.ensures.part
+    c.part_after.ensures.memory).1
 
 pub returns-in-None-clause-part : goal.returns-in-None-clause-part
 returns-in-None-clause-part c =

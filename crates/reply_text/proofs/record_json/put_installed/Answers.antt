@@ -1,0 +1,10 @@
+use Rattle.std.proofs.Common.{string_bytes}
+use Rattle.serde_json.proofs.OnLiterals.{serde_json_on_literals}
+use Rattle.reply_text.specs.Texts.{installed_line_data}
+use Rattle.reply_text.proofs.Growing.{grown_by_4}
+use Rattle.reply_text.proofs.record_json.put_installed.Goals as goal
+
+pub returns : goal.returns
+unfolding serde_json_on_literals installed_line_data
+returns c = rw (c.in_ok-put_worker.ensures, c.in_ok-put_number-3.ensures, c.in_ok-put_number-2.ensures, c.in_ok-put_number.ensures, c.from.ensures, c.from-2.ensures)
+    (grown_by_4 (string_bytes c.args.out.now) _ _ _ _)

@@ -1,0 +1,5 @@
+pub mod Datas
+pub mod Saying
+pub mod Laws
+mod Reading
+mod Making
