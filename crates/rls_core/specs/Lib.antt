@@ -3,6 +3,3 @@ pub mod Reply
 pub mod Sequential
 pub mod Totals
 pub mod Sums
-pub mod Plain
-pub mod Stored
-pub mod Counting

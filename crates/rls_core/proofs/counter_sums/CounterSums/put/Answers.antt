@@ -4,14 +4,8 @@ use Rattle.std.specs.Map.{lookup}
 use Rattle.rate_types.specs.Counters.{key_cmp, same_counter}
 use Rattle.rate_types.specs.contracts.counter_key.CounterKeyOrd.TheImpl.Laws.{matches_eq-law}
 use Rattle.rls_core.specs.Sums.{Sums, AreOpen}
-use Rattle.rls_core.proofs.Binding.{open_insert}
-use Rattle.rls_core.proofs.Ends.{bound_insert}
+use Rattle.rls_core.proofs.Ends.{open_insert}
 use Rattle.rls_core.proofs.counter_sums.CounterSums.put.Goals as goal
-
-pub invariant_of-self-2 : goal.invariant_of-self-2
-invariant_of-self-2 c =
-    rw (c.min-self-inside.ensures, c.in_ok-insert.ensures.entries)
-    (bound_insert c.self.inside.next_end c.end_of-end.result c.self.inside.sums.entries c.args.counter c.args.sum c.end_of-end.ensures c.self.invariant)
 
 pub returns-clause-found : goal.returns-clause-found
 returns-clause-found c = λ q.

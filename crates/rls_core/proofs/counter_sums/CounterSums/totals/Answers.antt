@@ -1,6 +1,3 @@
-use Rattle.std.proofs.Common.{subst, sym}
-use Rattle.rls_core.specs.Sums.{sum_on, AreOpen}
-use Rattle.rls_core.specs.Totals.{AreTotals}
 use Rattle.rls_core.proofs.Summed.{are_totals}
 use Rattle.rls_core.proofs.counter_sums.CounterSums.totals.Goals as goal
 
