@@ -1,16 +1,17 @@
 -- A level while it is filled: the nodes before an index are in it.
-use Rattle.std.proofs.Common.{◌≡◌, ℕ, zero, suc, ◌+◌, ◌≤◌, ◌<◌, List, [], ◌∷◌, ◌++◌, length, map, drop, get_or, None, refl, sym, ap, ◌∙◌, subst, add-one, append_assoc, append-nil, length-append, arith}
+use Rattle.std.proofs.Common.{◌≡◌, ℕ, zero, suc, ◌+◌, ◌≤◌, ◌<◌, List, [], ◌∷◌, ◌++◌, length, map, drop, get_or, refl, sym, ap, ◌∙◌, subst, add-one, append_assoc}
+use Rattle.std.proofs.Common.{append-nil, length-append, arith}
 use Rattle.std.proofs.Math.Seq.{drop-cons}
 use Rattle.std.proofs.lemmas.List.{drop_all}
-use Rattle.rate_types.specs.declared.entries.Entry.{Entry}
 use Rattle.rate_types.specs.declared.limits.TheConstants.{MOST_NODES}
 use Rattle.descriptor_tree.specs.declared.node.Node.{Node}
 use Rattle.descriptor_tree.specs.Trees.{Branch, branch, Branches, branches_of, fields_of, below_of, node_view}
 use Rattle.rule_lookup.specs.declared.level.Level.{Level}
+use Rattle.rule_lookup.specs.declared.level.Level.TheVariants.{Empty}
 use Rattle.rule_lookup.specs.declared.names.RuleNames.{RuleNames}
 use Rattle.rule_lookup.specs.declared.found.Found.{Found}
 use Rattle.rule_lookup.specs.Rule.{NumberedNode, numbered, size_of, policy_rule}
-use Rattle.rule_lookup.specs.Level.{equal_in, wildcard_in, alone_in, IsLevel, Holds, Extends, Puts, PutsNode, branch_names, level_names}
+use Rattle.rule_lookup.specs.Level.{Finding, finding_of, IsLevel, Holds, Extends, Puts, PutsNode, branch_names, level_names}
 use Rattle.rule_lookup.proofs.Walks.{holds_stays, holds_more, level_added}
 use Rattle.rule_lookup.proofs.Numbers.{size_names}
 
@@ -21,21 +22,20 @@ level_of nodes = branches_of (map node_view nodes)
 pub record Filled (nodes : List Node) (index : ℕ) (old_names names : List RuleNames) (old levels : List Level) (level : Level) : Type 0 where
   pub done : List NumberedNode
   pub split : numbered (length old_names) (level_of nodes) ≡ done ++ numbered (length names) (level_of (drop index nodes))
-  pub holds : Holds levels level done
+  pub holds : Holds levels (finding_of level) done
   pub grows : Extends old levels
   pub names_are : names ++ level_names (level_of (drop index nodes)) ≡ old_names ++ level_names (level_of nodes)
   pub few : length old_names + length (level_names (level_of nodes)) ≤ MOST_NODES
 
-pub filled_none : (nodes : List Node) (names : List RuleNames) (levels : List Level) (level : Level)
-    → ((e : Entry) → (equal_in level e ≡ None) × (wildcard_in level e ≡ None) × (alone_in level e ≡ None))
-    → length names + length (level_names (level_of nodes)) ≤ MOST_NODES → Filled nodes 0 names names levels levels level
-filled_none nodes names levels level none few = record {
+pub filled_none : (nodes : List Node) (names : List RuleNames) (levels : List Level)
+    → length names + length (level_names (level_of nodes)) ≤ MOST_NODES → Filled nodes 0 names names levels levels Empty
+filled_none nodes names levels few = record {
   done = [];
   split = refl;
   holds = record {
-    equal = λ e. rw ((none e).0) tt;
-    wildcard = λ e. rw ((none e).1) tt;
-    alone = λ e. rw ((none e).2) tt;
+    equal = λ e. tt;
+    wildcard = λ e. tt;
+    alone = λ e. tt;
   };
   grows = record { more = []; is = sym (append-nil levels) };
   names_are = refl;
@@ -79,14 +79,15 @@ module _ (nodes : List Node) (i : ℕ) (old_names names : List RuleNames) (old l
     length-append old_names (level_names (level_of nodes)),
   )
 
-  pub filled_more : (names_after : List RuleNames) (levels_after : List Level) (level_after : Level) → PutsNode levels_after (length names) (node_view node) level level_after
+  pub filled_more : (names_after : List RuleNames) (levels_after : List Level) (level_after : Level) → PutsNode levels_after (length names) (node_view node) (finding_of level) (finding_of level_after)
       → Extends levels levels_after → names_after ≡ names ++ branch_names (node_view node) → Filled nodes (i + 1) old_names names_after old levels_after level_after
   filled_more names_after levels_after level_after puts more is = record {
     done = w.done ++ here ∷ [];
     split = w.split ∙ ap (λ (ns : List Node). w.done ++ numbered (length names) (level_of ns)) (rest_node nodes i node within at)
         ∙ sym (append_assoc w.done (here ∷ []) (numbered (length names + size_of (node_view node)) rest))
-        ∙ ap (λ n. (w.done ++ here ∷ []) ++ numbered n rest) (sym (ap length is ∙ length-append names (branch_names (node_view node)) ∙ ap (λ n. length names + n) (size_names (node_view node))));
-    holds = holds_more levels_after level level_after w.done here puts.reached puts.reaches puts.puts (holds_stays levels levels_after level w.done more w.holds);
+        ∙ ap (λ n. (w.done ++ here ∷ []) ++ numbered n rest)
+        (sym (ap length is ∙ length-append names (branch_names (node_view node)) ∙ ap (λ n. length names + n) (size_names (node_view node))));
+    holds = holds_more levels_after (finding_of level) (finding_of level_after) w.done here puts.reached puts.reaches puts.puts (holds_stays levels levels_after (finding_of level) w.done more w.holds);
     grows = record { more = w.grows.more ++ more.more; is = more.is ∙ ap (λ ls. ls ++ more.more) w.grows.is ∙ append_assoc old w.grows.more more.more };
     names_are = ap (λ ns. ns ++ level_names rest) is ∙ append_assoc names (branch_names (node_view node)) (level_names rest) ∙ names_here;
     few = w.few;
@@ -102,7 +103,7 @@ module _ (nodes : List Node) (i : ℕ) (old_names names : List RuleNames) (old l
     (w : Filled nodes i old_names names old levels level) (all : length nodes ≤ i) where
   pub filled_level : (after : List Level) → after ≡ levels ++ level ∷ [] → IsLevel after (length levels) (length old_names) (level_of nodes)
   filled_level after is = rw is (level_added levels level (length old_names) (level_of nodes)
-      (subst (Holds levels level) (sym (w.split ∙ ap (λ (ns : List Node). w.done ++ numbered (length names) (level_of ns)) (drop_all i nodes all) ∙ append-nil w.done)) w.holds))
+      (subst (Holds levels (finding_of level)) (sym (w.split ∙ ap (λ (ns : List Node). w.done ++ numbered (length names) (level_of ns)) (drop_all i nodes all) ∙ append-nil w.done)) w.holds))
 
   pub filled_grows : (after : List Level) → after ≡ levels ++ level ∷ [] → Extends old after
   filled_grows after is = record {
@@ -114,7 +115,7 @@ module _ (nodes : List Node) (i : ℕ) (old_names names : List RuleNames) (old l
   filled_names = sym (append-nil names) ∙ ap (λ (ns : List Node). names ++ level_names (level_of ns)) (sym (drop_all i nodes all)) ∙ w.names_are
 
 -- what a node put into its level leads to
-pub node_put : (b : Branch) (old_names names : List RuleNames) (levels : List Level) (old new : Level) (found : Found) (below : ℕ) (mine : RuleNames)
+pub node_put : (b : Branch) (old_names names : List RuleNames) (levels : List Level) (old new : Finding) (found : Found) (below : ℕ) (mine : RuleNames)
     → found ≡ policy_rule (length old_names) (fields_of b).shadow (fields_of b).policy → names ≡ old_names ++ mine ∷ []
     → IsLevel levels below (length names) (below_of b)
     → Puts (fields_of b).key (fields_of b).value (record { found = found; below = below }) old new → PutsNode levels (length old_names) b old new

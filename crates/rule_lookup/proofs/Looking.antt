@@ -1,5 +1,6 @@
 -- What an index finds is the rule, and what it says of two rules is what their nodes say.
-use Rattle.std.proofs.Common.{◌≡◌, ℕ, ◌+◌, ◌≤◌, ◌<◌, List, [], ◌∷◌, ◌++◌, length, map, drop, get_or, suc, Option, Some, None, cond, option_map, find, refl, sym, ap, ◌∙◌, subst, append-nil, append_assoc}
+use Rattle.std.proofs.Common.{◌≡◌, ℕ, ◌+◌, ◌≤◌, ◌<◌, List, [], ◌∷◌, ◌++◌, length, map, drop, get_or, suc, Option, Some, None, cond, option_map, find, refl, sym, ap}
+use Rattle.std.proofs.Common.{◌∙◌, subst, append-nil, append_assoc}
 use Rattle.std.proofs.Common.{add-one, length-append, arith, Bool, true, false}
 use Rattle.std.proofs.Math.Seq.{drop-cons}
 use Rattle.std.proofs.lemmas.List.{drop_all, length-map}
@@ -40,7 +41,8 @@ at_node : (o : Option PlacedNode) → option_map names_at o ≡ option_map names
 at_node None = refl
 at_node (Some s) = refl
 
-pub names_at_number : (trees : List DomainTree) (names : List RuleNames) (number : ℕ) → names ≡ tree_names trees → slice_get names number ≡ option_map names_of (node_at trees number)
+pub names_at_number : (trees : List DomainTree) (names : List RuleNames) (number : ℕ) → names ≡ tree_names trees → slice_get names number
+    ≡ option_map names_of (node_at trees number)
 names_at_number trees names number are = ap (λ ns. slice_get ns number) (are ∙ sym (names_config trees))
     ∙ slice_get-map names_at (config_nodes trees) number
     ∙ at_node (slice_get (config_nodes trees) number)
@@ -118,7 +120,8 @@ module _ (trees : List Tree) (i : ℕ) (first_of : List ℕ → Option ℕ) (nam
   rooted_more after names_after levels_after first puts level more is = record {
     done = w.done ++ record { number = length names; tree = tree_view tree } ∷ [];
     split = w.split ∙ ap (λ (ts : List Tree). w.done ++ numbered_trees (length names) (map tree_view ts)) (rest_tree trees i tree within at)
-        ∙ sym (append_assoc w.done (record { number = length names; tree = tree_view tree } ∷ []) (numbered_trees (length names + length (tree_nodes (tree_view tree))) (map tree_view (drop (i + 1) trees))))
+        ∙ sym (append_assoc w.done (record { number = length names; tree = tree_view tree } ∷ [])
+        (numbered_trees (length names + length (tree_nodes (tree_view tree))) (map tree_view (drop (i + 1) trees))))
         ∙ ap (λ n. (w.done ++ record { number = length names; tree = tree_view tree } ∷ []) ++ numbered_trees n (map tree_view (drop (i + 1) trees)))
         (sym (ap length is ∙ length-append names (level_names (tree_view tree).forest) ∙ ap (λ n. length names + n) (tree_size (tree_view tree))));
     first = λ d. subst (λ (o : Option ℕ). AgreeTree levels_after o (find (of_domain d) (w.done ++ record { number = length names; tree = tree_view tree } ∷ []))) (sym (puts d))
@@ -131,13 +134,15 @@ module _ (trees : List Tree) (i : ℕ) (first_of : List ℕ → Option ℕ) (nam
     few = w.few;
   }
 
-pub rooted_none : (trees : List Tree) (first_of : List ℕ → Option ℕ) → ((d : List ℕ) → first_of d ≡ None) → length (tree_names (map tree_view trees)) ≤ MOST_NODES → Rooted trees 0 first_of [] []
+pub rooted_none : (trees : List Tree) (first_of : List ℕ → Option ℕ) → ((d : List ℕ) → first_of d ≡ None) → length (tree_names (map tree_view trees)) ≤ MOST_NODES
+    → Rooted trees 0 first_of [] []
 rooted_none trees first_of none few = record { done = []; split = refl; first = λ d. rw (none d) tt; names_are = refl; few = few }
 
 pub rooted_all : (trees : List Tree) (i : ℕ) (roots : Roots) → Rooted trees i (get same_text roots.domains) roots.levels.names.items roots.levels.levels.items → length trees ≤ i
     → HoldsTrees roots (map tree_view trees)
 rooted_all trees i roots w all = record {
   first = λ d. subst (λ (ts : List NumberedTree). AgreeTree roots.levels.levels.items (get same_text roots.domains d) (find (of_domain d) ts))
-      (sym (w.split ∙ ap (λ (ts : List Tree). w.done ++ numbered_trees (length roots.levels.names.items) (map tree_view ts)) (drop_all i trees all) ∙ append-nil w.done)) (w.first d);
+      (sym (w.split ∙ ap (λ (ts : List Tree). w.done ++ numbered_trees (length roots.levels.names.items) (map tree_view ts)) (drop_all i trees all) ∙ append-nil w.done))
+      (w.first d);
   names = sym (append-nil roots.levels.names.items) ∙ ap (λ (ts : List Tree). roots.levels.names.items ++ tree_names (map tree_view ts)) (sym (drop_all i trees all)) ∙ w.names_are;
 }

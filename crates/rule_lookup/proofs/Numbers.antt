@@ -15,7 +15,8 @@ mutual
   names_branch : (place : List ℕ) (level : ℕ) (earlier : List NodeFields) (b : Branch) → map names_at (branch_nodes place level earlier b) ≡ branch_names b
   names_branch place level earlier (branch node below) = ap (λ ns. names_of node ∷ ns) (names_level (child place (codes "descriptors")) (level + 1) 0 [] below)
 
-  pub names_level : (place : List ℕ) (level index : ℕ) (earlier : List NodeFields) (below : Branches) → map names_at (forest_nodes place level index earlier below) ≡ level_names below
+  pub names_level : (place : List ℕ) (level index : ℕ) (earlier : List NodeFields) (below : Branches) → map names_at (forest_nodes place level index earlier below)
+      ≡ level_names below
   names_level place level index earlier no_branches = refl
   names_level place level index earlier (and_branch b more) =
       map-append names_at (branch_nodes (item place index) level earlier b) (forest_nodes place level (index + 1) (fields_of b ∷ earlier) more)

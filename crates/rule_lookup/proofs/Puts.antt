@@ -6,9 +6,9 @@ use Rattle.std.specs.Option.{option_or}
 use Rattle.indexmap.specs.IndexMap.{get}
 use Rattle.rate_types.specs.Counters.{same_text, same_entry}
 use Rattle.rate_types.specs.declared.entries.Entry.{Entry}
-use Rattle.rule_lookup.specs.declared.level.Reached.{Reached}
-use Rattle.rule_lookup.specs.declared.level.Wildcard.{Wildcard}
-use Rattle.rule_lookup.specs.declared.level.Level.{Level}
+use Rattle.rule_lookup.specs.declared.reached.Reached.{Reached}
+use Rattle.rule_lookup.specs.declared.node_maps.Wildcard.{Wildcard}
+use Rattle.rule_lookup.specs.declared.node_maps.NodeMaps.{NodeMaps}
 use Rattle.rule_lookup.specs.Rule.{is_wildcard, covers}
 use Rattle.rule_lookup.specs.Level.{fits}
 
@@ -39,7 +39,7 @@ differs value text is not_one = by (same_text value text) refl
     by true same = absurd (true≢false (sym is ∙ ap is_wildcard ((bytes_decides value text).0 same) ∙ not_one))
     by false same = refl
 
-module _ (old : Level) (ws new : List Wildcard) (w : Wildcard) (is : is_wildcard w.entry.value ≡ true) (after : new ≡ ws ++ w ∷ []) where
+module _ (old : NodeMaps) (ws new : List Wildcard) (w : Wildcard) (is : is_wildcard w.entry.value ≡ true) (after : new ≡ ws ++ w ∷ []) where
   pub equal_last : (e : Entry) → cond (is_wildcard e.value) (option_map (λ v. v.reached) (find (λ v. same_entry v.entry e) new)) (get same_entry old.valued e)
       ≡ option_or (cond (is_wildcard e.value) (option_map (λ v. v.reached) (find (λ v. same_entry v.entry e) ws)) (get same_entry old.valued e))
       (cond (same_text w.entry.key e.key && same_text w.entry.value e.value) (Some w.reached) None)
@@ -57,7 +57,8 @@ module _ (old : Level) (ws new : List Wildcard) (w : Wildcard) (is : is_wildcard
       ≡ option_or (option_map (λ (v : Wildcard). v.reached) (find (fits e) ws))
       (cond (same_text w.entry.key e.key && (is_wildcard w.entry.value && covers w.entry.value e.value)) (Some w.reached) None)
   wildcard_last e = ap (λ xs. option_map (λ (v : Wildcard). v.reached) (find (fits e) xs)) after ∙ found_last (fits e) ws w
-      ∙ ap (λ b. option_or (option_map (λ (v : Wildcard). v.reached) (find (fits e) ws)) (cond (same_text w.entry.key e.key && (b && covers w.entry.value e.value)) (Some w.reached) None)) (sym is)
+      ∙ ap (λ b. option_or (option_map (λ (v : Wildcard). v.reached) (find (fits e) ws)) (cond (same_text w.entry.key e.key && (b && covers w.entry.value e.value)) (Some w.reached)
+      None)) (sym is)
 
   pub alone_last : (e : Entry) (x : Option Reached) → x ≡ option_or x (cond (same_text w.entry.key e.key && false) (Some w.reached) None)
   alone_last e x = or_none x ∙ ap (λ b. option_or x (cond b (Some w.reached) None)) (sym (and_false (same_text w.entry.key e.key)))

@@ -39,10 +39,12 @@ none_replaced trees [] found none = refl
 none_replaced trees (r ∷ rules) found none = none_by trees r found _ _ (has_some (names_replaced (node_found trees r))) refl (none_replaced trees rules found) none
 
 -- where no rule replaces any, all are left
-pub all_left : (trees : List DomainTree) (domain : List ℕ) (all ds : List Descriptor) → list_any (λ r. has_some (names_replaced (node_found trees r))) (map (rule_of trees domain) all) ≡ false
+pub all_left : (trees : List DomainTree) (domain : List ℕ) (all ds : List Descriptor) → list_any (λ r. has_some (names_replaced (node_found trees r)))
+    (map (rule_of trees domain) all) ≡ false
     → map (rule_of trees domain) ds ≡ map (found_among trees domain all) ds
 all_left trees domain all [] none = refl
 all_left trees domain all (d ∷ ds) none =
     ap (λ b. cond b NoRule (rule_of trees domain d) ∷ map (rule_of trees domain) ds)
-    (sym (sym (any_map (λ r. found_replaces trees r (rule_of trees domain d)) (rule_of trees domain) all) ∙ none_replaced trees (map (rule_of trees domain) all) (rule_of trees domain d) none))
+    (sym (sym (any_map (λ r. found_replaces trees r (rule_of trees domain d)) (rule_of trees domain) all) ∙ none_replaced trees (map (rule_of trees domain) all)
+    (rule_of trees domain d) none))
     ∙ ap (λ fs. found_among trees domain all d ∷ fs) (all_left trees domain all ds none)

@@ -7,10 +7,10 @@ use Rattle.rate_types.specs.declared.entries.Entry.{Entry}
 use Rattle.descriptor_tree.specs.Trees.{Branches}
 use Rattle.rule_lookup.specs.declared.found.Found.{Found}
 use Rattle.rule_lookup.specs.declared.found.Found.TheVariants.{NoRule}
-use Rattle.rule_lookup.specs.declared.level.Reached.{Reached}
+use Rattle.rule_lookup.specs.declared.reached.Reached.{Reached}
 use Rattle.rule_lookup.specs.declared.level.Level.{Level}
 use Rattle.rule_lookup.specs.Rule.{NumberedNode, numbered, has_value, has_wildcard, has_key_alone, matching_node, rule_at, rule_from}
-use Rattle.rule_lookup.specs.Level.{reached_in, walk, IsLevel, Reaches, Agree, Holds, Puts, Extends}
+use Rattle.rule_lookup.specs.Level.{reached_in, walk, IsLevel, Reaches, Agree, Holds, Finding, finding_of, Puts, Extends}
 
 -- ---- more levels
 
@@ -27,7 +27,7 @@ agree_stays old new (Some r) (Some n) grows is = reaches_stays old new r n grows
 agree_stays old new None (Some n) grows is = is
 agree_stays old new (Some r) None grows is = is
 
-pub holds_stays : (old new : List Level) (level : Level) (nodes : List NumberedNode) → Extends old new → Holds old level nodes → Holds new level nodes
+pub holds_stays : (old new : List Level) (level : Finding) (nodes : List NumberedNode) → Extends old new → Holds old level nodes → Holds new level nodes
 holds_stays old new level nodes grows is = record {
   equal = λ e. agree_stays old new _ _ grows (is.equal e);
   wildcard = λ e. agree_stays old new _ _ grows (is.wildcard e);
@@ -55,7 +55,7 @@ one_more levels p nodes n r old new is reaches agree =
     subst (λ (o : Option Reached). Agree levels o (find p (nodes ++ n ∷ []))) (sym is)
     (subst (λ (o : Option NumberedNode). Agree levels (option_or old (cond (p n) (Some r) None)) o) (sym (find-append p nodes (n ∷ []))) both)
 
-pub holds_more : (levels : List Level) (old new : Level) (nodes : List NumberedNode) (n : NumberedNode) (r : Reached) → Reaches levels r n → Puts n.node.key n.node.value r old new
+pub holds_more : (levels : List Level) (old new : Finding) (nodes : List NumberedNode) (n : NumberedNode) (r : Reached) → Reaches levels r n → Puts n.node.key n.node.value r old new
     → Holds levels old nodes → Holds levels new (nodes ++ n ∷ [])
 holds_more levels old new nodes n r reaches puts is = record {
   equal = λ e. one_more levels (λ m. has_value e m.node) nodes n r _ _ (puts.equal e) reaches (is.equal e);
@@ -69,11 +69,12 @@ at_end : (levels : List Level) (level : Level) (more : List Level) → slice_get
 at_end [] level more = refl
 at_end (l ∷ levels) level more = at_end levels level more
 
-matches : (levels : List Level) (level : Level) (nodes : List NumberedNode) (e : Entry) → Holds levels level nodes → Agree levels (reached_in level e) (matching_node nodes e)
+matches : (levels : List Level) (level : Level) (nodes : List NumberedNode) (e : Entry) → Holds levels (finding_of level) nodes → Agree levels (reached_in level e) (matching_node nodes e)
 matches levels level nodes e is = agree_or levels _ _ _ _ (is.equal e) (agree_or levels _ _ _ _ (is.wildcard e) (is.alone e))
 
 goes_on : (levels : List Level) (level : Level) (more : List Level) (entries : List Entry) (r : Option Reached) (n : Option NumberedNode) → Agree levels r n
-    → option_map_or (λ q. walk ((levels ++ level ∷ []) ++ more) entries q.found q.below) r NoRule ≡ option_map_or (λ m. rule_from entries (rule_at m) (m.number + 1) m.below) n NoRule
+    → option_map_or (λ q. walk ((levels ++ level ∷ []) ++ more) entries q.found q.below) r NoRule ≡ option_map_or (λ m. rule_from entries (rule_at m) (m.number + 1) m.below) n
+    NoRule
 goes_on levels level more entries None None is = refl
 goes_on levels level more entries (Some r) (Some n) is =
     ap (λ ls. walk ls entries r.found r.below) (append_assoc levels (level ∷ []) more)
@@ -82,7 +83,7 @@ goes_on levels level more entries (Some r) (Some n) is =
 goes_on levels level more entries None (Some n) is = absurd is
 goes_on levels level more entries (Some r) None is = absurd is
 
-pub level_added : (levels : List Level) (level : Level) (number : ℕ) (below : Branches) → Holds levels level (numbered number below)
+pub level_added : (levels : List Level) (level : Level) (number : ℕ) (below : Branches) → Holds levels (finding_of level) (numbered number below)
     → IsLevel (levels ++ level ∷ []) (length levels) number below
 level_added levels level number below is = λ more entries found. by more entries found
   where

@@ -9,9 +9,12 @@ use Rattle.rate_types.specs.declared.entries.Entry.{Entry}
 use Rattle.descriptor_tree.specs.Trees.{NodeFields, Branch, branch, Branches, no_branches, and_branch, fields_of, below_of, DomainTree}
 use Rattle.rule_lookup.specs.declared.found.Found.{Found}
 use Rattle.rule_lookup.specs.declared.found.Found.TheVariants.{NoRule}
-use Rattle.rule_lookup.specs.declared.level.Reached.{Reached}
-use Rattle.rule_lookup.specs.declared.level.Wildcard.{Wildcard}
+use Rattle.rule_lookup.specs.declared.reached.Reached.{Reached}
+use Rattle.rule_lookup.specs.declared.node_maps.Wildcard.{Wildcard}
+use Rattle.rule_lookup.specs.declared.node_maps.NodeMaps.{NodeMaps}
+use Rattle.rule_lookup.specs.declared.level.Lone.{Lone}
 use Rattle.rule_lookup.specs.declared.level.Level.{Level}
+use Rattle.rule_lookup.specs.declared.level.Level.TheVariants.{Empty, One, Several}
 use Rattle.rule_lookup.specs.declared.names.RuleNames.{RuleNames}
 use Rattle.rule_lookup.specs.Rule.{NumberedNode, NumberedTree, is_wildcard, covers, is_this, is_wildcard_for, is_absent}
 use Rattle.rule_lookup.specs.Rule.{has_value, has_wildcard, has_key_alone, rule_at, rule_from}
@@ -20,23 +23,47 @@ use Rattle.rule_lookup.specs.Rule.{has_value, has_wildcard, has_key_alone, rule_
 abbrev pub fits : Entry → Wildcard → Bool
 fits entry w = same_text w.entry.key entry.key && covers w.entry.value entry.value
 
--- what is reached by a node with the entry's key and value
-abbrev pub equal_in : Level → Entry → Option Reached
-equal_in level entry = if is_wildcard entry.value
-    then option_map (λ w. w.reached) (find (λ w. same_entry w.entry entry) level.wildcards.items)
-    else get same_entry level.valued entry
+-- What the nodes of a level reach for an entry: a node with its key and value, the first wildcard that fits, the key alone.
+pub record Finding : Type 0 where
+  pub equal : Entry → Option Reached
+  pub wildcard : Entry → Option Reached
+  pub alone : Entry → Option Reached
 
--- by the first wildcard that fits
-abbrev pub wildcard_in : Level → Entry → Option Reached
-wildcard_in level entry = option_map (λ w. w.reached) (find (fits entry) level.wildcards.items)
+-- those of the three parts of several nodes
+abbrev pub among : NodeMaps → Finding
+among maps = record {
+  equal = λ entry. if is_wildcard entry.value
+      then option_map (λ w. w.reached) (find (λ w. same_entry w.entry entry) maps.wildcards.items)
+      else get same_entry maps.valued entry;
+  wildcard = λ entry. option_map (λ w. w.reached) (find (fits entry) maps.wildcards.items);
+  alone = λ entry. get same_text maps.alone entry.key;
+}
 
--- by the key alone
-abbrev pub alone_in : Level → Entry → Option Reached
-alone_in level entry = get same_text level.alone entry.key
+-- what one node reaches
+abbrev pub lone : Lone → Finding
+lone n = record {
+  equal = λ entry. if same_text n.key entry.key && is_this n.value entry.value then Some n.reached else None;
+  wildcard = λ entry. if same_text n.key entry.key && is_wildcard_for n.value entry.value then Some n.reached else None;
+  alone = λ entry. if same_text n.key entry.key && is_absent n.value then Some n.reached else None;
+}
+
+-- what no node reaches
+abbrev pub no_finding : Finding
+no_finding = record { equal = λ entry. None; wildcard = λ entry. None; alone = λ entry. None }
+
+-- what the nodes of a level reach
+abbrev pub finding_of : Level → Finding
+finding_of Empty = no_finding
+finding_of (One n) = lone n
+finding_of (Several maps) = among maps.value
 
 -- by the matching node
+abbrev pub reached_by : Finding → Entry → Option Reached
+reached_by f entry = option_or (f.equal entry) (option_or (f.wildcard entry) (f.alone entry))
+
+-- by the matching node of a level
 abbrev pub reached_in : Level → Entry → Option Reached
-reached_in level entry = option_or (equal_in level entry) (option_or (wildcard_in level entry) (alone_in level entry))
+reached_in level entry = reached_by (finding_of level) entry
 
 -- what is found through these entries from a level on
 abbrev pub walk : List Level → List Entry → Found → ℕ → Found
@@ -61,21 +88,21 @@ Agree levels None None = ⊤
 Agree levels (Some r) (Some n) = Reaches levels r n
 Agree levels r n = ⊥
 
--- a level reaches the nodes of a list, each in the way in which it matches
-pub record Holds (levels : List Level) (level : Level) (nodes : List NumberedNode) : Type 0 where
-  pub equal : (entry : Entry) → Agree levels (equal_in level entry) (find (λ n. has_value entry n.node) nodes)
-  pub wildcard : (entry : Entry) → Agree levels (wildcard_in level entry) (find (λ n. has_wildcard entry n.node) nodes)
-  pub alone : (entry : Entry) → Agree levels (alone_in level entry) (find (λ n. has_key_alone entry n.node) nodes)
+-- the nodes of a list are reached, each in the way in which it matches
+pub record Holds (levels : List Level) (f : Finding) (nodes : List NumberedNode) : Type 0 where
+  pub equal : (entry : Entry) → Agree levels (f.equal entry) (find (λ n. has_value entry n.node) nodes)
+  pub wildcard : (entry : Entry) → Agree levels (f.wildcard entry) (find (λ n. has_wildcard entry n.node) nodes)
+  pub alone : (entry : Entry) → Agree levels (f.alone entry) (find (λ n. has_key_alone entry n.node) nodes)
 
--- a level after a node with this key and value was put behind those that it held
-pub record Puts (key : List ℕ) (value : Option (List ℕ)) (r : Reached) (old new : Level) : Type 0 where
+-- what is reached after a node with this key and value was put behind others
+pub record Puts (key : List ℕ) (value : Option (List ℕ)) (r : Reached) (old new : Finding) : Type 0 where
   pub equal : (entry : Entry)
-      → equal_in new entry ≡ option_or (equal_in old entry) (if same_text key entry.key && is_this value entry.value then Some r else None)
+      → new.equal entry ≡ option_or (old.equal entry) (if same_text key entry.key && is_this value entry.value then Some r else None)
   pub wildcard : (entry : Entry)
-      → wildcard_in new entry ≡ option_or (wildcard_in old entry)
+      → new.wildcard entry ≡ option_or (old.wildcard entry)
       (if same_text key entry.key && is_wildcard_for value entry.value then Some r else None)
   pub alone : (entry : Entry)
-      → alone_in new entry ≡ option_or (alone_in old entry) (if same_text key entry.key && is_absent value then Some r else None)
+      → new.alone entry ≡ option_or (old.alone entry) (if same_text key entry.key && is_absent value then Some r else None)
 
 -- the names of a node
 abbrev pub names_of : NodeFields → RuleNames
@@ -101,7 +128,7 @@ pub record Extends (old new : List Level) : Type 0 where
   pub is : new ≡ old ++ more
 
 -- what a node put into a level leads to
-pub record PutsNode (levels : List Level) (number : ℕ) (b : Branch) (old new : Level) : Type 0 where
+pub record PutsNode (levels : List Level) (number : ℕ) (b : Branch) (old new : Finding) : Type 0 where
   pub reached : Reached
   pub reaches : Reaches levels reached (record { number = number; node = fields_of b; below = below_of b })
   pub puts : Puts (fields_of b).key (fields_of b).value reached old new

@@ -4,11 +4,12 @@ ghost use Rattle.std.specs.Option.{option_and_then};
 ghost use Rattle.rate_types.specs.declared.limits.TheConstants.{MOST_NODES};
 ghost use Rattle.descriptor_tree.specs.Trees.{node_view, forest_view, fields_of, below_of};
 ghost use Rattle.rule_lookup.specs.Rule.{policy_rule};
-ghost use Rattle.rule_lookup.specs.Level.{reached_in, walk, IsLevel, Extends, PutsNode, branch_names, level_names};
+ghost use Rattle.rule_lookup.specs.Level.{finding_of, reached_in, walk, IsLevel, Extends, PutsNode, branch_names, level_names};
 
 use crate::Found;
-use crate::level::{Level, Reached};
+use crate::level::Level;
 use crate::names::{RuleNames, copy_of};
+use crate::reached::Reached;
 use descriptor_tree::{Forest, Node, Policy};
 use rate_types::{Entry, OutOfMemory, RuleId, Text};
 use std::alloc::Global;
@@ -79,7 +80,7 @@ impl Levels {
         ensures names { OnOk result (self.new.names.items ≡ self.old.names.items ++ level_names (forest_view forest.now)) }
     {
         let nodes = forest.items();
-        let mut level = Level::new(alloc);
+        let mut level = Level::Empty;
         'nodes: for index in 0..nodes.len() {
             self.add_node(alloc, &mut level, &nodes[index])?;
         }
@@ -92,7 +93,8 @@ impl Levels {
     #[cycle(add)]
     fn add_node(&mut self, alloc: Global, level: &mut Level, node: &Node) -> Result<(), OutOfMemory>
         requires { length self.old.names.items + length (branch_names (node_view node.now)) ≤ MOST_NODES }
-        ensures puts { OnOk result (PutsNode self.new.levels.items (length self.old.names.items) (node_view node.now) level.old level.new) }
+        ensures puts { OnOk result (PutsNode self.new.levels.items (length self.old.names.items) (node_view node.now)
+            (finding_of level.old) (finding_of level.new)) }
         ensures grows { OnOk result (Extends self.old.levels.items self.new.levels.items) }
         ensures names { OnOk result (self.new.names.items ≡ self.old.names.items ++ branch_names (node_view node.now)) }
     {
@@ -101,7 +103,7 @@ impl Levels {
         let below = self.add_level(alloc, below_of(node))?;
         let key = key_of(node)?;
         let value = value_of(node)?;
-        level.put(key, value, Reached { found, below })?;
+        level.put(alloc, key, value, Reached { found, below })?;
         Ok(())
     }
 

@@ -1,14 +1,21 @@
 ghost use Rattle.descriptor_tree.specs.Trees.{node_view};
 ghost use Rattle.descriptor_tree.specs.Config.{IsWellFormedBranch};
-ghost use Rattle.std.specs.Prelude.{IfOk};
+ghost use Rattle.rate_types.specs.declared.limits.TheConstants.{MOST_CELLS};
+ghost use Rattle.std.specs.Prelude.{◌≤◌, IfOk};
 
 use descriptor_tree::{Config, Forest, Node, Policy, Texts, Tree};
-use rate_types::{Descriptor, Entries, Entry, Request, RuleId, Seconds, Text, Unit};
-use rls_core::{CheckFault, Code, Count, Plain, status_for};
+use drive_run::{Script, Setup, drive_script};
+use rate_types::{RuleId, Seconds, Text, Unit};
+use reply_text::{Outcome, Record};
+use rls_core::{Count, Total, status_for};
 use rule_lookup::Found;
 use std::alloc::Global;
-use std::sync::Arc;
+use std::hash::RandomState;
+use std::random::RandomSource;
+use std::sync::{Arc, Wait};
 use std::test::Fail;
+use std::thread::Threads;
+use worker_run::Open;
 
 // The node that limits each value of key `k` to so many hits a minute.
 fn node(alloc: Global, limit: u32) -> Result<Node, Fail>
@@ -43,102 +50,125 @@ fn config(alloc: Global, limit: u32) -> Result<Arc<Config>, Fail> {
     }
 }
 
-// A limiter from moment 65 whose domain `d` limits each value of key `k` to so many hits a minute.
-fn limiter(alloc: Global, limit: u32, cells: u32) -> Result<Plain, Fail> {
-    let config = config(alloc, limit)?;
-    Ok(Plain::make(alloc, config, cells, Seconds::capped(65), false)?)
+// What came of a line: of a check each status with its code, its count, what remains and the time to reset.
+fn shown(alloc: Global, record: &Record) -> Result<String, Fail> {
+    match &record.outcome {
+        Outcome::Checked(answer) => {
+            let mut text = String::from_str(alloc, if answer.over() { "over:" } else { "" })?;
+            for status in answer.items() {
+                text.push_str(format!(in alloc;
+                    "{:?} {:?} {} {};",
+                    status.code, status.count, status.remaining, status.reset
+                )?
+                .as_str())?;
+            }
+            Ok(text)
+        }
+        Outcome::Ticked(now) => Ok(format!(in alloc; "tick {};", now.get())?),
+        Outcome::Installed => Ok(format!(in alloc; "version {};", record.version)?),
+        Outcome::Full { live, held, wanted } => {
+            Ok(format!(in alloc; "full {live} {held} {wanted};")?)
+        }
+        _ => Err(Fail::new("another outcome")),
+    }
 }
 
-// A request of one hit for each of these values of key `k`, with these hits of their own.
-fn request(alloc: Global, values: &[(&str, Option<u32>)]) -> Result<Request, Fail> {
-    let mut descriptors = Vec::new(alloc);
-    for (value, hits) in values {
-        let mut entries = Vec::new(alloc);
-        entries.push(Entry {
-            key: Text::new(alloc, "k")?,
-            value: Text::new(alloc, value)?,
-        })?;
-        descriptors.push(Descriptor {
-            entries: Entries::build(entries)?,
-            own: None,
-            hits: *hits,
-        })?;
-    }
-    Ok(Request::build(Text::new(alloc, "d")?, descriptors, 1)?)
+// A total: the value of its counter, what was charged, and the start of its window.
+fn total(alloc: Global, total: &Total) -> Result<String, Fail> {
+    let [entry] = total.key.name.entries.items() else {
+        return Err(Fail::new("one entry"));
+    };
+    Ok(format!(in alloc;
+        "{}={} from {};",
+        entry.value.as_str(),
+        total.charged,
+        total.key.start.get()
+    )?)
 }
+
+// What comes of the lines of a script, and then the totals, where one worker runs it from moment 65 over so many cells, and domain
+// `d` limits each value of key `k` to so many hits a minute.
+fn run<R: RandomSource + Threads + Wait + Sync>(
+    rt: &R,
+    alloc: Global,
+    limit: u32,
+    cells: u32,
+    script: &[&str],
+) -> Result<String, Fail>
+    requires { (1 ≤ cells) × (cells ≤ MOST_CELLS) }
+{
+    let mut bytes = String::new(alloc);
+    for line in script {
+        bytes.push_str(line)?;
+        bytes.push('\n')?;
+    }
+    let script = Script::read(alloc, bytes.as_bytes())?;
+    let setup = Setup {
+        workers: 1,
+        cells,
+        start: Seconds::capped(65),
+        global_shadow: false,
+        seed: RandomState::new(rt)?,
+    };
+    let driven = drive_script(rt, alloc, script, config(alloc, limit)?, setup, &Open)?;
+    let mut text = String::new(alloc);
+    for record in driven.records.items() {
+        text.push_str(shown(alloc, record)?.as_str())?;
+    }
+    for one in driven.totals.items() {
+        text.push_str(total(alloc, one)?.as_str())?;
+    }
+    Ok(text)
+}
+
+const A: &str = r#"{"check":{"domain":"d","descriptors":[{"entries":[{"key":"k","value":"a"}]}]}}"#;
+
+const B: &str = r#"{"check":{"domain":"d","descriptors":[{"entries":[{"key":"k","value":"b"}]}]}}"#;
+
+// One counter, three times: by the request's hits, by 0 and by 3 of its own.
+const THREE: &str =
+    r#"{"check":{"domain":"d","descriptors":[{"entries":[{"key":"k","value":"a"}]},{"entries":[{"key":"k","value":"a"}],"hitsAddend":0},{"entries":[{"key":"k","value":"a"}],"hitsAddend":3}]}}"#;
+
+// A limit of 5.
+const RELOAD: &str =
+    r#"{"reload":[{"domain":"d","descriptors":[{"key":"k","rateLimit":{"unit":"MINUTE","requestsPerUnit":5}}]}]}"#;
 
 #[test]
 fn a_value_is_over_its_limit_until_its_window_ends(rt: HostRuntime) -> Result<(), Fail> {
-    let alloc = rt.alloc();
-    let mut plain = limiter(alloc, 2, 4)?;
-    let request = request(alloc, &[("a", None)])?;
-    for (now, count, code, remaining, reset) in [
-        (0, Count::Before(0), Code::Ok, 1, 55),
-        (70, Count::Before(1), Code::Ok, 0, 50),
-        (70, Count::Before(2), Code::OverLimit, 0, 50),
-        (119, Count::Seen(3), Code::OverLimit, 0, 1),
-        (120, Count::Before(0), Code::Ok, 1, 60),
-    ] {
-        plain.tick(Seconds::capped(now));
-        let reply = plain.check(&request)?;
-        assert_eq!(rt; reply.over, code == Code::OverLimit, "at {now}");
-        assert_eq!(rt; reply.statuses.len(), 1, "at {now}");
-        for status in reply.statuses.as_slice() {
-            assert_eq!(rt; status.count, count, "at {now}");
-            assert_eq!(rt; status.code, code, "at {now}");
-            assert_eq!(rt; status.remaining, remaining, "at {now}");
-            assert_eq!(rt; status.reset, reset, "at {now}");
-        }
-    }
+    let script = [
+        A,
+        r#"{"tick":70}"#,
+        A,
+        A,
+        r#"{"tick":119}"#,
+        A,
+        r#"{"tick":120}"#,
+        A,
+    ];
+    let want =
+        "Ok Before(0) 1 55;tick 70;Ok Before(1) 0 50;over:OverLimit Before(2) 0 50;tick 119;over:OverLimit Seen(3) 0 1;tick 120;Ok Before(0) 1 60;a=1 from 120;";
+    assert_eq!(rt; run(&rt, rt.alloc(), 2, 4, &script)?.as_str(), want);
     Ok(())
 }
 
 #[test]
 fn a_new_counter_without_a_cell_is_refused(rt: HostRuntime) -> Result<(), Fail> {
-    let alloc = rt.alloc();
-    let mut plain = limiter(alloc, 2, 1)?;
-    let first = request(alloc, &[("a", None)])?;
-    let second = request(alloc, &[("b", None)])?;
-    let _reply = plain.check(&first)?;
-    let full = CheckFault::CountersFull {
-        moment: Seconds::capped(65),
-        live: 1,
-        held: 0,
-        wanted: 1,
-    };
-    match plain.check(&second) {
-        Ok(_) => assert!(rt; false),
-        Err(fault) => assert_eq!(rt; fault, full),
-    }
-    let _reply = plain.check(&first)?;
-    plain.tick(Seconds::capped(120));
-    let _reply = plain.check(&second)?;
+    let script = [A, B, A, r#"{"tick":120}"#, B];
+    let want =
+        "Ok Before(0) 1 55;full 1 0 1;Ok Before(1) 0 55;tick 120;Ok Before(0) 1 60;b=1 from 120;";
+    assert_eq!(rt; run(&rt, rt.alloc(), 2, 1, &script)?.as_str(), want);
     Ok(())
 }
 
 #[test]
 fn totals_are_those_of_open_windows(rt: HostRuntime) -> Result<(), Fail> {
     let alloc = rt.alloc();
-    let mut plain = limiter(alloc, 2, 4)?;
-    for value in ["b", "a", "b"] {
-        let _reply = plain.check(&request(alloc, &[(value, None)])?)?;
-    }
-    let mut shown = String::new(alloc);
-    for total in plain.totals()?.items() {
-        let start = total.key.start.get();
-        for entry in total.key.name.entries.items() {
-            let line = format!(in alloc;
-                "{}={} from {start};",
-                entry.value.as_str(),
-                total.charged
-            )?;
-            shown.push_str(line.as_str())?;
-        }
-    }
-    assert_eq!(rt; shown.as_str(), "a=1 from 60;b=2 from 60;");
-    plain.tick(Seconds::capped(120));
-    assert_eq!(rt; plain.moment().get(), 120);
-    assert_eq!(rt; plain.totals()?.items().len(), 0);
+    let checks = "Ok Before(0) 1 55;Ok Before(0) 1 55;Ok Before(1) 0 55;";
+    let open = format!(in alloc; "{checks}a=1 from 60;b=2 from 60;")?;
+    assert_eq!(rt; run(&rt, alloc, 2, 4, &[B, A, B])?.as_str(), open.as_str());
+    let ended = format!(in alloc; "{checks}tick 120;")?;
+    let script = [B, A, B, r#"{"tick":120}"#];
+    assert_eq!(rt; run(&rt, alloc, 2, 4, &script)?.as_str(), ended.as_str());
     Ok(())
 }
 
@@ -157,38 +187,18 @@ fn a_descriptor_without_a_limit_counts_nothing(rt: HostRuntime) -> Result<(), Fa
 
 #[test]
 fn descriptors_of_one_counter_count_one_after_the_other(rt: HostRuntime) -> Result<(), Fail> {
-    let alloc = rt.alloc();
-    let mut plain = limiter(alloc, 1, 1)?;
-    let reply = plain.check(&request(alloc, &[("a", None), ("a", Some(0)), ("a", Some(3))])?)?;
-    let mut shown = String::new(alloc);
-    for status in reply.statuses.as_slice() {
-        shown.push_str(format!(in alloc; "{:?} {:?};", status.code, status.count)?.as_str())?;
-    }
-    assert_eq!(rt;
-        shown.as_str(),
-        "Ok Before(0);Ok Seen(1);OverLimit Before(1);"
-    );
-    assert!(rt; reply.over);
+    let want = "over:Ok Before(0) 0 55;Ok Seen(1) 0 55;OverLimit Before(1) 0 55;a=4 from 60;";
+    assert_eq!(rt; run(&rt, rt.alloc(), 1, 1, &[THREE])?.as_str(), want);
     Ok(())
 }
 
 #[test]
 fn a_reload_leaves_what_was_charged(rt: HostRuntime) -> Result<(), Fail> {
-    let alloc = rt.alloc();
-    let mut plain = limiter(alloc, 1, 4)?;
-    let request = request(alloc, &[("a", None)])?;
-    let _reply = plain.check(&request)?;
-    let _reply = plain.check(&request)?;
-    match plain.reload(config(alloc, 5)?) {
-        Ok(version) => assert_eq!(rt; version, 1),
-        Err(_) => assert!(rt; false),
-    }
-    let reply = plain.check(&request)?;
-    assert_eq!(rt; reply.version, 1);
-    assert_eq!(rt; plain.version(), 1);
-    for status in reply.statuses.as_slice() {
-        assert_eq!(rt; status.count, Count::Before(2));
-        assert_eq!(rt; status.remaining, 2);
-    }
+    let want =
+        "Ok Before(0) 0 55;over:OverLimit Before(1) 0 55;version 1;Ok Before(2) 2 55;a=3 from 60;";
+    assert_eq!(rt;
+        run(&rt, rt.alloc(), 1, 4, &[A, A, RELOAD, A])?.as_str(),
+        want
+    );
     Ok(())
 }

@@ -1,4 +1,5 @@
-//! Tests of configurations, rules, checks and the texts of requests and replies. They stand in a crate of their own, since a crate with tests is proved twice.
+//! Tests of configurations, rules, checks and the texts of requests and replies. They stand in a crate of their own, since a crate
+//! with tests is proved twice.
 #![tactic(auto)]
 
 #[cfg(test)]

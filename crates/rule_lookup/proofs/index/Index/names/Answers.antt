@@ -1,4 +1,4 @@
-use Rattle.std.proofs.Common.{List, ◌≡◌, ◌∙◌, ap, option_map}
+use Rattle.std.proofs.Common.{List, ◌∙◌, ap, option_map}
 use Rattle.std.specs.Arc.{arc_value}
 use Rattle.descriptor_tree.specs.Trees.{DomainTree}
 use Rattle.descriptor_tree.specs.Views.{config_view}

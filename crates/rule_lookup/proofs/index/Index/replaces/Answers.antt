@@ -7,5 +7,6 @@ use Rattle.rule_lookup.proofs.Looking.{names_replace}
 use Rattle.rule_lookup.proofs.index.Index.replaces.Goals as goal
 
 pub returns : goal.returns
-returns c = c.replaces.ensures ∙ names_replace (config_view (arc_value c.self.inside.config)) c.self.inside.roots.levels.names.items c.args.one.0 c.args.other.0 c.self.invariant.names
+returns c = c.replaces.ensures ∙ names_replace (config_view (arc_value c.self.inside.config)) c.self.inside.roots.levels.names.items c.args.one.0 c.args.other.0
+    c.self.invariant.names
     ∙ ap (λ (ts : List DomainTree). replaces ts c.args.one.0 c.args.other.0) c.self.view_is

@@ -1,12 +1,12 @@
 use Rattle.std.proofs.Common.{rules, ℕ, Option, ◌≡◌, ◌+◌, ◌≤◌, List, length, sym, subst, arith}
 use Rattle.rate_types.specs.declared.limits.TheConstants.{MOST_NODES}
 use Rattle.descriptor_tree.specs.Trees.{Branches, node_view, forest_view, fields_of, below_of}
-use Rattle.rule_lookup.specs.Level.{IsLevel, Puts, level_names, branch_names}
+use Rattle.rule_lookup.specs.Level.{IsLevel, Puts, finding_of, level_names, branch_names}
 use Rattle.rule_lookup.proofs.Filling.{filled_none, node_size, node_few, node_put, filled_more, filled_level, filled_grows, level_of}
 use Rattle.rule_lookup.proofs.levels.Levels.+add.Goals as goal
 
 pub add_level-nodes-init : goal.add_level-nodes-init
-add_level-nodes-init t c = filled_none c.items-nodes.result.now c.args.self.now.names.items c.args.self.now.levels.items c.new-level.result c.new-level.ensures
+add_level-nodes-init t c = filled_none c.items-nodes.result.now c.args.self.now.names.items c.args.self.now.levels.items
     (subst (λ (f : Branches). length c.args.self.now.names.items + length (level_names f) ≤ MOST_NODES) c.items-nodes.ensures c.requires)
 
 pub add_level-add_node-requires : goal.add_level-add_node-requires
@@ -44,10 +44,13 @@ pub add_node-returns-clause-puts : goal.add_node-returns-clause-puts
 add_node-returns-clause-puts t c =
     let level : IsLevel c.add_level.new.self.levels.items c.in_ok-below.below (length c.push.new.self.items) (below_of (node_view c.args.node.now)) =
     subst (λ (f : Branches). IsLevel c.add_level.new.self.levels.items c.in_ok-below.below (length c.push.new.self.items) f) c.below_of.ensures c.in_ok-below.ensures.level in
-    let value : Puts c.in_ok-key.key (fields_of (node_view c.args.node.now)).value (record { found = c.rule_at-found.result; below = c.in_ok-below.below }) c.args.level.now c.put.new.self =
-    subst (λ (v : Option (List ℕ)). Puts c.in_ok-key.key v (record { found = c.rule_at-found.result; below = c.in_ok-below.below }) c.args.level.now c.put.new.self)
+    let value : Puts c.in_ok-key.key (fields_of (node_view c.args.node.now)).value (record { found = c.rule_at-found.result; below = c.in_ok-below.below }) (finding_of c.args.level.now)
+    (finding_of c.put.new.self) =
+    subst (λ (v : Option (List ℕ)). Puts c.in_ok-key.key v (record { found = c.rule_at-found.result; below = c.in_ok-below.below }) (finding_of c.args.level.now)
+    (finding_of c.put.new.self))
     c.in_ok-value.ensures c.in_ok-put.ensures in
-    node_put (node_view c.args.node.now) c.args.self.now.names.items c.push.new.self.items c.add_level.new.self.levels.items c.args.level.now c.put.new.self
+    node_put (node_view c.args.node.now) c.args.self.now.names.items c.push.new.self.items c.add_level.new.self.levels.items (finding_of c.args.level.now) (finding_of c.put.new.self)
     c.rule_at-found.result c.in_ok-below.below c.in_ok-of.field-0 (search rules) c.in_ok-push.ensures.items level
-    (subst (λ (k : List ℕ). Puts k (fields_of (node_view c.args.node.now)).value (record { found = c.rule_at-found.result; below = c.in_ok-below.below }) c.args.level.now c.put.new.self)
+    (subst (λ (k : List ℕ). Puts k (fields_of (node_view c.args.node.now)).value (record { found = c.rule_at-found.result; below = c.in_ok-below.below }) (finding_of c.args.level.now)
+    (finding_of c.put.new.self))
     c.in_ok-key.ensures value)
