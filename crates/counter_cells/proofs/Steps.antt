@@ -1,5 +1,6 @@
 -- The steps as a table asks for them.
-use Rattle.std.proofs.Common.{◌≡◌, ℕ, zero, suc, ◌+◌, ◌-◌, ◌*◌, ◌/◌, ◌%◌, ◌^◌, ◌≤◌, ◌<◌, ◌==◌, ◌&&◌, max, Bool, true, false, List, [], ◌∷◌, length, set, cond, refl, sym, ap, ◌∙◌, subst}
+use Rattle.std.proofs.Common.{◌≡◌, ℕ, zero, suc, ◌+◌, ◌-◌, ◌*◌, ◌/◌, ◌%◌, ◌^◌, ◌≤◌, ◌<◌, ◌==◌, ◌&&◌, max, Bool, true, false, List, [], ◌∷◌, length, set, cond, refl}
+use Rattle.std.proofs.Common.{sym, ap, ◌∙◌, subst}
 use Rattle.std.proofs.Common.{arith, length-set, get_or, lit<, inl}
 use Rattle.std.specs.Prelude.{slice_index}
 use Rattle.std.proofs.lemmas.List.{get_or-set_other, get_or-set_same, set-get_or}
@@ -113,7 +114,7 @@ pair_le k c (p ∷ ps) = keep (p.0 == k) (p.1 == c) (pair_le k c ps)
 module _ (a : Setup) (slots id k : ℕ) (me : Me ℕ CellView) (within : k < a.cells) where
   pub charges : (h : ℕ) → 1 ≤ small_on k me.0 → (1 ≤ h) × (h ≤ most_hits)
       → Allows (Holds a) slots id me (count_at k) (λ n. (n + h) % 2 ^ 64)
-      (λ n w. (w.0 ≡ charged (count_cell (count_at k)) n h me.0) × (w.1 ≡ me.1) × Capped (claim_on (count_cell (count_at k)) me.0.good) n me.0)
+      (λ n w. (w.0 ≡ charged (count_cell (count_at k)) n h me.0) × (w.1 ≡ me.1) × Capped (claim_on (count_cell (count_at k)) me.0.good) n me.0 × (n + h < 2 ^ 64))
   charges h one hits s hold homes at small =
       let t = hold.0 in
       let ws = s.words in
@@ -137,6 +138,7 @@ module _ (a : Setup) (slots id k : ℕ) (me : Me ℕ CellView) (within : k < a.c
           refl,
           (let e : k ≡ count_cell (count_at k) = omega arith in subst (λ i. Capped (claim_on i me.0.good) n me.0) e
               (capped_at a t (gate_of ws) (count_of ws) s.views hold.3 id k me.0 at (let u = small_le k me.0.unused in (hold.3.each id me.0 at).under k (omega arith)))),
+          omega (arith, hold.3.few),
         ),
       )
 

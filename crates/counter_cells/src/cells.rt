@@ -148,13 +148,14 @@ impl<N: CellNaming> Cells<N> {
 
     /// Adds hits to the count of a pinned cell by one atomic addition, and answers the count before. The pass has looked
     /// at the count since its last charge there, and found at most 4,294,967,295.
-    /// All that the pass knows under the pin's claim is at most what is found.
+    /// All that the pass knows under the pin's claim is at most what is found. The count doesn't wrap.
     pub fn charge(&self, pass: &mut CellPass<N>, cell: u32, hits: u32) -> u64
         requires cell { cell < N.setup.cells }
         requires looked { 1 ≤ small_on cell pass.old }
         requires hits { 1 ≤ hits }
         ensures charged { pass.new ≡ charged cell result hits pass.old }
         ensures capped { Capped (claim_on cell pass.old.good) result pass.old }
+        ensures sum { result + hits < 2 ^ 64 }
     {
         let words = &self.table.shared;
         words.fetch_add::<Charges>(&mut pass.seat, word_index::count(cell), u64::from(hits))

@@ -98,13 +98,13 @@ impl Play<u8, CellView> for Looks {
 pub(crate) struct Charges;
 
 impl Play<u8, CellView> for Charges {
-    ghost use Rattle.std.specs.Prelude.{◌≡◌};
+    ghost use Rattle.std.specs.Prelude.{◌≡◌, ◌+◌, ◌<◌, ◌^◌};
     ghost use Rattle.counter_cells.specs.WordIndex.{count_cell};
     ghost use Rattle.counter_cells.specs.Views.{Capped, claim_on};
     ghost use Rattle.counter_cells.specs.Steps.{charged};
 
     ghost then = { λ s v n w. (w.0 ≡ charged (count_cell s.word) n s.first v.0) × (w.1 ≡ v.1)
-        × Capped (claim_on (count_cell s.word) v.0.good) n v.0 };
+        × Capped (claim_on (count_cell s.word) v.0.good) n v.0 × (n + s.first < 2 ^ 64) };
 }
 
 /// The claimer reads a gate, which shows the claim and the open bit that it knows.

@@ -1,5 +1,6 @@
 -- Where counters of the present windows are found.
-use Rattle.std.proofs.Common.{◌≡◌, ◌≢◌, ◌⊎◌, ℕ, zero, suc, ◌+◌, ◌≤◌, ◌<◌, ◌==◌, ◌&&◌, List, [], ◌∷◌, ◌++◌, length, set, Bool, true, false, true≢false, cond, refl, sym, ap, ◌∙◌, subst, arith}
+use Rattle.std.proofs.Common.{◌≡◌, ◌≢◌, ◌⊎◌, ℕ, zero, suc, ◌+◌, ◌≤◌, ◌<◌, ◌==◌, ◌&&◌, List, [], ◌∷◌, ◌++◌, length, set, Bool, true, false, true≢false, cond, refl, sym}
+use Rattle.std.proofs.Common.{ap, ◌∙◌, subst, arith}
 use Rattle.std.proofs.Common.{inl, inr, eq-eqb, length-set}
 use Rattle.std.specs.Prelude.{Option, Some, None, IfSome, IfNone}
 use Rattle.std.specs.HashMap.{get, spare}
@@ -111,7 +112,8 @@ index_start last claims units zero_is none four new = record {
 }
 
 -- the same claims at the same moment
-pub index_to : (last last' : ℕ) (claims claims' : List Claim) (units : List UnitIndex) → last' ≡ last → claims' ≡ claims → IndexFits last claims units → IndexFits last' claims' units
+pub index_to : (last last' : ℕ) (claims claims' : List Claim) (units : List UnitIndex) → last' ≡ last → claims' ≡ claims → IndexFits last claims units
+    → IndexFits last' claims' units
 index_to last last' claims claims' units at same f = subst (λ l. IndexFits l claims' units) (sym at) (subst (λ l. IndexFits last l units) (sym same) f)
 
 unit_turned : (u last m : ℕ) (claims : List Claim) (x y : UnitIndex) → last ≤ m → NoneLater last claims → Turns m x y → UnitFits u last claims x → UnitFits u m claims y
@@ -209,7 +211,8 @@ unit_other u last claims t k z key ne f = record {
     differs n same = not_same z.key (key_at last n)
         (λ e. ne (ap (λ (q : CounterKey). unit_rank q.name.unit) (sym key ∙ e) ∙ ap unit_rank same ∙ f.rank))
 
-unit_more : (u last : ℕ) (claims : List Claim) (x y : UnitIndex) (k : CounterName) (s : Spot) (z : Claim) → unit_rank k.unit ≡ u → z.key ≡ key_at last k → z.cell ≡ s.cell → z.claim ≡ s.claim
+unit_more : (u last : ℕ) (claims : List Claim) (x y : UnitIndex) (k : CounterName) (s : Spot) (z : Claim) → unit_rank k.unit ≡ u → z.key ≡ key_at last k → z.cell ≡ s.cell → z.claim
+    ≡ s.claim
     → y.unit ≡ x.unit → y.end ≡ x.end → ((n : CounterName) → get same_name y.spots n ≡ cond (same_name k n) (Some s) (get same_name x.spots n)) → UnitFits u last claims x
     → UnitFits u last (claims ++ z ∷ []) y
 unit_more u last claims x y k s z rank key cell claim unit end put f = record {

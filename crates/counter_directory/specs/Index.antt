@@ -30,7 +30,8 @@ pub record Turns (moment : ℕ) (x y : UnitIndex) : Type 0 where
 
 -- so each unit's
 abbrev pub TurnEach : ℕ → List UnitIndex → List UnitIndex → Type 0
-TurnEach moment units new = (u : ℕ) (y : UnitIndex) → get_elem? new u ≡ some y → (x : UnitIndex) × (get_elem? units u ≡ some x) × Turns moment x y
+TurnEach moment units new = (u : ℕ) (y : UnitIndex) → get_elem? new u ≡ some y → (x : UnitIndex) × (get_elem? units u ≡ some x)
+    × Turns moment x y
 
 -- the same is found, in the same window
 pub record FindsTheSame (x y : UnitIndex) : Type 0 where
@@ -40,7 +41,8 @@ pub record FindsTheSame (x y : UnitIndex) : Type 0 where
 
 -- so each unit's
 abbrev pub FindTheSame : List UnitIndex → List UnitIndex → Type 0
-FindTheSame units new = (u : ℕ) (y : UnitIndex) → get_elem? new u ≡ some y → (x : UnitIndex) × (get_elem? units u ≡ some x) × FindsTheSame x y
+FindTheSame units new = (u : ℕ) (y : UnitIndex) → get_elem? new u ≡ some y → (x : UnitIndex) × (get_elem? units u ≡ some x)
+    × FindsTheSame x y
 
 -- there is room for as many new counters in each
 abbrev pub HaveRoom : ℕ → List UnitIndex → Type 0

@@ -19,4 +19,5 @@ open_at last e = record { key = key_at last e.0; spot = e.1 }
 pub record AreOpenClaims (last : ℕ) (claims : List Claim) (xs : List OpenClaim) : Type 0 where
   pub are : (i : ℕ) (x : OpenClaim) → get_elem? xs i ≡ some x
       → (last < window_end_of x.key) × (1 ≤ bindings_of x.key x.spot.cell x.spot.claim claims)
-  pub all : (q : CounterKey) → last < window_end_of q → 1 ≤ claims_of q claims → (i : ℕ) × (x : OpenClaim) × (get_elem? xs i ≡ some x) × (x.key ≡ q)
+  pub all : (q : CounterKey) → last < window_end_of q → 1 ≤ claims_of q claims → (i : ℕ) × (x : OpenClaim) × (get_elem? xs i ≡ some x)
+      × (x.key ≡ q)

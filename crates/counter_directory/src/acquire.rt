@@ -34,7 +34,8 @@ impl<'a, N: CellNaming, R: Wait> Act<KeptTable<N>> for Acquire<'a, N, R> {
 
     ghost did = { λ p b r q c. (q.cell_pass.ghost_name ≡ p.cell_pass.ghost_name) × (q.acquired.ghost_name ≡ p.acquired.ghost_name)
         × Acquires (record { cells = N.setup.cells; claims = b.table.value.pool.most; held = p.most_held }) p.names.now p.cell_pass.now
-        (record { used = length b.table.value.claimer.used_claims; claims = b.table.value.pool.claims }) (answered r q.acquired.now) q.cell_pass.now
+        (record { used = length b.table.value.claimer.used_claims; claims = b.table.value.pool.claims }) (answered r q.acquired.now)
+        q.cell_pass.now
         (record { used = length c.table.value.claimer.used_claims; claims = c.table.value.pool.claims })
         × IsLawfulClaims N.setup.cells c.table.value.pool.most c.table.value.pool.claims
         × (last_of 0 b.table.value.pool.claims ≤ q.cell_pass.now.moment) };

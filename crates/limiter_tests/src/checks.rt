@@ -17,6 +17,7 @@ use std::sync::Wait;
 use std::test::Fail;
 
 mod known_counters;
+mod seen_values;
 
 // A descriptor of one entry, with these hits of its own.
 fn descriptor(
@@ -100,11 +101,12 @@ fn refuses<N: CellNaming, R: Wait>(
     }
 }
 
-// A limiter of two hits a minute for each value of `k`, with its passes.
-fn open<N: CellNaming, R: RandomSource>(
+// A limiter of so many hits a minute for each value of `k`, with its passes.
+fn open_with<N: CellNaming, R: RandomSource>(
     rt: &R,
     alloc: Global,
     opened: OpenedCells,
+    limit: u32,
     claims_max: u64,
 ) -> Result<(Limiter<N>, Vec<Pass<N>>), Fail>
     requires name { (table_of opened ≡ N.table) × (setup_of opened ≡ N.setup) }
@@ -118,7 +120,23 @@ fn open<N: CellNaming, R: RandomSource>(
         global_shadow: false,
     };
     let seed = RandomState::new(rt)?;
-    Ok(Limiter::<N>::make(alloc, config(alloc, 2)?, opened, limits, seed)?)
+    Ok(Limiter::<N>::make(alloc, config(alloc, limit)?, opened, limits, seed)?)
+}
+
+// A limiter of two hits a minute.
+fn open<N: CellNaming, R: RandomSource>(
+    rt: &R,
+    alloc: Global,
+    opened: OpenedCells,
+    claims_max: u64,
+) -> Result<(Limiter<N>, Vec<Pass<N>>), Fail>
+    requires name { (table_of opened ≡ N.table) × (setup_of opened ≡ N.setup) }
+    requires passes { (1 ≤ N.setup.passes) × (N.setup.passes ≤ 2) }
+    requires claims_max { (1 ≤ claims_max) × (claims_max ≤ MOST_CLAIM_NUMBERS) }
+    ensures count { IfOk result (λ r. vec_len r.1 ≡ r.0.passes) }
+    ensures passes { IfOk result (λ r. All (λ p. p.limiter ≡ r.0.id) r.1.items) }
+{
+    open_with::<N, _>(rt, alloc, opened, 2, claims_max)
 }
 
 // One of the passes.

@@ -20,22 +20,25 @@ module _ {A V : Type 0} (items : A → List ℕ) where
 
   pub lookup_entry-shown : (test : List ℕ → Bool) (es : List (A × V)) → lookup_entry test (map shown es) ≡ option_map shown (lookup_entry (λ a. test (items a)) es)
   lookup_entry-shown test [] = refl
-  lookup_entry-shown test (e ∷ es) = (elim (test (items e.0)) as (λ b. cond b (Some (shown e)) (lookup_entry test (map shown es)) ≡ option_map shown (cond b (Some e) (lookup_entry (λ a. test (items a)) es))) [
-    | true ↦ refl
-    | false ↦ lookup_entry-shown test es
-  ])
+  lookup_entry-shown test (e ∷ es)
+      = (elim (test (items e.0)) as (λ b. cond b (Some (shown e)) (lookup_entry test (map shown es)) ≡ option_map shown (cond b (Some e) (lookup_entry (λ a. test (items a)) es))) [
+        | true ↦ refl
+        | false ↦ lookup_entry-shown test es
+      ])
 
   pub remove_entry-shown : (test : List ℕ → Bool) (es : List (A × V)) → remove_entry test (map shown es) ≡ map shown (remove_entry (λ a. test (items a)) es)
   remove_entry-shown test [] = refl
-  remove_entry-shown test (e ∷ es) = (elim (test (items e.0)) as (λ b. cond b (map shown es) (shown e ∷ remove_entry test (map shown es)) ≡ map shown (cond b es (e ∷ remove_entry (λ a. test (items a)) es))) [
-    | true ↦ refl
-    | false ↦ ap (λ (r : List (List ℕ × V)). shown e ∷ r) (remove_entry-shown test es)
-  ])
+  remove_entry-shown test (e ∷ es)
+      = (elim (test (items e.0)) as (λ b. cond b (map shown es) (shown e ∷ remove_entry test (map shown es)) ≡ map shown (cond b es (e ∷ remove_entry (λ a. test (items a)) es))) [
+        | true ↦ refl
+        | false ↦ ap (λ (r : List (List ℕ × V)). shown e ∷ r) (remove_entry-shown test es)
+      ])
 
   pub promoted-shown : (test : List ℕ → Bool) (es : List (A × V)) → promoted test (map shown es) ≡ map shown (promoted (λ a. test (items a)) es)
   promoted-shown test es = rw (lookup_entry-shown test es, remove_entry-shown test es) (by (lookup_entry (λ a. test (items a)) es))
     where
-      by : (o : Option (A × V)) → option_map_or (λ e. e ∷ map shown (remove_entry (λ a. test (items a)) es)) (option_map shown o) (map shown es) ≡ map shown (option_map_or (λ e. e ∷ remove_entry (λ a. test (items a)) es) o es)
+      by : (o : Option (A × V)) → option_map_or (λ e. e ∷ map shown (remove_entry (λ a. test (items a)) es)) (option_map shown o) (map shown es)
+          ≡ map shown (option_map_or (λ e. e ∷ remove_entry (λ a. test (items a)) es) o es)
       by None = refl
       by (Some e) = refl
 
@@ -43,18 +46,21 @@ module _ {A V : Type 0} (test : A → Bool) where
   -- an entry that is found
   pub found_is : (es : List (A × V)) (e : A × V) → lookup_entry test es ≡ Some e → (lookup test es ≡ Some e.1) × (test e.0 ≡ true) × (length (remove_entry test es) + 1 ≡ length es)
   found_is [] e h = cc
-  found_is (f ∷ es) e h = (elim (test f.0) as (λ y. test f.0 ≡ y → cond y (Some f) (lookup_entry test es) ≡ Some e → (cond y (Some f.1) (lookup test es) ≡ Some e.1) × (test e.0 ≡ true) × (length (cond y es (f ∷ remove_entry test es)) + 1 ≡ length (f ∷ es))) [
-    | true ↦ λ t h. let same : f ≡ e = cc in (ap (λ (x : A × V). Some x.1) same, subst (λ (g : A × V). test g.0 ≡ true) same t, omega arith)
-    | false ↦ λ t h. let r = found_is es e h in let n = r.2 in (r.0, r.1, omega arith)
-  ]) refl h
+  found_is (f ∷ es) e h
+      = (elim (test f.0) as (λ y. test f.0 ≡ y → cond y (Some f) (lookup_entry test es) ≡ Some e → (cond y (Some f.1) (lookup test es) ≡ Some e.1) × (test e.0 ≡ true)
+      × (length (cond y es (f ∷ remove_entry test es)) + 1 ≡ length (f ∷ es))) [
+        | true ↦ λ t h. let same : f ≡ e = cc in (ap (λ (x : A × V). Some x.1) same, subst (λ (g : A × V). test g.0 ≡ true) same t, omega arith)
+        | false ↦ λ t h. let r = found_is es e h in let n = r.2 in (r.0, r.1, omega arith)
+      ]) refl h
 
   -- none is found
   pub none_is : (es : List (A × V)) → lookup test es ≡ None → (lookup_entry test es ≡ None) × (remove_entry test es ≡ es)
   none_is [] h = (refl, refl)
-  none_is (f ∷ es) h = (elim (test f.0) as (λ y. cond y (Some f.1) (lookup test es) ≡ None → (cond y (Some f) (lookup_entry test es) ≡ None) × (cond y es (f ∷ remove_entry test es) ≡ f ∷ es)) [
-    | true ↦ λ h. absurd (cc)
-    | false ↦ λ h. let r = none_is es h in (r.0, ap (λ (l : List (A × V)). f ∷ l) r.1)
-  ]) h
+  none_is (f ∷ es) h
+      = (elim (test f.0) as (λ y. cond y (Some f.1) (lookup test es) ≡ None → (cond y (Some f) (lookup_entry test es) ≡ None) × (cond y es (f ∷ remove_entry test es) ≡ f ∷ es)) [
+        | true ↦ λ h. absurd (cc)
+        | false ↦ λ h. let r = none_is es h in (r.0, ap (λ (l : List (A × V)). f ∷ l) r.1)
+      ]) h
 
   -- whoever is found by the value is found with its key
   pub by_value : (es : List (A × V)) (v : V) → lookup test es ≡ Some v → (e : A × V) × (lookup_entry test es ≡ Some e) × (e.1 ≡ v)
@@ -108,6 +114,7 @@ module _ {A V : Type 0} (items : A → List ℕ) where
   distinct-shown [] h = h
   distinct-shown (e ∷ es) h = (each es h.0, distinct-shown es h.1)
     where
-      each : (es : List (A × V)) → AllByRecursion (λ (y : A). is_key (items e.0) (items y) ≡ false) (keys_of es) → AllByRecursion (λ (y : List ℕ). is_key (items e.0) y ≡ false) (keys_of (map (shown items) es))
+      each : (es : List (A × V)) → AllByRecursion (λ (y : A). is_key (items e.0) (items y) ≡ false) (keys_of es) → AllByRecursion (λ (y : List ℕ). is_key (items e.0) y ≡ false)
+          (keys_of (map (shown items) es))
       each [] h = tt
       each (f ∷ es) h = (h.0, each es h.1)

@@ -1,5 +1,6 @@
 -- A question and a note leave known what all uses leave.
-use Rattle.std.proofs.Common.{◌≡◌, ◌||◌, ℕ, zero, suc, ◌+◌, ◌≤◌, ◌==◌, max, Bool, true, false, cond, List, [], ◌∷◌, length, take, Option, Some, None, is_some, refl, sym, ◌∙◌, ap, subst, arith, eq-eqb}
+use Rattle.std.proofs.Common.{◌≡◌, ◌||◌, ℕ, zero, suc, ◌+◌, ◌≤◌, ◌==◌, max, Bool, true, false, cond, List, [], ◌∷◌, length, take, Option, Some, None, is_some, refl}
+use Rattle.std.proofs.Common.{sym, ◌∙◌, ap, subst, arith, eq-eqb}
 use Rattle.std.proofs.lemmas.Bool.Decides.{nat_tests}
 use Rattle.std.proofs.lemmas.List.{take-map, take_all, length-map}
 use native.Mathlib.Decide.{dec_le}
@@ -13,7 +14,7 @@ use Rattle.counter_cells.specs.declared.answers.Spot.{Spot}
 use Rattle.over_cache.specs.declared.known.Known.{Known}
 use Rattle.over_cache.specs.Entries.{Entries, is_key, known_of, without, asked, noted_over, known_then, noted}
 use Rattle.over_cache.specs.Uses.{Use, Asked, Noted, is_among, keys_used, notes_of, under_claim, EndsAt, IsGreatest, Remembers}
-use Rattle.over_cache.proofs.Shown.{found_is}
+use Rattle.over_cache.proofs.Shown.{found_is, by_value}
 
 -- ---- keys
 
@@ -42,10 +43,11 @@ module _ (test : List ℕ → Bool) where
   take_removed : (n : ℕ) (ks : List (List ℕ)) → take n (remove_key test (take (suc n) ks)) ≡ take n (remove_key test ks)
   take_removed zero ks = refl
   take_removed (suc n) [] = refl
-  take_removed (suc n) (k ∷ ks) = (elim (test k) as (λ b. take (suc n) (cond b (take (suc n) ks) (k ∷ remove_key test (take (suc n) ks))) ≡ take (suc n) (cond b ks (k ∷ remove_key test ks))) [
-    | true ↦ take_twice (suc n) ks
-    | false ↦ ap (λ (l : List (List ℕ)). k ∷ l) (take_removed n ks)
-  ])
+  take_removed (suc n) (k ∷ ks)
+      = (elim (test k) as (λ b. take (suc n) (cond b (take (suc n) ks) (k ∷ remove_key test (take (suc n) ks))) ≡ take (suc n) (cond b ks (k ∷ remove_key test ks))) [
+        | true ↦ take_twice (suc n) ks
+        | false ↦ ap (λ (l : List (List ℕ)). k ∷ l) (take_removed n ks)
+      ])
 
 found_key : (key : List ℕ) (es : Entries) (e : List ℕ × Known) → lookup_entry (is_key key) es ≡ Some e → key ≡ e.0
 found_key key es e h = (bytes_decides key e.0).0 (found_is (is_key key) es e h).1
@@ -70,10 +72,11 @@ module _ (k key : List ℕ) (other : is_key k key ≡ false) where
 
   known_without : (es : Entries) → known_of k (without key es) ≡ known_of k es
   known_without [] = refl
-  known_without (e ∷ es) = (elim (is_key key e.0) as (λ b. is_key key e.0 ≡ b → lookup (is_key k) (cond b es (e ∷ without key es)) ≡ cond (is_key k e.0) (Some e.1) (lookup (is_key k) es)) [
-    | true ↦ λ t. ap (λ b. cond b (Some e.1) (lookup (is_key k) es)) (sym (apart e.0 t))
-    | false ↦ λ t. ap (λ (r : Option Known). cond (is_key k e.0) (Some e.1) r) (known_without es)
-  ]) refl
+  known_without (e ∷ es)
+      = (elim (is_key key e.0) as (λ b. is_key key e.0 ≡ b → lookup (is_key k) (cond b es (e ∷ without key es)) ≡ cond (is_key k e.0) (Some e.1) (lookup (is_key k) es)) [
+        | true ↦ λ t. ap (λ b. cond b (Some e.1) (lookup (is_key k) es)) (sym (apart e.0 t))
+        | false ↦ λ t. ap (λ (r : Option Known). cond (is_key k e.0) (Some e.1) r) (known_without es)
+      ]) refl
 
 known_taken : (k : List ℕ) (n : ℕ) (es : Entries) (v : Known) → known_of k (take n es) ≡ Some v → known_of k es ≡ Some v
 known_taken k zero es v h = absurd (cc)
@@ -108,7 +111,8 @@ asked_keys key uses es keys = pick (lookup_entry (is_key key) es) refl
     among : is_among key (take 1024 (keys_used uses)) ≡ is_some (known_of key es)
     among = ap (is_among key) (sym keys) ∙ any_found (is_key key) es
 
-    pick : (o : Option (List ℕ × Known)) → lookup_entry (is_key key) es ≡ o → keys_of (option_map_or (λ e. e ∷ without key es) o es) ≡ take 1024 (cond (is_among key (take 1024 (keys_used uses))) (key ∷ remove_key (is_key key) (keys_used uses)) (keys_used uses))
+    pick : (o : Option (List ℕ × Known)) → lookup_entry (is_key key) es ≡ o → keys_of (option_map_or (λ e. e ∷ without key es) o es)
+        ≡ take 1024 (cond (is_among key (take 1024 (keys_used uses))) (key ∷ remove_key (is_key key) (keys_used uses)) (keys_used uses))
     pick None is =
         let no : is_among key (take 1024 (keys_used uses)) ≡ false = among ∙ ap is_some (none_back es is) in
         keys ∙ ap (λ b. take 1024 (cond b (key ∷ remove_key (is_key key) (keys_used uses)) (keys_used uses))) (sym no)
@@ -125,7 +129,8 @@ asked_keys key uses es keys = pick (lookup_entry (is_key key) es) refl
         let yes : is_among key (take 1024 (keys_used uses)) ≡ true = among ∙ ap is_some f.0 in
         let most : length es ≤ 1024 = subst (λ m. m ≤ 1024) (sym (sym (length-map es (λ (x : List ℕ × Known). x.0)) ∙ ap length keys)) (take_len_le 1024 (keys_used uses)) in
         let short : length (keys_of (without key es)) ≤ 1023 = subst (λ m. m ≤ 1023) (sym (length-map (without key es) (λ (x : List ℕ × Known). x.0))) (omega arith) in
-        ap (λ (l : List (List ℕ)). e.0 ∷ l) (sym (take_all 1023 (keys_of (without key es)) short) ∙ ap (take 1023) (keys_without (is_key key) es ∙ ap (remove_key (is_key key)) keys) ∙ take_removed (is_key key) 1023 (keys_used uses))
+        ap (λ (l : List (List ℕ)). e.0 ∷ l) (sym (take_all 1023 (keys_of (without key es)) short)
+        ∙ ap (take 1023) (keys_without (is_key key) es ∙ ap (remove_key (is_key key)) keys) ∙ take_removed (is_key key) 1023 (keys_used uses))
         ∙ ap (λ (j : List ℕ). j ∷ take 1023 (remove_key (is_key key) (keys_used uses))) (sym (found_key key es e is))
         ∙ ap (λ b. take 1024 (cond b (key ∷ remove_key (is_key key) (keys_used uses)) (keys_used uses))) (sym yes)
 
@@ -176,11 +181,14 @@ next_note old ns spot seen g = pick (old.spot.claim == spot.claim) refl
         record {
           spot = refl;
           noted = subst (λ l. 1 ≤ total (λ (m : Known). one_if (m.seen == max old.seen seen)) l) (sym first) (either older (dec_le old.seen seen));
-          greatest = subst (AllByRecursion (λ (m : Known). m.seen ≤ max old.seen seen)) (sym first) ((omega arith), each_le old.seen (max old.seen seen) (omega arith) (under_claim spot.claim ns) below);
+          greatest = subst (AllByRecursion (λ (m : Known). m.seen ≤ max old.seen seen)) (sym first)
+              ((omega arith), each_le old.seen (max old.seen seen) (omega arith) (under_claim spot.claim ns) below);
         }
       where
-        either : 1 ≤ total (λ (m : Known). one_if (m.seen == old.seen)) (under_claim spot.claim ns) → Dec (old.seen ≤ seen) → 1 ≤ one_if (seen == max old.seen seen) + total (λ (m : Known). one_if (m.seen == max old.seen seen)) (under_claim spot.claim ns)
-        either older (yes le) = let m : max old.seen seen ≡ seen = omega arith in let o : one_if (seen == max old.seen seen) ≡ 1 = ap one_if (eq-eqb seen (max old.seen seen) (sym m)) in omega arith
+        either : 1 ≤ total (λ (m : Known). one_if (m.seen == old.seen)) (under_claim spot.claim ns) → Dec (old.seen ≤ seen) → 1 ≤ one_if (seen == max old.seen seen)
+            + total (λ (m : Known). one_if (m.seen == max old.seen seen)) (under_claim spot.claim ns)
+        either older (yes le) = let m : max old.seen seen ≡ seen = omega arith in let o : one_if (seen == max old.seen seen) ≡ 1
+            = ap one_if (eq-eqb seen (max old.seen seen) (sym m)) in omega arith
         either older (no gt) =
             let m : max old.seen seen ≡ old.seen = omega arith in
             let o = subst (λ x. 1 ≤ total (λ (m : Known). one_if (m.seen == x)) (under_claim spot.claim ns)) (sym m) older in
@@ -191,12 +199,15 @@ next_note old ns spot seen g = pick (old.spot.claim == spot.claim) refl
         record {
           spot = refl;
           noted = subst (λ l. 1 ≤ total (λ (m : Known). one_if (m.seen == seen)) l) (sym first) (omega arith);
-          greatest = subst (AllByRecursion (λ (m : Known). m.seen ≤ seen)) (sym first) (subst (λ l. AllByRecursion (λ (m : Known). m.seen ≤ seen) (n ∷ l)) (sym none) ((omega arith), tt));
+          greatest = subst (AllByRecursion (λ (m : Known). m.seen ≤ seen)) (sym first)
+              (subst (λ l. AllByRecursion (λ (m : Known). m.seen ≤ seen) (n ∷ l)) (sym none) ((omega arith), tt));
         }
 
-noted_keys : (key : List ℕ) (spot : Spot) (seen : ℕ) (uses : List Use) (es : Entries) → keys_of es ≡ take 1024 (keys_used uses) → keys_of (noted key spot seen es) ≡ take 1024 (keys_used (Noted key spot seen ∷ uses))
+noted_keys : (key : List ℕ) (spot : Spot) (seen : ℕ) (uses : List Use) (es : Entries) → keys_of es ≡ take 1024 (keys_used uses) → keys_of (noted key spot seen es)
+    ≡ take 1024 (keys_used (Noted key spot seen ∷ uses))
 noted_keys key spot seen uses es keys =
-    ap (λ (l : List (List ℕ)). key ∷ l) (sym (take-map (λ (x : List ℕ × Known). x.0) 1023 (without key es)) ∙ ap (take 1023) (keys_without (is_key key) es ∙ ap (remove_key (is_key key)) keys) ∙ take_removed (is_key key) 1023 (keys_used uses))
+    ap (λ (l : List (List ℕ)). key ∷ l) (sym (take-map (λ (x : List ℕ × Known). x.0) 1023 (without key es))
+    ∙ ap (take 1023) (keys_without (is_key key) es ∙ ap (remove_key (is_key key)) keys) ∙ take_removed (is_key key) 1023 (keys_used uses))
 
 pub noted_remembers : (key : List ℕ) (spot : Spot) (seen : ℕ) (uses : List Use) (es : Entries) → Remembers uses es → Remembers (Noted key spot seen ∷ uses) (noted key spot seen es)
 noted_remembers key spot seen uses es r = record {
@@ -210,16 +221,20 @@ noted_remembers key spot seen uses es r = record {
     among : (k : List ℕ) → is_among k (take 1024 (keys_used uses)) ≡ is_some (known_of k es)
     among k = ap (is_among k) (sym r.keys) ∙ any_found (is_key k) es
 
-    here : (k : List ℕ) (v : Known) → (o : Option Known) → known_of k es ≡ o → known_then o spot seen ≡ v → IsGreatest v (new ∷ cond (is_among k (take 1024 (keys_used uses))) (notes_of k uses) [])
+    here : (k : List ℕ) (v : Known) → (o : Option Known) → known_of k es ≡ o → known_then o spot seen ≡ v
+        → IsGreatest v (new ∷ cond (is_among k (take 1024 (keys_used uses))) (notes_of k uses) [])
     here k v None is e =
         subst (λ b. IsGreatest v (new ∷ cond b (notes_of k uses) [])) (sym (among k ∙ ap is_some is)) (subst (λ x. IsGreatest x (new ∷ [])) e (first_note spot seen))
     here k v (Some old) is e =
-        subst (λ b. IsGreatest v (new ∷ cond b (notes_of k uses) [])) (sym (among k ∙ ap is_some is)) (subst (λ x. IsGreatest x (new ∷ notes_of k uses)) e (next_note old (notes_of k uses) spot seen (r.values k old is)))
+        subst (λ b. IsGreatest v (new ∷ cond b (notes_of k uses) [])) (sym (among k ∙ ap is_some is))
+        (subst (λ x. IsGreatest x (new ∷ notes_of k uses)) e (next_note old (notes_of k uses) spot seen (r.values k old is)))
 
-    by : (k : List ℕ) (v : Known) → (b : Bool) → is_key k key ≡ b → cond (is_key k key) (Some (known_then (known_of key es) spot seen)) (known_of k (take 1023 (without key es))) ≡ Some v → IsGreatest v (cond (is_key k key) (new ∷ cond (is_among k (take 1024 (keys_used uses))) (notes_of k uses) []) (notes_of k uses))
+    by : (k : List ℕ) (v : Known) → (b : Bool) → is_key k key ≡ b → cond (is_key k key) (Some (known_then (known_of key es) spot seen)) (known_of k (take 1023 (without key es)))
+        ≡ Some v → IsGreatest v (cond (is_key k key) (new ∷ cond (is_among k (take 1024 (keys_used uses))) (notes_of k uses) []) (notes_of k uses))
     by k v true t h =
         let g = rw t at h in
-        let e : known_then (known_of k es) spot seen ≡ v = ap (λ j. known_then (known_of j es) spot seen) (same_key k key t) ∙ some_is (known_then (known_of key es) spot seen) v g in
+        let e : known_then (known_of k es) spot seen ≡ v = ap (λ j. known_then (known_of j es) spot seen) (same_key k key t) ∙ some_is (known_then (known_of key es) spot seen) v g
+        in
         rw t (here k v (known_of k es) refl e)
       where
         some_is : (a b : Known) → Some a ≡ Some b → a ≡ b
@@ -227,6 +242,24 @@ noted_remembers key spot seen uses es r = record {
     by k v false t h =
         let g = rw t at h in
         rw t (r.values k v (sym (known_without k key t es) ∙ known_taken k 1023 (without key es) v g))
+
+-- a note of a known key leaves what is known of another one
+pub noted_others : (k key : List ℕ) (spot : Spot) (seen : ℕ) (es : Entries) (v : Known) → is_key k key ≡ false → known_of key es ≡ Some v → length es ≤ 1024
+    → known_of k (noted key spot seen es) ≡ known_of k es
+noted_others k key spot seen es v other h few =
+    let b = by_value (is_key key) es v h in
+    let n = (found_is (is_key key) es b.0 b.1).2 in
+    ap (λ b. cond b (Some (known_then (known_of key es) spot seen)) (known_of k (take 1023 (without key es)))) other
+    ∙ ap (known_of k) (take_all 1023 (without key es) (omega arith))
+    ∙ known_without k key other es
+
+-- what is known of another key after a note was known of it before
+pub noted_before : (k key : List ℕ) (spot : Spot) (seen : ℕ) (es : Entries) (v : Known) → is_key k key ≡ false → known_of k (noted key spot seen es) ≡ Some v
+    → known_of k es ≡ Some v
+noted_before k key spot seen es v other h =
+    let g : known_of k (take 1023 (without key es)) ≡ Some v
+    = sym (ap (λ b. cond b (Some (known_then (known_of key es) spot seen)) (known_of k (take 1023 (without key es)))) other) ∙ h in
+    sym (known_without k key other es) ∙ known_taken k 1023 (without key es) v g
 
 -- before any use nothing is known
 pub none_remembered : Remembers [] []

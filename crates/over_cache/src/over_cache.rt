@@ -1,6 +1,7 @@
-ghost use Rattle.std.specs.Prelude.{◌≡◌, List, [], ◌∷◌, false, length, None, IfOk, IsSome, IsOk, OnOk, OnErr};
+ghost use Rattle.std.specs.Prelude.{◌≡◌, ℕ, List, [], ◌∷◌, false, length, Some, is_some, IfOk, IsSome, IsOk, OnOk, OnErr};
 ghost use Rattle.std.specs.Bool.{IsTrue};
-ghost use Rattle.over_cache.specs.Entries.{known_of, asked, noted, AreEntries};
+ghost use Rattle.over_cache.specs.Entries.{is_key, known_of, asked, noted, AreEntries};
+ghost use Rattle.over_cache.specs.declared.known.Known.{Known as KnownValue};
 ghost use Rattle.over_cache.specs.Uses.{Use, Asked, Noted, Remembers};
 
 use crate::Known;
@@ -63,10 +64,15 @@ impl OverCache {
         self.keys.get(key).copied()
     }
 
-    // Notes a spot and a value of a key that is known. It takes no memory.
-    fn note_known(&mut self, key: &[u8], spot: Spot, seen: u64) -> bool
+    /// Notes a spot and a value of a key as [`OverCache::note`] does, where the key is known. Else nothing changes. It takes no
+    /// memory.
+    pub fn note_known(&mut self, key: &[u8], spot: Spot, seen: u64) -> bool
+        ensures known { result ≡ is_some (known_of key.now self.old) }
         ensures noted { IsTrue result → self.new ≡ noted key.now spot seen self.old }
-        ensures other { result ≡ false → (self.new ≡ self.old) × (known_of key.now self.old ≡ None) }
+        ensures others { (other : List ℕ) → is_key other key.now ≡ false → known_of other self.new ≡ known_of other self.old }
+        ensures remembers { IsTrue result
+            → (uses : List Use) → Remembers uses self.old → Remembers (Noted key.now spot seen ∷ uses) self.new }
+        ensures unknown { result ≡ false → self.new ≡ self.old }
     {
         let _number = self.keys.len();
         let Some(known) = self.keys.get_mut(key) else {
@@ -82,6 +88,8 @@ impl OverCache {
     /// It takes no memory where the key is known. A refused note changes nothing.
     pub fn note(&mut self, key: &[u8], spot: Spot, seen: u64) -> Result<(), OutOfMemory>
         ensures noted { OnOk result (self.new ≡ noted key.now spot seen self.old) }
+        ensures others { OnOk result ((other : List ℕ) (known : KnownValue) → is_key other key.now ≡ false
+            → known_of other self.new ≡ Some known → known_of other self.old ≡ Some known) }
         ensures remembers { OnOk result
             ((uses : List Use) → Remembers uses self.old → Remembers (Noted key.now spot seen ∷ uses) self.new) }
         ensures refused { OnErr result (self.new ≡ self.old) }

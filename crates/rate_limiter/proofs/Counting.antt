@@ -43,7 +43,8 @@ has_status limit unit shadow rule moment hits spot (Before before) v w h = rw h.
 has_status limit unit shadow rule moment hits spot NoCount v w h = absurd h
 
 counted_good : (spot : Spot) (limit hits : ℕ) (c : Count) (v w : CellView) → CountedAt spot limit hits c v w → w.good ≡ v.good
-counted_good spot limit hits (Seen seen) v w h = ap (λ (x : CellView). x.good) h.2
+counted_good spot limit hits (Seen seen) v w (b, inl l) = ap (λ (x : CellView). x.good) l.1
+counted_good spot limit hits (Seen seen) v w (b, inr k) = ap (λ (x : CellView). x.good) k.1.2
 counted_good spot limit hits (Before before) v w h = ap (λ (x : CellView). x.good) h.1.charge
 counted_good spot limit hits NoCount v w h = absurd h
 
@@ -75,12 +76,13 @@ ready_still cells v w p same h = record {
   there = still p.spot h.there;
 }
   where
-    still : (o : Option Spot) → IfSome o (λ s. (s.cell < cells) × (1 ≤ good_on s.cell v)) → IfSome o (λ s. (s.cell < cells) × (1 ≤ good_on s.cell w))
+    still : (o : Option Spot) → IfSome o (λ s. (s.cell < cells) × (1 ≤ good_on s.cell v) × (claim_on s.cell v.good ≡ s.claim))
+        → IfSome o (λ s. (s.cell < cells) × (1 ≤ good_on s.cell w) × (claim_on s.cell w.good ≡ s.claim))
     still None g = tt
     still (Some s) g = (
       g.0,
-      subst (λ (l : List (ℕ × ℕ)). 1 ≤ total (λ (p : ℕ × ℕ). one_if (p.0 == s.cell)) l)
-          (sym same) g.1,
+      subst (λ (l : List (ℕ × ℕ)). 1 ≤ total (λ (p : ℕ × ℕ). one_if (p.0 == s.cell)) l) (sym same) g.1,
+      ap (claim_on s.cell) same ∙ g.2,
     )
 
 -- what caps a view caps one that looked and charged as much
@@ -122,14 +124,26 @@ seen_front claim hits seen u v w k (inr h) = inr (h.0, know_front claim seen u v
 module _ (claims : List Claim) (request : RequestParts) (moment : ℕ) where
   looks_of : (key : CounterKey) (s : Spot) (limit hits seen : ℕ) (v w : CellView) → 1 ≤ bindings_of key s.cell s.claim claims
       → claim_on s.cell v.good ≡ s.claim → CountedAt s limit hits (Seen seen) v w → Counted claims key limit hits (Seen seen) v w
-  looks_of key s limit hits seen v w bound under h = (
+  looks_of key s limit hits seen v w bound under (b, inl l) = (
     s,
     bound,
     inl (record {
-      looks = ap (λ (x : CellView). x.looks) h.2 ∙ ap (λ n. v.looks ++ (n, seen) ∷ []) under;
-      charges = ap (λ (x : CellView). x.charges) h.2;
-      most = subst (λ n. Capped n seen v) under h.1;
+      looks = ap (λ (x : CellView). x.looks) l.1 ∙ ap (λ n. v.looks ++ (n, seen) ∷ []) under;
+      charges = ap (λ (x : CellView). x.charges) l.1;
+      most = subst (λ n. Capped n seen v) under l.0;
     }),
+  )
+  looks_of key s limit hits seen v w bound under (b, inr k) = (
+    s,
+    bound,
+    inr (
+      k.0,
+      record {
+        keeps = record { looks = ap (λ (x : CellView). x.looks) k.1.2; charges = ap (λ (x : CellView). x.charges) k.1.2 };
+        had = k.1.0;
+        most = k.1.1;
+      },
+    ),
   )
 
   charges_of : (key : CounterKey) (s : Spot) (limit hits before : ℕ) (v w : CellView) → 1 ≤ bindings_of key s.cell s.claim claims

@@ -1,6 +1,6 @@
 -- Counters that are known, and their pins.
 use Rattle.std.proofs.Common.{◌≡◌, ◌⊎◌, inl, inr, ℕ, zero, suc, ◌+◌, ◌-◌, ◌≤◌, ◌<◌, ◌==◌, ◌&&◌, List, [], ◌∷◌, ◌++◌, length, map, take, get_or, cond}
-use Rattle.std.proofs.Common.{Bool, true, false, true≢false, Option, Some, None, IfSome, refl, sym, ap, ◌∙◌, subst, arith, eq-eqb, length-append}
+use Rattle.std.proofs.Common.{Bool, true, false, true≢false, max, Option, Some, None, IfSome, refl, sym, ap, ◌∙◌, subst, arith, eq-eqb, length-append}
 use Rattle.std.proofs.lemmas.List.{append-nil, map-append, length-map}
 use Rattle.std.proofs.lemmas.List.Elements.{All-push}
 use Rattle.std.proofs.lemmas.Bool.Decides.{nat_tests}
@@ -16,15 +16,9 @@ use Rattle.rate_types.specs.Sums.{total, one_if}
 use Rattle.rate_types.specs.Counters.{same_counter}
 use Rattle.rate_types.specs.declared.counter_key.CounterKey.{CounterKey}
 use Rattle.rate_types.specs.declared.counter_name.CounterName.{CounterName}
-use Rattle.rate_types.specs.declared.entries.Entry.{Entry}
-use Rattle.rate_types.specs.declared.request.Descriptor.{Descriptor}
-use Rattle.rate_types.specs.declared.unit.Unit.{Unit}
-use Rattle.window_keys.specs.Counter.{counter_of}
-use Rattle.window_keys.specs.Key.{key_bytes}
-use Rattle.window_keys.specs.Window.{window_start}
 use Rattle.window_keys.proofs.Counters.{same_is, is_same}
 use Rattle.told_list.specs.declared.rule.TokenView.{TokenView}
-use Rattle.counter_cells.specs.Views.{good_on, good_under, claim_on, held_on}
+use Rattle.counter_cells.specs.Views.{good_on, good_under, claim_on, held_on, Capped}
 use Rattle.counter_cells.specs.Steps.{number_of, last_moment, good_pin}
 use Rattle.counter_cells.specs.declared.view.CellView.{CellView}
 use Rattle.counter_cells.specs.declared.view.Tick.{Tick}
@@ -40,8 +34,9 @@ use Rattle.counter_directory.specs.Spots.{Bound}
 use Rattle.over_cache.specs.Entries.{Entries, is_key, known_of, known_then, asked, noted, without}
 use Rattle.over_cache.specs.declared.known.Known.{Known}
 use Rattle.over_cache.specs.declared.over_cache.TheConstants.{MOST_KNOWN}
-use Rattle.rate_limiter.specs.Known.{key_of, key_bindings, pins_under, IsBoundEntry, AreBoundEntries, SameSpots, spot_in, PinsGrow}
-use Rattle.rate_limiter.specs.Sought.{IsOwnSpot}
+use Rattle.rate_limiter.specs.Known.{key_of, key_bindings, pins_under, IsBoundEntry, AreBoundEntries, AreSeenEntries, SameSpots, spot_in, PinsGrow}
+use Rattle.rate_limiter.specs.Values.{HasValue, HasSeen}
+use Rattle.rate_limiter.specs.Sought.{SameKnown, IsOwnSpot}
 use Rattle.rate_limiter.specs.PassStep.{HasClaimed}
 use Rattle.rate_limiter.specs.Pinned.{HasWaited, SameButPins, ArePinned, HasPins, HasPinCause, HasNoPins}
 use Rattle.rate_limiter.proofs.Lists.{total_more, total_at, each_more, prefix_self, prefix_then}
@@ -64,13 +59,6 @@ key_bound q bytes only cell number (x ∷ xs) =
     let o = one_less (is_key bytes (key_of x.key)) (same_counter x.key q) ((x.cell == cell) && (x.claim == number))
     (λ h. is_same x.key q (only x.key (sym (same_bytes bytes (key_of x.key) h)))) in
     omega arith
-
-pub one_counter : (q : CounterKey) (bytes : List ℕ)
-    → ((d : List ℕ) (es : List Entry) (u : Unit) (s : ℕ) → key_bytes d es u s ≡ bytes → (d ≡ q.name.domain) × (es ≡ q.name.entries) × (u ≡ q.name.unit) × (s ≡ q.start))
-    → (x : CounterKey) → key_of x ≡ bytes → x ≡ q
-one_counter q bytes f x e =
-    let r = f x.name.domain x.name.entries x.name.unit x.start e in
-    λ i. record { name = record { domain = r.0 i; entries = r.1 i; unit = r.2 i }; start = r.3 i }
 
 -- ---- entries
 
@@ -149,8 +137,11 @@ asked_known k key entries = by (lookup_entry (is_key key) entries) refl
     by None is = refl
     by (Some e) is = asked_at k key entries e is
 
-pub asked_spots : (key : List ℕ) (entries new : Entries) → new ≡ asked key entries → SameSpots entries new
-asked_spots key entries new is k = ap (λ (l : Entries). spot_in (known_of k l)) is ∙ ap spot_in (asked_known k key entries)
+pub asked_same : (key : List ℕ) (entries new : Entries) → new ≡ asked key entries → SameKnown entries new
+asked_same key entries new is k = ap (known_of k) is ∙ asked_known k key entries
+
+pub spots_same : (entries new : Entries) → SameKnown entries new → SameSpots entries new
+spots_same entries new same key = ap spot_in (same key)
 
 -- what is known of a key holds of it
 pub known_all : (P : List ℕ → Known → Type 0) (key : List ℕ) (entries : Entries) → AllByRecursion (λ e. P e.0 e.1) entries → (k : Known)
@@ -171,14 +162,11 @@ entry_bound cells claims pins q bytes only entries h k e =
     let m = b.bound in
     record { there = b.there; bound = omega arith; had = b.had }
 
--- what is found by the bytes that were written for a descriptor's counter
-pub found_bound : (cells : ℕ) (claims : List Claim) (pins : List (ℕ × ℕ)) (named domain : List ℕ) (d : Descriptor) (unit : Unit) (moment begin : ℕ) (out bytes : List ℕ)
-    → ((n : List ℕ) (es : List Entry) (u : Unit) (s : ℕ) → key_bytes n es u s ≡ out → (n ≡ named) × (es ≡ d.entries) × (u ≡ unit) × (s ≡ begin))
-    → named ≡ domain → begin ≡ window_start unit moment → bytes ≡ out → (entries : Entries) → AreBoundEntries cells claims pins entries → (k : Known)
-    → known_of bytes entries ≡ Some k → IsOwnSpot cells claims pins (counter_of domain d unit moment) k.spot
-found_bound cells claims pins named domain d unit moment begin out bytes of same at is entries h k e =
-    entry_bound cells claims pins (counter_of domain d unit moment) bytes
-    (one_counter (counter_of domain d unit moment) bytes (λ n es u s b. let r = of n es u s (b ∙ is) in (r.0 ∙ same, r.1, r.2, r.3 ∙ at))) entries h k e
+-- the spot of what is known of a counter
+pub own_entry : (cells : ℕ) (claims : List Claim) (pins : List (ℕ × ℕ)) (q : CounterKey) → ((x : CounterKey) → key_of x ≡ key_of q → x ≡ q) → (entries : Entries)
+    → AreBoundEntries cells claims pins entries → (o : Option Known) → o ≡ known_of (key_of q) entries → IfSome o (λ k. IsOwnSpot cells claims pins q k.spot)
+own_entry cells claims pins q only entries h None e = tt
+own_entry cells claims pins q only entries h (Some k) e = entry_bound cells claims pins q (key_of q) only entries h k (sym e)
 
 -- ---- pins
 
@@ -432,6 +420,39 @@ pub note_bound : {A E : Type 0} (cells : ℕ) (claims : List Claim) (pins : List
 note_bound cells claims pins q s bytes entries new (Ok a) ok err is own h =
     subst (AreBoundEntries cells claims pins) (sym (ok ∙ ap (λ b. noted b s 0 entries) is)) (noted_all cells claims pins q s 0 entries own h)
 note_bound cells claims pins q s bytes entries new (Err e) ok err is own h = subst (AreBoundEntries cells claims pins) (sym err) h
+
+-- the values that are known stay, and none is noted
+module _ (v : CellView) (key : List ℕ) (s : Spot) (entries new : Entries) (h : AreSeenEntries v entries) where
+  over_seen : (b : Bool) (old : Known) → (old.spot.claim == s.claim) ≡ b → known_of key entries ≡ Some old → HasSeen s.claim (cond b (max old.seen 0) 0) v
+  over_seen true old e is pos =
+      let claim : old.spot.claim ≡ s.claim = grind (arith, nat_tests) in
+      let seen : old.seen ≡ max old.seen 0 = omega arith in
+      subst (λ n. HasValue s.claim n v × Capped s.claim n v) seen (subst (λ n. HasValue n old.seen v × Capped n old.seen v) claim (h key old is (omega arith)))
+  over_seen false old e is pos = absurd (omega arith)
+
+  then_seen : (o : Option Known) → known_of key entries ≡ o → HasSeen (known_then o s 0).spot.claim (known_then o s 0).seen v
+  then_seen None is = λ pos. absurd (omega arith)
+  then_seen (Some old) is = over_seen (old.spot.claim == s.claim) old refl is
+
+  noted_seen : new ≡ noted key s 0 entries
+      → ((other : List ℕ) (known : Known) → is_key other key ≡ false → known_of other new ≡ Some known → known_of other entries ≡ Some known) → AreSeenEntries v new
+  noted_seen is others k known at = by (is_key k key) refl
+    where
+      by : (b : Bool) → is_key k key ≡ b → HasSeen known.spot.claim known.seen v
+      by true e =
+          let here : known_of key new ≡ Some (known_then (known_of key entries) s 0)
+          = ap (known_of key) is
+          ∙ ap (λ b. cond b (Some (known_then (known_of key entries) s 0)) (known_of key (take (MOST_KNOWN - 1) (without key entries)))) ((bytes_decides key key).1 refl) in
+          let there = sym here ∙ sym (ap (λ l. known_of l new) (same_bytes k key e)) ∙ at in
+          let same : known_then (known_of key entries) s 0 ≡ known = cc in
+          subst (λ (x : Known). HasSeen x.spot.claim x.seen v) same (then_seen (known_of key entries) refl)
+      by false e = h k known (others k known e at)
+
+pub note_seen : {A E : Type 0} (v : CellView) (key : List ℕ) (s : Spot) (entries new : Entries) (r : Result A E) → OnOk r (new ≡ noted key s 0 entries) → OnErr r (new ≡ entries)
+    → OnOk r ((other : List ℕ) (known : Known) → is_key other key ≡ false → known_of other new ≡ Some known → known_of other entries ≡ Some known)
+    → AreSeenEntries v entries → AreSeenEntries v new
+note_seen v key s entries new (Ok a) ok err others h = noted_seen v key s entries new h ok others
+note_seen v key s entries new (Err e) ok err others h = subst (AreSeenEntries v) (sym err) h
 
 pub map_at : {A B : Type 0} (f : A → B) (xs : List A) (i : ℕ) (d : A) → i < length xs → get_elem? (map f xs) i ≡ some (f (get_or xs i d))
 map_at f [] i d lt = absurd (omega arith)

@@ -17,4 +17,7 @@ pub mod Totalling
 pub mod Knowing
 pub mod Seeking
 pub mod Opening
+pub mod Claiming
+pub mod Seeing
+pub mod Resting
 pub mod Sent

@@ -30,7 +30,7 @@ use Rattle.rls_core.specs.declared.reply.Reply.{Reply}
 use Rattle.rate_limiter.proofs.Renewing.{shown_renews}
 
 -- what stands at a place of a list, after a function
-map_some : {A B : Type 0} (f : A → B) (xs : List A) (i : ℕ) (x : A) → get_elem? xs i ≡ some x → get_elem? (map f xs) i ≡ some (f x)
+pub map_some : {A B : Type 0} (f : A → B) (xs : List A) (i : ℕ) (x : A) → get_elem? xs i ≡ some x → get_elem? (map f xs) i ≡ some (f x)
 map_some f [] i x e = absurd (some-ne-none x (sym e))
 map_some f (y ∷ xs) zero x e = ap (λ z. some (f z)) (some-injective y x e)
 map_some f (y ∷ xs) (suc i) x e = map_some f xs i x e

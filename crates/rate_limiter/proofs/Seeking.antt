@@ -1,6 +1,7 @@
 -- What is known of the counters of a request, and pins of it.
-use Rattle.std.proofs.Common.{◌≡◌, ◌≢◌, ◌⊎◌, inl, inr, ℕ, zero, suc, ◌+◌, ◌≤◌, ◌<◌, ◌==◌, ◌&&◌, List, [], ◌∷◌, ◌++◌, length, Option, Some, None, refl, sym, ap, ◌∙◌, subst, arith}
-use Rattle.std.specs.Prelude.{IsSome}
+use Rattle.std.proofs.Common.{◌≡◌, ◌≢◌, ◌⊎◌, inl, inr, ℕ, zero, suc, ◌+◌, ◌≤◌, ◌<◌, ◌==◌, ◌&&◌, List, [], ◌∷◌, ◌++◌, length, true≢false, Option, Some, None, refl, sym, ap, ◌∙◌, subst, arith, length-append}
+use Rattle.std.specs.Prelude.{IsSome, IfSome}
+use Rattle.std.specs.List.{AllByRecursion}
 use Rattle.std.proofs.lemmas.List.{append-nil}
 use mathlib.Core.Option.{some, some-injective, some-ne-none}
 use lib.ListN.{get_elem?}
@@ -15,6 +16,7 @@ use Rattle.rule_lookup.specs.declared.found.Found.TheVariants.{NoRule, Unlimited
 use Rattle.counter_cells.specs.declared.view.CellView.{CellView}
 use Rattle.counter_cells.specs.declared.answers.Spot.{Spot}
 use Rattle.counter_directory.specs.declared.claim.Claim.{Claim}
+use Rattle.counter_directory.specs.Claims.{bindings_of}
 use Rattle.counter_directory.specs.Keys.{key_at}
 use Rattle.over_cache.specs.Entries.{Entries, known_of}
 use Rattle.over_cache.specs.declared.known.Known.{Known}
@@ -24,19 +26,28 @@ use Rattle.rate_limiter.specs.Pinned.{ArePinned}
 use Rattle.rate_limiter.specs.declared.missed.Missed.{Missed}
 use Rattle.rate_limiter.specs.declared.missed.Missed.TheVariants.{Unknown, Reclaimed}
 use Rattle.rate_limiter.specs.Sought.{HasMissedFirst, HasMissedKnown, HasMissCause, IsOwnSpot, IsOwnAt, AreOwn, IsKnownAt, AreKnown, KnowsUnder, IsUnknownAt, IsAt}
+use Rattle.rate_limiter.specs.Sought.{SameKnown, seen_in, IsSeenOf, IsSeenAt}
 use Rattle.rate_limiter.proofs.Knowing.{at_less, at_append}
 
 -- ---- one key
 
-pub spot_none : (q : CounterKey) (bytes : List ℕ) (entries : Entries) → bytes ≡ key_of q → known_of bytes entries ≡ None → None ≡ spot_of q entries
-spot_none q bytes entries is e = sym (ap spot_in (subst (λ b. known_of b entries ≡ None) is e))
-
-pub spot_some : (q : CounterKey) (bytes : List ℕ) (entries : Entries) (k : Known) → bytes ≡ key_of q → known_of bytes entries ≡ Some k
-    → Some k.spot ≡ spot_of q entries
-spot_some q bytes entries k is e = sym (ap spot_in (subst (λ b. known_of b entries ≡ Some k) is e))
+pub same_known_then : (a b c : Entries) → SameKnown a b → SameKnown b c → SameKnown a c
+same_known_then a b c p q key = q key ∙ p key
 
 pub spots_then : (a b c : Entries) → SameSpots a b → SameSpots b c → SameSpots a c
 spots_then a b c p q key = q key ∙ p key
+
+-- what is known of a counter, and of which spot
+pub seen_found : (cells : ℕ) (claims : List Claim) (pins : List (ℕ × ℕ)) (q : CounterKey) (entries : Entries) (o : Option Known) → known_of (key_of q) entries ≡ o
+    → IfSome o (λ k. IsOwnSpot cells claims pins q k.spot) → IsSeenOf claims entries q (seen_in o)
+seen_found cells claims pins q entries None is own = record {
+  value = ap seen_in is;
+  bound = λ known at. absurd (let e : None ≡ Some known = sym is ∙ at in cc);
+}
+seen_found cells claims pins q entries (Some k) is own = record {
+  value = ap seen_in is;
+  bound = λ known at. let e : k ≡ known = cc in subst (λ (x : Known). 1 ≤ bindings_of q x.spot.cell x.spot.claim claims) e own.bound;
+}
 
 -- ---- places
 
@@ -51,19 +62,19 @@ module _ {A : Type 0} where
   pub one_at : (xs : List A) (i : ℕ) (x y : A) → get_elem? xs i ≡ some x → get_elem? xs i ≡ some y → x ≡ y
   one_at xs i x y a b = some-injective x y (sym a ∙ b)
 
--- one more spot is found, for the next descriptor
-pub each_next : (P : Descriptor → Found → Option Spot → Type 0) (ds : List Descriptor) (fs : List Found) (spots : List (Option Spot)) (d : Descriptor) (f : Found) (o : Option Spot)
-    → ((i : ℕ) (e : Descriptor) (g : Found) (p : Option Spot) → get_elem? ds i ≡ some e → get_elem? fs i ≡ some g → get_elem? spots i ≡ some p → P e g p)
-    → get_elem? ds (length spots) ≡ some d → get_elem? fs (length spots) ≡ some f → P d f o
-    → (i : ℕ) (e : Descriptor) (g : Found) (p : Option Spot) → get_elem? ds i ≡ some e → get_elem? fs i ≡ some g → get_elem? (spots ++ o ∷ []) i ≡ some p → P e g p
-each_next P ds fs spots d f o all at_d at_f here i e g p a b c = by (at_append spots o i p c)
+-- one more is found, for the next descriptor
+pub each_next : {A : Type 0} (P : Descriptor → Found → A → Type 0) (ds : List Descriptor) (fs : List Found) (xs : List A) (d : Descriptor) (f : Found) (o : A)
+    → ((i : ℕ) (e : Descriptor) (g : Found) (p : A) → get_elem? ds i ≡ some e → get_elem? fs i ≡ some g → get_elem? xs i ≡ some p → P e g p)
+    → get_elem? ds (length xs) ≡ some d → get_elem? fs (length xs) ≡ some f → P d f o
+    → (i : ℕ) (e : Descriptor) (g : Found) (p : A) → get_elem? ds i ≡ some e → get_elem? fs i ≡ some g → get_elem? (xs ++ o ∷ []) i ≡ some p → P e g p
+each_next {A} P ds fs xs d f o all at_d at_f here i e g p a b c = by (at_append xs o i p c)
   where
-    by : (get_elem? spots i ≡ some p) ⊎ ((i ≡ length spots) × (o ≡ p)) → P e g p
+    by : (get_elem? xs i ≡ some p) ⊎ ((i ≡ length xs) × (o ≡ p)) → P e g p
     by (inl x) = all i e g p a b x
     by (inr x) =
-        let d_is : d ≡ e = one_at ds (length spots) d e at_d (subst (λ n. get_elem? ds n ≡ some e) x.0 a) in
-        let f_is : f ≡ g = one_at fs (length spots) f g at_f (subst (λ n. get_elem? fs n ≡ some g) x.0 b) in
-        subst (λ (q : Option Spot). P e g q) x.1 (subst (λ (h : Found). P e h o) f_is (subst (λ (h : Descriptor). P h f o) d_is here))
+        let d_is : d ≡ e = one_at ds (length xs) d e at_d (subst (λ n. get_elem? ds n ≡ some e) x.0 a) in
+        let f_is : f ≡ g = one_at fs (length xs) f g at_f (subst (λ n. get_elem? fs n ≡ some g) x.0 b) in
+        subst (λ (q : A). P e g q) x.1 (subst (λ (h : Found). P e h o) f_is (subst (λ (h : Descriptor). P h f o) d_is here))
 
 -- ---- what is found
 
@@ -74,6 +85,22 @@ module _ (request : RequestParts) (moment : ℕ) where
   known_since old entries d NoRule o same h = tt
   known_since old entries d (Unlimited rule) o same h = tt
   known_since old entries d (Limited limit unit shadow rule) o same h = (sym (same (key_of (counter_of request.domain d unit moment))) ∙ h.0, tt)
+
+  module _ (claims : List Claim) (old entries : Entries) (same : SameKnown old entries) where
+    -- values that are known are those that were known
+    pub seen_since : (d : Descriptor) (f : Found) (n : ℕ) → IsSeenAt claims request moment entries d f n → IsSeenAt claims request moment old d f n
+    seen_since d NoRule n h = tt
+    seen_since d (Unlimited rule) n h = tt
+    seen_since d (Limited limit unit shadow rule) n h =
+        let key = key_of (counter_of request.domain d unit moment) in
+        (record { value = sym (ap seen_in (same key)) ∙ h.0.value; bound = λ k is. h.0.bound k (same key ∙ is) }, tt)
+
+    pub seen_still : (d : Descriptor) (f : Found) (n : ℕ) → IsSeenAt claims request moment old d f n → IsSeenAt claims request moment entries d f n
+    seen_still d NoRule n h = tt
+    seen_still d (Unlimited rule) n h = tt
+    seen_still d (Limited limit unit shadow rule) n h =
+        let key = key_of (counter_of request.domain d unit moment) in
+        (record { value = ap seen_in (same key) ∙ h.0.value; bound = λ k is. h.0.bound k (sym (same key) ∙ is) }, tt)
 
   pub unknown_since : (old entries : Entries) (d : Descriptor) (f : Found) → SameSpots old entries → IsUnknownAt request moment entries d f → IsUnknownAt request moment old d f
   unknown_since old entries d f same h = record { q = h.q; counter = h.counter; unknown = sym (same (key_of h.q)) ∙ h.unknown }
@@ -163,3 +190,21 @@ module _ (request : RequestParts) (moment : ℕ) (cells : ℕ) (claims : List Cl
         },
         knows_under request moment cells claims pins entries ds fs spots (length ds) (omega arith) own known,
       )
+
+-- a miss of counters that are known is one more pin that missed
+module _ (request : RequestParts) (moment : ℕ) (entries : Entries) (ds : List Descriptor) (fs : List Found) where
+  unknown_none : (d : Descriptor) (f : Found) → IsUnknownAt request moment entries d f → KnowsCounter request moment entries d f → ⊥
+  unknown_none d f u known =
+      let h = subst (λ (l : List CounterKey). AllByRecursion (λ q. IsSome (spot_of q entries)) l) u.counter known in
+      let e = subst (λ (o : Option Spot). IsSome o) u.unknown h.0 in
+      true≢false (sym e)
+
+  pub missed_more : (m : Missed) (v w : CellView) → HasMissCause request moment entries ds fs m v w → KnowsUnder (length ds) request moment entries ds fs
+      → length v.others < length w.others
+  missed_more (Unknown place) v w c knows =
+      let lt = at_less ds place c.0.d c.0.at.descriptor in
+      absurd (unknown_none c.0.d c.0.f c.0.unknown (knows place c.0.d c.0.f lt c.0.at.descriptor c.0.at.found))
+  missed_more (Reclaimed place claim) v w c knows =
+      let e = ap length c.0.missed.noted in
+      let n = length-append v.others ((record { cell = c.0.s.cell; claim = claim; is_open = c.0.missed.is_open }) ∷ []) in
+      omega arith

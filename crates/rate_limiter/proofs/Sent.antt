@@ -18,7 +18,7 @@ use Rattle.counter_cells.proofs.cells.Cells.TheSendSync as cells
 use Rattle.counter_directory.proofs.directory.Directory.TheSendSync as directory
 use Rattle.counter_directory.proofs.claim_table.KeptTable.TheSendSync as kept_table
 use Rattle.told_list.proofs.seen.Seen.TheSendSync as seen
-use Rattle.over_cache.proofs.over_cache.OverCache.TheSendSync as over_cache
+use Rattle.rate_limiter.proofs.known_counters.KnownCounters.TheSendSync as known_counters
 use Rattle.rate_limiter.specs.contracts.pass.Pass as pass
 use Rattle.rate_limiter.specs.contracts.pass.Pass.TheInside as pass_inside
 use Rattle.rate_limiter.specs.contracts.limiter.Limiter as limiter
@@ -53,8 +53,8 @@ pass_send N naming = view_send (pass_inside.the_row N naming) _ _ _ _ (declared_
     (
       cell_pass.the_send N naming,
       (
-        over_cache.the_send,
-        (search (sendable, crosses) depth 30, (search sendable, tt)),
+        known_counters.the_send,
+        (search sendable, (search sendable, tt)),
       ),
     ),
   ),

@@ -1,5 +1,5 @@
 -- From the parts of a check to the step of its pass.
-use Rattle.std.proofs.Common.{◌≡◌, ℕ, ◌≤◌, ◌&&◌, not, List, [], ◌∷◌, ◌++◌, map, Option, Some, None, IfSome, sym, ap, ◌∙◌, subst, arith, append_assoc, length-append}
+use Rattle.std.proofs.Common.{◌≡◌, inl, inr, ℕ, ◌≤◌, ◌&&◌, not, List, [], ◌∷◌, ◌++◌, map, Option, Some, None, IfSome, sym, ap, ◌∙◌, subst, arith, append_assoc, length-append}
 use Rattle.std.specs.Prelude.{Result, Ok, Err, IsErr, IsErrAnd}
 use Rattle.std.specs.List.{AllByRecursion, list_any}
 use mathlib.Core.List.{IsPrefix}
@@ -41,25 +41,29 @@ use Rattle.rate_limiter.proofs.Lists.{each_append, each_more, prefix_self, last_
 use Rattle.rate_limiter.proofs.Showing.{charged_of, seen_of}
 use Rattle.rate_limiter.proofs.Counting.{counts_of, statuses_of, keys_named, each_front, each_back}
 
--- neither the number nor the ticks nor the moment nor the good pins, present and past, changed
+-- neither the number nor the ticks nor the moment nor the pins, good or missed, changed
 pub record Still (v w : CellView) : Type 0 where
   pub number : number_of w ≡ number_of v
   pub pins : w.pairs ≡ v.pairs
+  pub others : w.others ≡ v.others
   pub ticks : w.ticks ≡ v.ticks
   pub moment : w.moment ≡ v.moment
 
-still_then : (u v w : CellView) → Still u v → Still v w → Still u w
-still_then u v w a b = record { number = b.number ∙ a.number; pins = b.pins ∙ a.pins; ticks = b.ticks ∙ a.ticks; moment = b.moment ∙ a.moment }
-
-counted_still : (spot : Spot) (limit hits : ℕ) (c : Count) (v w : CellView) → CountedAt spot limit hits c v w → Still v w
-counted_still spot limit hits (Seen seen) v w h = record { number = ap number_of h.2; pins = ap (λ (x : CellView). x.pairs) h.2; ticks = ap (λ (x : CellView). x.ticks) h.2; moment = ap (λ (x : CellView). x.moment) h.2 }
-counted_still spot limit hits (Before before) v w h =
-    let e = h.1.charge in
-    record { number = ap number_of e; pins = ap (λ (x : CellView). x.pairs) e; ticks = ap (λ (x : CellView). x.ticks) e; moment = ap (λ (x : CellView). x.moment) e }
-counted_still spot limit hits NoCount v w h = absurd h
+pub still_then : (u v w : CellView) → Still u v → Still v w → Still u w
+still_then u v w a b = record { number = b.number ∙ a.number; pins = b.pins ∙ a.pins; others = b.others ∙ a.others; ticks = b.ticks ∙ a.ticks; moment = b.moment ∙ a.moment }
 
 same_still : (v w : CellView) → w ≡ v → Still v w
-same_still v w e = record { number = ap number_of e; pins = ap (λ (x : CellView). x.pairs) e; ticks = ap (λ (x : CellView). x.ticks) e; moment = ap (λ (x : CellView). x.moment) e }
+same_still v w e = record { number = ap number_of e; pins = ap (λ (x : CellView). x.pairs) e; others = ap (λ (x : CellView). x.others) e; ticks = ap (λ (x : CellView). x.ticks) e; moment = ap (λ (x : CellView). x.moment) e }
+
+counted_still : (spot : Spot) (limit hits : ℕ) (c : Count) (v w : CellView) → CountedAt spot limit hits c v w → Still v w
+counted_still spot limit hits (Seen seen) v w (b, inl l) =
+    let e = l.1 in
+    record { number = ap number_of e; pins = ap (λ (x : CellView). x.pairs) e; others = ap (λ (x : CellView). x.others) e; ticks = ap (λ (x : CellView). x.ticks) e; moment = ap (λ (x : CellView). x.moment) e }
+counted_still spot limit hits (Seen seen) v w (b, inr k) = same_still v w k.1.2
+counted_still spot limit hits (Before before) v w h =
+    let e = h.1.charge in
+    record { number = ap number_of e; pins = ap (λ (x : CellView). x.pairs) e; others = ap (λ (x : CellView). x.others) e; ticks = ap (λ (x : CellView). x.ticks) e; moment = ap (λ (x : CellView). x.moment) e }
+counted_still spot limit hits NoCount v w h = absurd h
 
 pub done_still : (f : Found) (hits : ℕ) (spot : Option Spot) (c : Count) (v w : CellView) → DoneAt f hits spot c v w → Still v w
 done_still NoRule hits spot c v w h = same_still v w h
@@ -74,10 +78,11 @@ each_still moment (p ∷ ps) [] v w h = absurd h
 each_still moment (p ∷ ps) (s ∷ ss) v w h = still_then v h.0 w (done_still p.found p.hits p.spot s.count v h.0 h.1.1) (each_still moment ps ss h.0 w h.2)
 
 -- pins that are given back
-leaves_still : (v w : CellView) → LeavesAllButPins v w → Still v w
+pub leaves_still : (v w : CellView) → LeavesAllButPins v w → Still v w
 leaves_still v w h = record {
   number = ap number_of h;
   pins = ap (λ (x : CellView). x.pairs) h;
+  others = ap (λ (x : CellView). x.others) h;
   ticks = ap (λ (x : CellView). x.ticks) h;
   moment = ap (λ (x : CellView). x.moment) h;
 }

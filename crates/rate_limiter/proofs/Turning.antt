@@ -25,13 +25,14 @@ use Rattle.counter_directory.specs.Keys.{keys_at, key_count}
 use Rattle.counter_directory.specs.Spots.{Bound, pinned_on}
 use Rattle.counter_directory.specs.Acquired.{Bounds, ClaimTableView, HasTicked, PinsAfterMisses, HasBound, IsWanted, AreHeld}
 use Rattle.counter_directory.specs.Turns.{Turned}
-use Rattle.rate_limiter.specs.Known.{pins_under, PinsGrow}
+use Rattle.rate_limiter.specs.Known.{pins_under, PinsGrow, AreClaimedOnce}
 use Rattle.rate_limiter.specs.PassStep.{HasClaimed}
 use Rattle.rate_limiter.specs.Pinned.{HasWaited, HasPins, HasNoPins}
 use Rattle.window_keys.proofs.Counters.{is_same}
 use Rattle.rate_limiter.proofs.Meeting.{never_ticked}
 use Rattle.rate_limiter.proofs.Knowing.{grow_self, grow_then}
 use Rattle.rate_limiter.proofs.Readying.{all_cons}
+use Rattle.rate_limiter.proofs.Claiming.{lawful_once}
 use Rattle.rate_limiter.proofs.Lists.{total_at, total_more, prefix_self, parts}
 
 -- what pins leave of a view
@@ -258,3 +259,31 @@ turned_had b names a v w t u h =
 -- without names nothing is pinned
 pub none_had : (pins : List (ℕ × ℕ)) (ss : List Spot) → ss ≡ [] → All (λ (s : Spot). 1 ≤ pins_under s.cell s.claim pins) ss
 none_had pins ss e = subst (All (λ (s : Spot). 1 ≤ pins_under s.cell s.claim pins)) (sym e) (λ k d lt. absurd (omega arith))
+
+-- after a turn the pass knows a lawful list of claims
+pub turned_once : (b : Bounds) (names : List CounterName) (r : Result Acquired AcquireFault) (v w : CellView) (t u : TokenView Claim) → Turned b names v r w t u
+    → AreClaimedOnce u.known
+turned_once b names r v w t u h = subst AreClaimedOnce (sym h.turn.known) (lawful_once b.cells b.claims h.left.claims h.lawful)
+
+-- ---- pins that missed
+
+pinned_others : (ss : List Spot) (v : CellView) → (pinned_on ss v).others ≡ v.others
+pinned_others [] v = refl
+pinned_others (s ∷ ss) v = pinned_others ss (good_pin s.cell s.claim v)
+
+ticked_others : (v w : CellView) → HasTicked v w → length v.others ≤ length w.others
+ticked_others v w h = let e = ap (λ (x : CellView). length x.others) h.view in omega arith
+
+-- no pin that missed is forgotten in a turn
+pub turned_others : (b : Bounds) (names : List CounterName) (r : Result Acquired AcquireFault) (v w : CellView) (t u : TokenView Claim) → Turned b names v r w t u
+    → length v.others ≤ length w.others
+turned_others b names (Ok a) v w t u h =
+    let d = h.did.0 in
+    let l = ticked_others v d.ticked d.ticks in
+    let e = ap (λ (x : CellView). length x.others) d.pins.1 in
+    let f = ap (λ xs. length xs) (pinned_others a.spots.items (record d.ticked { others = d.ticked.others ++ d.pins.0 })) in
+    let n = length-append d.ticked.others d.pins.0 in
+    omega arith
+turned_others b names (Err OutOfMemory) v w t u h = ticked_others v w h.did.0
+turned_others b names (Err (ClaimsSpent claims wanted)) v w t u h = ticked_others v w h.did.0
+turned_others b names (Err (CountersFull moment live held wanted)) v w t u h = ticked_others v w h.did.0

@@ -1,22 +1,35 @@
--- What a pass knows of its counters: by their keys, the cells to which claims bind them and where it has had pins.
+-- What a pass knows of its counters: by their keys, the cells to which claims bind them, where it has had pins, and the greatest value
+-- that it has seen there.
 use Rattle.std.specs.Prelude.{◌≡◌, ◌≢◌, ℕ, ◌≤◌, ◌<◌, ◌==◌, ◌&&◌, Bool, List, [], ◌∷◌, ◌++◌, Option, Some, None, IsSome}
 use Rattle.std.specs.List.{AllByRecursion}
 use Rattle.rate_types.specs.Sums.{total, one_if}
 use Rattle.rate_types.specs.Requests.{RequestParts}
 use Rattle.rate_types.specs.declared.counter_key.CounterKey.{CounterKey}
+use Rattle.rate_types.specs.declared.entries.Entry.{Entry}
+use Rattle.rate_types.specs.declared.unit.Unit.{Unit}
 use Rattle.rate_types.specs.declared.request.Descriptor.{Descriptor}
 use Rattle.window_keys.specs.Key.{key_bytes}
+use Rattle.window_keys.specs.Window.{window_start}
 use Rattle.counter_directory.specs.declared.claim.Claim.{Claim}
+use Rattle.counter_directory.specs.Claims.{claims_of, claims_with}
 use Rattle.rule_lookup.specs.declared.found.Found.{Found}
 use Rattle.rls_core.specs.Reply.{counter_under}
 use Rattle.counter_cells.specs.declared.view.CellView.{CellView}
 use Rattle.counter_cells.specs.declared.answers.Spot.{Spot}
 use Rattle.over_cache.specs.Entries.{Entries, is_key, known_of}
 use Rattle.over_cache.specs.declared.known.Known.{Known}
+use Rattle.rate_limiter.specs.Values.{HasSeen}
 
 -- the bytes of a counter's key
 abbrev pub key_of : CounterKey → List ℕ
 key_of q = key_bytes q.name.domain q.name.entries q.name.unit q.start
+
+-- the counter of a domain, of entries and of a unit, in the window of a moment
+abbrev pub counter_named : List ℕ → List Entry → Unit → ℕ → CounterKey
+counter_named domain entries unit moment = record {
+  name = record { domain = domain; entries = entries; unit = unit };
+  start = window_start unit moment;
+}
 
 -- how many claims bind the counter with this key to the cell under the number
 abbrev pub key_bindings : List ℕ → ℕ → ℕ → List Claim → ℕ
@@ -36,6 +49,16 @@ pub record IsBoundEntry (cells : ℕ) (claims : List Claim) (pins : List (ℕ ×
 -- the same for each that is known
 abbrev pub AreBoundEntries : ℕ → List Claim → List (ℕ × ℕ) → Entries → Type 0
 AreBoundEntries cells claims pins entries = AllByRecursion (IsBoundEntry cells claims pins) entries
+
+-- the value that is known of each counter is none, or the greatest that the pass has under its claim
+abbrev pub AreSeenEntries : CellView → Entries → Type 0
+AreSeenEntries v entries =
+    (key : List ℕ) (known : Known) → known_of key entries ≡ Some known → HasSeen known.spot.claim known.seen v
+
+-- no counter is claimed twice, and no number is of two claims
+pub record AreClaimedOnce (claims : List Claim) : Type 0 where
+  pub counters : (q : CounterKey) → claims_of q claims ≤ 1
+  pub numbers : (n : ℕ) → claims_with n claims ≤ 1
 
 -- the spot of what is known
 abbrev pub spot_in : Option Known → Option Spot

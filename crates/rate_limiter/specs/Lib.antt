@@ -6,6 +6,7 @@ pub mod Counts
 pub mod PassStep
 pub mod Ticks
 pub mod Refusals
+pub mod Turns
 pub mod Planned
 pub mod Pinned
 pub mod Sought

@@ -1,6 +1,9 @@
 -- Inside: what a check plans for each descriptor, and what comes of it.
-use Rattle.std.specs.Prelude.{◌≡◌, ℕ, ◌≤◌, ◌==◌, ◌||◌, nat_lt, true, false, List, [], ◌∷◌, ◌++◌, Option, Some, None, is_some, IfSome, Bool}
-use Rattle.std.specs.Prelude.{◌<◌}
+use Rattle.std.specs.Prelude.{◌≡◌, ℕ, ◌+◌, ◌≤◌, ◌==◌, ◌||◌, nat_lt, true, false, List, [], ◌∷◌, ◌++◌, Option, Some, None, is_some}
+use Rattle.std.specs.Prelude.{◌<◌, ◌⊎◌, IfSome, Bool}
+use Rattle.std.specs.List.{AllByRecursion}
+use mathlib.Core.Option.{some}
+use lib.ListN.{get_elem?}
 use Rattle.rate_types.specs.Requests.{RequestParts}
 use Rattle.rate_types.specs.declared.counter_name.CounterName.{CounterName}
 use Rattle.rate_types.specs.declared.request.Descriptor.{Descriptor}
@@ -10,11 +13,17 @@ use Rattle.counter_cells.specs.Views.{claim_on, good_on, Capped}
 use Rattle.counter_cells.specs.Steps.{looked, charged}
 use Rattle.counter_cells.specs.declared.view.CellView.{CellView}
 use Rattle.counter_cells.specs.declared.answers.Spot.{Spot}
-use Rattle.rls_core.specs.Reply.{hits_of}
+use Rattle.counter_directory.specs.declared.claim.Claim.{Claim}
+use Rattle.counter_directory.specs.Claims.{bindings_of}
+use Rattle.rls_core.specs.Reply.{hits_of, counter_under}
 use Rattle.rls_core.specs.Status.{status_of}
 use Rattle.rls_core.specs.declared.status.Count.{Count}
 use Rattle.rls_core.specs.declared.status.Count.TheVariants.{NoCount, Before, Seen}
 use Rattle.rls_core.specs.declared.status.Status.{Status}
+use Rattle.over_cache.specs.Entries.{Entries, is_key, known_of, noted}
+use Rattle.over_cache.specs.declared.known.Known.{Known}
+use Rattle.rate_limiter.specs.Values.{HasValue}
+use Rattle.rate_limiter.specs.Sought.{IsSeenAt}
 use Rattle.rate_limiter.specs.declared.planned.Planned.{Planned}
 
 -- the name of a descriptor's counter, where it has a limit
@@ -60,10 +69,19 @@ pub record ChargedAt (spot : Spot) (limit hits before : ℕ) (v w : CellView) : 
   pub most : Capped (claim_on spot.cell v.good) before (looked spot.cell found v)
   pub charge : w ≡ charged spot.cell before hits (looked spot.cell found v)
 
--- what was counted on a pinned cell: it was seen above the limit or without hits, or charged
+-- a look at a pinned cell
+abbrev pub LookedAt : Spot → ℕ → CellView → CellView → Type 0
+LookedAt spot seen v w = Capped (claim_on spot.cell v.good) seen v × (w ≡ looked spot.cell seen v)
+
+-- a value that the pass had under the claim already, no less than any other that it had there
+abbrev pub KnewAt : ℕ → ℕ → CellView → CellView → Type 0
+KnewAt claim seen v w = HasValue claim seen v × Capped claim seen v × (w ≡ v)
+
+-- what was counted on a pinned cell: it was seen above the limit or without hits, by a look or, where there are hits, by what the pass had
+-- seen before; or charged
 abbrev pub CountedAt : Spot → ℕ → ℕ → Count → CellView → CellView → Type 0
 CountedAt spot limit hits (Seen seen) v w =
-    (((hits == 0) || nat_lt limit seen) ≡ true) × Capped (claim_on spot.cell v.good) seen v × (w ≡ looked spot.cell seen v)
+    (((hits == 0) || nat_lt limit seen) ≡ true) × (LookedAt spot seen v w ⊎ ((1 ≤ hits) × KnewAt spot.claim seen v w))
 CountedAt spot limit hits (Before before) v w = (nat_lt 0 hits ≡ true) × ChargedAt spot limit hits before v w
 CountedAt spot limit hits NoCount v w = ⊥
 
@@ -87,7 +105,34 @@ abbrev pub is_limited : Found → Bool
 is_limited (Limited limit unit shadow rule) = true
 is_limited found = false
 
--- each that is planned has a spot where it has a limit, on a cell that is there and pinned
+-- each that is planned has a spot where it has a limit, on a cell that is there and pinned under the spot's claim
 pub record IsReady (cells : ℕ) (v : CellView) (p : Planned) : Type 0 where
   pub tied : is_limited p.found ≡ is_some p.spot
-  pub there : IfSome p.spot (λ s. (s.cell < cells) × (1 ≤ good_on s.cell v))
+  pub there : IfSome p.spot (λ s. (s.cell < cells) × (1 ≤ good_on s.cell v) × (claim_on s.cell v.good ≡ s.claim))
+
+-- the value that a count leaves
+abbrev pub value_of : ℕ → Count → ℕ
+value_of hits NoCount = 0
+value_of hits (Before before) = before + hits
+value_of hits (Seen seen) = seen
+
+-- the spot that is planned for a descriptor is its counter's by one of the claims
+abbrev pub IsBoundAt : List Claim → RequestParts → ℕ → Descriptor → Planned → Type 0
+IsBoundAt claims request moment d p =
+    IfSome p.spot (λ s. AllByRecursion (λ q. 1 ≤ bindings_of q s.cell s.claim claims) (counter_under request moment d p.found))
+
+-- the same for each that is planned
+abbrev pub AreBoundAt : List Claim → RequestParts → ℕ → List Descriptor → List Planned → Type 0
+AreBoundAt claims request moment ds ps =
+    (i : ℕ) (d : Descriptor) (p : Planned) → get_elem? ds i ≡ some d → get_elem? ps i ≡ some p → IsBoundAt claims request moment d p
+
+-- each value that was looked up for what is planned at its place is the one that is known of the counter
+abbrev pub AreValues : List Claim → RequestParts → ℕ → Entries → List Descriptor → List Planned → List ℕ → Type 0
+AreValues claims request moment entries ds ps seen = (i : ℕ) (d : Descriptor) (p : Planned) (n : ℕ) → get_elem? ds i ≡ some d
+    → get_elem? ps i ≡ some p → get_elem? seen i ≡ some n → IsSeenAt claims request moment entries d p.found n
+
+-- a value was noted under the key, where it is known; what is known of the other keys stays
+pub record HasRaised (key : List ℕ) (spot : Spot) (value : ℕ) (entries entries' : Entries) : Type 0 where
+  pub this : ((known_of key entries ≡ None) × (entries' ≡ entries))
+      ⊎ ((old : Known) × (known_of key entries ≡ Some old) × (entries' ≡ noted key spot value entries))
+  pub others : (other : List ℕ) → is_key other key ≡ false → known_of other entries' ≡ known_of other entries

@@ -13,11 +13,36 @@ use Rattle.counter_cells.specs.declared.view.CellView.{CellView}
 use Rattle.counter_cells.specs.declared.answers.Spot.{Spot}
 use Rattle.counter_directory.specs.declared.claim.Claim.{Claim}
 use Rattle.counter_directory.specs.Claims.{bindings_of}
-use Rattle.over_cache.specs.Entries.{Entries}
+use Rattle.over_cache.specs.Entries.{Entries, known_of}
+use Rattle.over_cache.specs.declared.known.Known.{Known}
 use Rattle.rls_core.specs.Reply.{counter_under}
-use Rattle.rate_limiter.specs.Known.{pins_under, spot_of, KnowsCounter, HasCounter, HasMissed}
+use Rattle.rate_limiter.specs.Known.{key_of, pins_under, spot_of, KnowsCounter, HasCounter, HasMissed}
 use Rattle.rate_limiter.specs.declared.missed.Missed.{Missed}
 use Rattle.rate_limiter.specs.declared.missed.Missed.TheVariants.{Unknown, Reclaimed}
+
+-- under each key the same is known as before
+abbrev pub SameKnown : Entries → Entries → Type 0
+SameKnown entries entries' = (key : List ℕ) → known_of key entries' ≡ known_of key entries
+
+-- the value that is known, or 0
+abbrev pub seen_in : Option Known → ℕ
+seen_in None = 0
+seen_in (Some known) = known.seen
+
+-- the value is the one that is known of the counter, and the claims bind the counter to the cell under which it is known
+pub record IsSeenOf (claims : List Claim) (entries : Entries) (q : CounterKey) (seen : ℕ) : Type 0 where
+  pub value : seen_in (known_of (key_of q) entries) ≡ seen
+  pub bound : (known : Known) → known_of (key_of q) entries ≡ Some known → 1 ≤ bindings_of q known.spot.cell known.spot.claim claims
+
+-- the same for the counter of a descriptor, where it has a limit
+abbrev pub IsSeenAt : List Claim → RequestParts → ℕ → Entries → Descriptor → Found → ℕ → Type 0
+IsSeenAt claims request moment entries d found seen =
+    AllByRecursion (λ q. IsSeenOf claims entries q seen) (counter_under request moment d found)
+
+-- the same for each descriptor for which a value was looked up
+abbrev pub AreSeenAt : List Claim → RequestParts → ℕ → Entries → List Descriptor → List Found → List ℕ → Type 0
+AreSeenAt claims request moment entries ds fs seen = (i : ℕ) (d : Descriptor) (f : Found) (n : ℕ) → get_elem? ds i ≡ some d
+    → get_elem? fs i ≡ some f → get_elem? seen i ≡ some n → IsSeenAt claims request moment entries d f n
 
 -- the spot is the counter's by one of the claims, and a pin was good there
 pub record IsOwnSpot (cells : ℕ) (claims : List Claim) (pins : List (ℕ × ℕ)) (q : CounterKey) (s : Spot) : Type 0 where

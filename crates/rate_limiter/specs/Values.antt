@@ -1,9 +1,10 @@
 -- Which values a pass has of a counter: those that its looks found, and those that its charges left.
-use Rattle.std.specs.Prelude.{ℕ, ◌+◌, ◌≤◌, ◌==◌, ◌&&◌, List}
+use Rattle.std.specs.Prelude.{ℕ, ◌+◌, ◌≤◌, ◌==◌, ◌&&◌, min, List, length}
 use Rattle.std.specs.List.{AllByRecursion}
 use Rattle.rate_types.specs.declared.counter_key.CounterKey.{CounterKey}
 use Rattle.rate_types.specs.Ledger.{Sight}
 use Rattle.rate_types.specs.Sums.{total, one_if}
+use Rattle.counter_cells.specs.Views.{Capped}
 use Rattle.counter_cells.specs.declared.view.Charge.{Charge}
 use Rattle.counter_cells.specs.declared.view.CellView.{CellView}
 use Rattle.counter_directory.specs.declared.claim.Claim.{Claim}
@@ -20,6 +21,14 @@ charges_to claim value v = total (λ (x : Charge). one_if ((x.claim == claim) &&
 -- the pass has the value under the claim
 abbrev pub HasValue : ℕ → ℕ → CellView → Type 0
 HasValue claim value v = 1 ≤ looks_at claim value v + charges_to claim value v
+
+-- the value is 0, which stands for none, or the pass has it under the claim, and no other value that it has there is greater
+abbrev pub HasSeen : ℕ → ℕ → CellView → Type 0
+HasSeen claim seen v = 1 ≤ seen → HasValue claim seen v × Capped claim seen v
+
+-- how many looks the pass has made, as far as a u64 can count them
+abbrev pub looks_counted : CellView → ℕ
+looks_counted v = min (length v.looks) 18446744073709551615
 
 -- the pass has what was seen, under the number of a claim that binds the counter
 abbrev pub HasSight : List Claim → CellView → Sight CounterKey → Type 0

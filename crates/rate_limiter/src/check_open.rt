@@ -2,6 +2,7 @@ ghost use Rattle.std.specs.Prelude.{◌≡◌};
 
 use crate::sought::pin_known;
 use crate::{Limiter, NotOpen, Pass};
+use arrayvec::ArrayVec;
 use counter_cells::CellNaming;
 use rate_types::{Request, Seconds};
 use rls_core::Reply;
@@ -34,23 +35,28 @@ impl<N: CellNaming> Limiter<N> {
         }
         self.tick(pass, now);
         let rules = find_rules(pass.version.index(), request.domain(), descriptors);
+        let mut seen = ArrayVec::new();
         match pin_known(
             &self.cells,
             &pass.claims,
             &mut pass.cells,
             &mut pass.known,
-            &mut pass.key,
             request,
             descriptors,
             rules.as_slice(),
+            &mut seen,
         ) {
             Err(missed) => Err(NotOpen::of(missed)),
             Ok(spots) => Ok(self.answer(
+                &pass.claims,
                 &mut pass.cells,
+                &mut pass.known,
+                &mut pass.looks,
                 pass.version.version(),
                 request,
                 rules.as_slice(),
                 spots.as_slice(),
+                seen.as_slice(),
             )),
         }
     }

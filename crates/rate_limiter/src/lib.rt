@@ -11,7 +11,7 @@
 //!
 //! A pass keeps what it knows of its counters. A check whose counters it knows, and whose cells are theirs still, asks the directory
 //! for nothing. [`Limiter::check_open`] is such a check alone: it takes no lock and no memory, or isn't answered, for a cause
-//! (`specs/Opens.antt`).
+//! (`specs/Opens.antt`). A counter that the pass has seen above the limit is answered without a look at its cell.
 //!
 //! The limits: `check`, `reload` and `meet` may wait for other calls on the limiter.
 #![tactic(auto)]
@@ -21,7 +21,9 @@ mod check;
 mod check_open;
 mod close;
 mod count_each;
+mod count_one;
 mod known;
+mod known_counters;
 mod limiter;
 mod make;
 mod meet;

@@ -6,19 +6,17 @@ ghost use Rattle.config_versions.specs.Passes.{IsPassOf, pass_state, versions_id
 ghost use Rattle.rate_limiter.specs.Passes.{IsNewPass};
 ghost use Rattle.rate_limiter.specs.Made.{IsNewCellPass};
 
+use crate::known_counters::KnownCounters;
 use crate::{Limiter, Limits, Pass};
 use config_versions::{VersionPass, Versions};
 use counter_cells::{CellNaming, CellPass, OpenedCells};
 use counter_directory::{Directory, DirectoryPass};
 use descriptor_tree::Config;
-use over_cache::OverCache;
 use rate_types::OutOfMemory;
 use rule_lookup::Index;
 use std::alloc::Global;
-use std::boxed::Box;
 use std::hash::RandomState;
 use std::sync::Arc;
-use window_keys::KeyBuffer;
 
 // The passes, each of one of each kind.
 fn passes_of<N: CellNaming>(
@@ -52,9 +50,8 @@ fn passes_of<N: CellNaming>(
         let Some(version) = version_passes.pop() else {
             unreachable!()
         };
-        let known = OverCache::make(alloc, seed)?;
-        let key = Box::new(alloc, KeyBuffer::new())?;
-        let pass = Pass::new(version, claims, cells, known, key);
+        let known = KnownCounters::make(alloc, seed)?;
+        let pass = Pass::new(version, claims, cells, known);
         passes.push_reserved(pass);
     }
     Ok(passes)

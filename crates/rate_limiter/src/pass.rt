@@ -1,14 +1,12 @@
 ghost use Rattle.std.specs.Prelude.{◌≡◌};
 
+use crate::known_counters::KnownCounters;
 use config_versions::VersionPass;
 use counter_cells::{CellNaming, CellPass};
 use counter_directory::DirectoryPass;
-use over_cache::OverCache;
 use rate_types::Seconds;
 use rule_lookup::Index;
-use std::boxed::Box;
 use std::marker::Model;
-use window_keys::KeyBuffer;
 
 /// What one worker has of a limiter. It goes with the [`Limiter`](crate::Limiter) that it was made with. Between two calls it
 /// holds no pin. Contracts see it as a `PassView`.
@@ -17,8 +15,8 @@ pub struct Pass<N: CellNaming> {
     pub(crate) version: VersionPass<Index>,
     pub(crate) claims: DirectoryPass<N>,
     pub(crate) cells: CellPass<N>,
-    pub(crate) known: OverCache,
-    pub(crate) key: Box<KeyBuffer>,
+    pub(crate) known: KnownCounters,
+    pub(crate) looks: u64,
     pub(crate) refused: u64,
 }
 
@@ -27,7 +25,8 @@ impl<N: CellNaming> Model for Pass<N> {
     ghost use Rattle.told_list.specs.Tokens.{list_of, view as knows};
     ghost use Rattle.config_versions.specs.Passes.{pass_state, versions_of};
     ghost use Rattle.rate_limiter.specs.Passes.{PassView};
-    ghost use Rattle.rate_limiter.specs.Known.{AreBoundEntries};
+    ghost use Rattle.rate_limiter.specs.Known.{AreBoundEntries, AreSeenEntries, AreClaimedOnce};
+    ghost use Rattle.rate_limiter.specs.Values.{looks_counted};
     ghost use Rattle.std.specs.Coded.{codes};
     ghost use Rattle.rule_lookup.specs.Stored.{trees_code};
 
@@ -44,11 +43,13 @@ impl<N: CellNaming> Model for Pass<N> {
       refused = p.refused;
     } };
 
-    ghost invariant = { λ p. (p.cells.good ≡ []) × AreBoundEntries N.setup.cells (knows p.claims).known p.cells.pairs p.known };
+    ghost invariant = { λ p. (p.cells.good ≡ []) × AreBoundEntries N.setup.cells (knows p.claims).known p.cells.pairs p.known
+        × AreSeenEntries p.cells p.known × AreClaimedOnce (knows p.claims).known × (p.looks ≡ looks_counted p.cells) };
 }
 
 impl<N: CellNaming> Pass<N> {
     ghost use Rattle.std.specs.Prelude.{◌≡◌, []};
+    ghost use Rattle.rate_limiter.specs.Values.{looks_counted};
     ghost use Rattle.told_list.specs.Tokens.{list_of, view as knows};
     ghost use Rattle.config_versions.specs.Passes.{pass_state, versions_of};
 
@@ -56,10 +57,10 @@ impl<N: CellNaming> Pass<N> {
         version: VersionPass<Index>,
         claims: DirectoryPass<N>,
         cells: CellPass<N>,
-        known: OverCache,
-        key: Box<KeyBuffer>,
+        known: KnownCounters,
     ) -> Pass<N>
-        requires bare { cells.good ≡ [] }
+        requires bare { (cells.good ≡ []) × (cells.looks ≡ []) }
+        requires claims { (knows claims).known ≡ [] }
         requires known { known ≡ [] }
         ensures { result ≡ record {
           limiter = record { claims = list_of claims; versions = versions_of version };
@@ -75,7 +76,7 @@ impl<N: CellNaming> Pass<N> {
             claims,
             cells,
             known,
-            key,
+            looks: 0,
             refused: 0,
         }
     }
@@ -92,6 +93,13 @@ impl<N: CellNaming> Pass<N> {
         ensures { result ≡ self.now.cells.moment }
     {
         self.cells.moment()
+    }
+
+    /// How many looks at counts the pass has made. The count stops at the greatest u64.
+    pub fn looks(&self) -> u64
+        ensures { result ≡ looks_counted self.now.cells }
+    {
+        self.looks
     }
 
     /// How many checks of the pass were refused for want of cells or of claims. The count stops at the greatest u64.

@@ -1,29 +1,21 @@
-// The counters of a check are pinned, and their pins are given back.
-ghost use Rattle.std.specs.Prelude.{◌≡◌, ◌≤◌, ◌<◌, ℕ, [], All, length};
-ghost use Rattle.counter_cells.specs.declared.view.CellView.{CellView};
-ghost use Rattle.counter_cells.specs.Views.{good_on};
-ghost use Rattle.counter_directory.specs.Spots.{spots_on, LeavesAllButPins};
-ghost use Rattle.rate_types.specs.declared.limits.TheConstants.{MOST_DESCRIPTORS};
-ghost use Rattle.rate_limiter.specs.Planned.{DoneEach, IsReady};
+// The counters of a check are pinned.
+ghost use Rattle.std.specs.Prelude.{◌≡◌};
 ghost use Rattle.rate_limiter.specs.Pinned.{fault_of, refused_after};
 
 use crate::Limiter;
-use crate::count_each::count_each;
 use crate::known::note_names;
+use crate::known_counters::KnownCounters;
 use crate::names::names_of;
-use crate::planned::Planned;
 use crate::sought::pin_known;
 use arrayvec::ArrayVec;
-use counter_cells::{CellNaming, CellPass, Cells, Spot};
-use counter_directory::{AcquireFault, Acquired, DirectoryPass, give_back};
-use over_cache::OverCache;
+use counter_cells::{CellNaming, CellPass, Spot};
+use counter_directory::{AcquireFault, Acquired, DirectoryPass};
 use rate_types::limits::MOST_DESCRIPTORS;
-use rate_types::{CounterName, Descriptor, Request, Seconds};
-use rls_core::{CheckFault, Status};
+use rate_types::{CounterName, Descriptor, Request};
+use rls_core::CheckFault;
 use rule_lookup::Found;
 use std::alloc::Global;
 use std::sync::Wait;
-use window_keys::KeyBuffer;
 
 impl<N: CellNaming> Limiter<N> {
     ghost use Rattle.std.specs.Prelude.{◌≡◌, ◌≤◌, ◌<◌, ℕ, [], All, IfOk, IfErr, length};
@@ -32,7 +24,8 @@ impl<N: CellNaming> Limiter<N> {
     ghost use Rattle.counter_cells.specs.Views.{good_on};
     ghost use Rattle.counter_directory.specs.Spots.{spots_on};
     ghost use Rattle.rate_limiter.specs.Passes.{bounds_of};
-    ghost use Rattle.rate_limiter.specs.Known.{AreBoundEntries, PinsGrow, pins_under};
+    ghost use Rattle.rate_limiter.specs.Known.{AreBoundEntries, AreSeenEntries, AreClaimedOnce, PinsGrow, pins_under};
+    ghost use Rattle.rate_limiter.specs.Sought.{AreSeenAt, KnowsUnder};
     ghost use Rattle.rate_limiter.specs.Planned.{names_under};
     ghost use Rattle.rate_limiter.specs.Pinned.{HasPins, HasNoPins};
 
@@ -52,6 +45,8 @@ impl<N: CellNaming> Limiter<N> {
         ensures pins { IfOk result (λ ss. (cell : ℕ) → good_on cell cell_pass.new ≡ spots_on cell ss.items) }
         ensures had { IfOk result (λ ss. All (λ s. 1 ≤ pins_under s.cell s.claim cell_pass.new.pairs) ss.items) }
         ensures grow { PinsGrow cell_pass.old.pairs cell_pass.new.pairs }
+        ensures once { AreClaimedOnce (knows claims.old).known → AreClaimedOnce (knows claims.new).known }
+        ensures others { length cell_pass.old.others ≤ length cell_pass.new.others }
         ensures pinned { IfOk result
             (λ ss. HasPins names.now ss.items cell_pass.old cell_pass.new (knows claims.old) (knows claims.new)) }
         ensures refused { IfErr result (λ f. HasNoPins (bounds_of N.setup.cells self.now) names.now f cell_pass.old cell_pass.new
@@ -70,26 +65,35 @@ impl<N: CellNaming> Limiter<N> {
     }
 
     // Pins the counters of the descriptors that have a limit: without a turn at the directory where the pass knows each and its
-    // cell is the counter's still.
+    // cell is the counter's still. Then `seen` is the greatest value that the pass has seen of each; else it is empty.
     pub(crate) fn pin_counters<R: Wait>(
         &self,
         rt: &R,
         alloc: Global,
         claims: &mut DirectoryPass<N>,
         cell_pass: &mut CellPass<N>,
-        known: &mut OverCache,
-        key: &mut KeyBuffer,
+        known: &mut KnownCounters,
         request: &Request,
         descriptors: &[Descriptor],
         rules: &[Found],
+        seen: &mut ArrayVec<u64, MOST_DESCRIPTORS>,
     ) -> Result<ArrayVec<Spot, 32>, AcquireFault>
         requires pass { list_of claims.old ≡ self.now.id.claims }
         requires bare { cell_pass.old.good ≡ [] }
         requires few { length descriptors.now ≤ MOST_DESCRIPTORS }
         requires rules { length rules.now ≡ length descriptors.now }
         requires known { AreBoundEntries N.setup.cells (knows claims.old).known cell_pass.old.pairs known.old }
+        requires seen { AreSeenEntries cell_pass.old known.old }
+        requires once { AreClaimedOnce (knows claims.old).known }
         ensures pass { list_of claims.new ≡ self.now.id.claims }
         ensures known { AreBoundEntries N.setup.cells (knows claims.new).known cell_pass.new.pairs known.new }
+        ensures seen { AreSeenEntries cell_pass.new known.new }
+        ensures once { AreClaimedOnce (knows claims.new).known }
+        ensures looks { cell_pass.new.looks ≡ cell_pass.old.looks }
+        ensures turns { KnowsUnder (length descriptors.now) request.now cell_pass.old.moment known.old descriptors.now rules.now
+            → cell_pass.new.others ≡ cell_pass.old.others → knows claims.new ≡ knows claims.old }
+        ensures values { IfOk result (λ _. AreSeenAt (knows claims.new).known request.now cell_pass.new.moment known.new descriptors.now
+            rules.now seen.new.items) }
         ensures within { IfOk result (λ ss. All (λ s. s.cell < N.setup.cells) ss.items) }
         ensures pins { IfOk result (λ ss. (cell : ℕ) → good_on cell cell_pass.new ≡ spots_on cell ss.items) }
         ensures pinned { IfOk result (λ ss. HasPins (names_under request.now descriptors.now rules.now) ss.items
@@ -102,52 +106,25 @@ impl<N: CellNaming> Limiter<N> {
             claims,
             cell_pass,
             known,
-            key,
             request,
             descriptors,
             rules,
+            seen,
         ) {
             return Ok(spots);
         }
+        seen.clear();
         let Ok(names) = names_of(alloc, request, descriptors, rules) else {
             return Err(AcquireFault::OutOfMemory);
         };
         match self.pin_names(rt, claims, cell_pass, names.as_slice()) {
             Err(fault) => Err(fault),
             Ok(spots) => {
-                note_names(
-                    claims,
-                    known,
-                    key,
-                    names.as_slice(),
-                    spots.as_slice(),
-                    cell_pass,
-                );
+                note_names(claims, known, names.as_slice(), spots.as_slice(), cell_pass);
                 Ok(spots)
             }
         }
     }
-}
-
-/// Counts what each descriptor has planned on the pinned cells, and gives the pins back.
-pub(crate) fn count_pinned<N: CellNaming>(
-    cells: &Cells<N>,
-    pass: &mut CellPass<N>,
-    plan: &[Planned],
-    spots: &[Spot],
-    moment: Seconds,
-) -> ArrayVec<Status, MOST_DESCRIPTORS>
-    requires few { length plan.now ≤ MOST_DESCRIPTORS }
-    requires within { All (λ s. s.cell < N.setup.cells) spots.now }
-    requires good { (cell : ℕ) → good_on cell pass.old ≡ spots_on cell spots.now }
-    requires ready { All (IsReady N.setup.cells pass.old) plan.now }
-    ensures done { (mid : CellView) × DoneEach moment plan.now result.items pass.old mid × LeavesAllButPins mid pass.new }
-    ensures bare { pass.new.good ≡ [] }
-    ensures pins { pass.new.pairs ≡ pass.old.pairs }
-{
-    let statuses = count_each(cells, pass, plan, moment);
-    give_back(cells, pass, spots);
-    statuses
 }
 
 /// The fault of a check whose counters aren't pinned. A refused check counts, but for want of memory.

@@ -7,6 +7,7 @@ use std::sync::Wait;
 
 impl<N: CellNaming> Limiter<N> {
     ghost use Rattle.std.specs.Prelude.{◌≡◌, [], OnOk, OnErr};
+    ghost use Rattle.counter_cells.specs.Steps.{ticked};
     ghost use Rattle.rate_limiter.specs.Passes.{KeepsAllButVersion, KeepsAllButTicks};
     ghost use Rattle.rate_limiter.specs.PassStep.{HasRenewed, HasOffered};
     ghost use Rattle.rate_limiter.specs.Versions.{HasStayed};
@@ -15,6 +16,7 @@ impl<N: CellNaming> Limiter<N> {
     /// It waits for nobody.
     pub fn tick(&self, pass: &mut Pass<N>, now: Seconds) -> Seconds
         ensures answer { result ≡ pass.new.cells.moment }
+        ensures ticked { pass.new.cells ≡ ticked result now pass.old.cells }
         ensures offered { HasOffered now pass.old.cells pass.new.cells }
         ensures rest { KeepsAllButTicks pass.old pass.new }
     {

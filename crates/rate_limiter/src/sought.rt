@@ -5,120 +5,139 @@ ghost use Rattle.rate_types.specs.declared.counter_name.CounterName.{CounterName
 ghost use Rattle.counter_cells.specs.declared.view.CellView.{CellView};
 ghost use Rattle.window_keys.specs.Counter.{counter_of};
 ghost use Rattle.told_list.specs.Tokens.{view as knows};
-ghost use Rattle.rate_limiter.specs.Known.{AreBoundEntries, SameSpots, PinsGrow, spot_of};
+ghost use Rattle.over_cache.specs.Entries.{known_of};
+ghost use Rattle.rate_limiter.specs.Known.{AreBoundEntries, PinsGrow, key_of, pins_under, spot_in};
 ghost use Rattle.rate_limiter.specs.Planned.{name_under, names_under};
 ghost use Rattle.rate_limiter.specs.Pinned.{SameButPins, ArePinned};
-ghost use Rattle.rate_limiter.specs.Sought.{IsOwnSpot, IsOwnAt, AreOwn, IsKnownAt, AreKnown, IsUnknownAt, IsFirstUnknown, HasMissedAt, HasMissedFirst};
-ghost use Rattle.rate_limiter.specs.Sought.{HasMissCause, KnowsUnder};
+ghost use Rattle.rate_limiter.specs.Sought.{SameKnown, seen_in, IsSeenAt, AreSeenAt, IsOwnSpot, IsOwnAt, AreOwn, IsKnownAt, AreKnown};
+ghost use Rattle.rate_limiter.specs.Sought.{IsUnknownAt, IsFirstUnknown, HasMissedAt, HasMissedFirst, HasMissCause, KnowsUnder};
 
+use crate::known_counters::KnownCounters;
 use crate::missed::Missed;
 use arrayvec::ArrayVec;
 use counter_cells::{CellNaming, CellPass, Cells, Pin, Spot};
 use counter_directory::{DirectoryPass, give_back};
-use over_cache::OverCache;
+use over_cache::Known;
 use rate_types::limits::MOST_DESCRIPTORS;
 use rate_types::{Descriptor, Request, Unit};
 use rule_lookup::Found;
-use window_keys::{KeyBuffer, start, write_key};
 
-// The spot that the pass knows of the descriptor's counter under a unit, in the window of the pass's moment.
+// What the pass knows of the descriptor's counter under a unit, in the window of the pass's moment.
 fn find_one<N: CellNaming>(
     claims: &DirectoryPass<N>,
     cell_pass: &CellPass<N>,
-    known: &mut OverCache,
-    key: &mut KeyBuffer,
+    known: &mut KnownCounters,
     request: &Request,
     descriptor: &Descriptor,
     unit: Unit,
-) -> Option<Spot>
+) -> Option<Known>
     requires known { AreBoundEntries N.setup.cells (knows claims.now).known cell_pass.now.pairs known.old }
     ensures known { AreBoundEntries N.setup.cells (knows claims.now).known cell_pass.now.pairs known.new }
-    ensures same { SameSpots known.old known.new }
-    ensures spot { result ≡ spot_of (counter_of request.now.domain descriptor.now unit cell_pass.now.moment) known.old }
-    ensures own { IfSome result (IsOwnSpot N.setup.cells (knows claims.now).known cell_pass.now.pairs
-        (counter_of request.now.domain descriptor.now unit cell_pass.now.moment)) }
+    ensures same { SameKnown known.old known.new }
+    ensures found { result
+        ≡ known_of (key_of (counter_of request.now.domain descriptor.now unit cell_pass.now.moment)) known.old }
+    ensures own { IfSome result (λ k. IsOwnSpot N.setup.cells (knows claims.now).known cell_pass.now.pairs
+        (counter_of request.now.domain descriptor.now unit cell_pass.now.moment) k.spot) }
 {
     let _ = claims;
     let moment = cell_pass.moment();
-    write_key(
-        request.domain(),
-        &descriptor.entries,
-        unit,
-        start(unit, moment),
-        key,
-    );
-    let found = known.known(key.as_slice())?;
-    Some(found.spot)
+    known.find(request.domain(), &descriptor.entries, unit, moment)
 }
 
 // A counter that the pass doesn't know.
 struct UnknownCounter;
 
-// The spot that the pass knows of a descriptor's counter, where it has a limit.
+// What the pass knows of a descriptor's counter, where it has a limit.
 fn find_next<N: CellNaming>(
     claims: &DirectoryPass<N>,
     cell_pass: &CellPass<N>,
-    known: &mut OverCache,
-    key: &mut KeyBuffer,
+    known: &mut KnownCounters,
     request: &Request,
     descriptor: &Descriptor,
     found: Found,
-) -> Result<Option<Spot>, UnknownCounter>
+) -> Result<Option<Known>, UnknownCounter>
     requires known { AreBoundEntries N.setup.cells (knows claims.now).known cell_pass.now.pairs known.old }
     ensures known { AreBoundEntries N.setup.cells (knows claims.now).known cell_pass.now.pairs known.new }
-    ensures same { SameSpots known.old known.new }
-    ensures own { IfOk result (IsOwnAt N.setup.cells (knows claims.now).known cell_pass.now.pairs request.now cell_pass.now.moment
-        descriptor.now found) }
-    ensures spot { IfOk result (IsKnownAt request.now cell_pass.now.moment known.old descriptor.now found) }
+    ensures same { SameKnown known.old known.new }
+    ensures own { IfOk result (λ o. IsOwnAt N.setup.cells (knows claims.now).known cell_pass.now.pairs request.now
+        cell_pass.now.moment descriptor.now found (spot_in o)) }
+    ensures spot { IfOk result (λ o. IsKnownAt request.now cell_pass.now.moment known.old descriptor.now found (spot_in o)) }
+    ensures seen { IfOk result (λ o. IsSeenAt (knows claims.now).known request.now cell_pass.now.moment known.old descriptor.now found
+        (seen_in o)) }
     ensures unknown { IfErr result (λ _. IsUnknownAt request.now cell_pass.now.moment known.old descriptor.now found) }
 {
     match found {
         Found::NoRule => Ok(None),
         Found::Unlimited { .. } => Ok(None),
         Found::Limited { unit, .. } => {
-            match find_one(claims, cell_pass, known, key, request, descriptor, unit) {
-                Some(spot) => Ok(Some(spot)),
+            match find_one(claims, cell_pass, known, request, descriptor, unit) {
+                Some(entry) => Ok(Some(entry)),
                 None => Err(UnknownCounter),
             }
         }
     }
 }
 
-// What the pass knows of the counters of the descriptors, at its moment: a spot for each that has a limit. Or the first place whose
-// counter it doesn't know.
+// The spot of what is known.
+fn spot_of(known: Option<Known>) -> Option<Spot>
+    ensures { result ≡ spot_in known }
+{
+    match known {
+        Some(known) => Some(known.spot),
+        None => None,
+    }
+}
+
+/// The value of what is known, or 0.
+pub(crate) fn seen_of(known: Option<Known>) -> u64
+    ensures { result ≡ seen_in known }
+{
+    match known {
+        Some(known) => known.seen,
+        None => 0,
+    }
+}
+
+// What the pass knows of the counters of the descriptors, at its moment: a spot for each that has a limit, and the greatest value
+// that it has seen there, or 0. Or the first place whose counter it doesn't know.
 fn find_known<N: CellNaming>(
     claims: &DirectoryPass<N>,
     cell_pass: &CellPass<N>,
-    known: &mut OverCache,
-    key: &mut KeyBuffer,
+    known: &mut KnownCounters,
     request: &Request,
     descriptors: &[Descriptor],
     rules: &[Found],
+    seen: &mut ArrayVec<u64, MOST_DESCRIPTORS>,
 ) -> Result<ArrayVec<Option<Spot>, MOST_DESCRIPTORS>, u32>
     requires few { length descriptors.now ≤ MOST_DESCRIPTORS }
     requires rules { length rules.now ≡ length descriptors.now }
     requires known { AreBoundEntries N.setup.cells (knows claims.now).known cell_pass.now.pairs known.old }
     ensures known { AreBoundEntries N.setup.cells (knows claims.now).known cell_pass.now.pairs known.new }
-    ensures same { SameSpots known.old known.new }
+    ensures same { SameKnown known.old known.new }
     ensures count { IfOk result (λ os. length os.items ≡ length descriptors.now) }
     ensures own { IfOk result (λ os. AreOwn N.setup.cells (knows claims.now).known cell_pass.now.pairs request.now cell_pass.now.moment
         descriptors.now rules.now os.items) }
     ensures spots { IfOk result (λ os. AreKnown request.now cell_pass.now.moment known.old descriptors.now rules.now os.items) }
+    ensures seen { IfOk result
+        (λ _. AreSeenAt (knows claims.now).known request.now cell_pass.now.moment known.old descriptors.now rules.now seen.new.items) }
     ensures unknown { IfErr result
         (λ place. IsFirstUnknown request.now cell_pass.now.moment known.old descriptors.now rules.now place) }
 {
     let mut spots = ArrayVec::new();
+    seen.clear();
     'descriptors: for place in 0..descriptors.len() {
         match find_next(
             claims,
             cell_pass,
             known,
-            key,
             request,
             &descriptors[place],
             rules[place],
         ) {
-            Ok(spot) => spots.push(spot),
+            Ok(found) => {
+                spots.push(spot_of(found));
+                seen.push(seen_of(found));
+            }
             Err(UnknownCounter) => return Err(place as u32),
         }
     }
@@ -214,32 +233,37 @@ fn pin_found<N: CellNaming>(
 }
 
 /// Pins the counters of all descriptors that have a limit, at the pass's moment, where the pass knows each and its cell is the
-/// counter's still. Where not, nothing is pinned. A counter that isn't known comes before a cell that is another's.
+/// counter's still: then `seen` is the greatest value that the pass has seen of each. Where not, nothing is pinned. A counter that
+/// isn't known comes before a cell that is another's.
 pub(crate) fn pin_known<N: CellNaming>(
     cells: &Cells<N>,
     claims: &DirectoryPass<N>,
     cell_pass: &mut CellPass<N>,
-    known: &mut OverCache,
-    key: &mut KeyBuffer,
+    known: &mut KnownCounters,
     request: &Request,
     descriptors: &[Descriptor],
     rules: &[Found],
+    seen: &mut ArrayVec<u64, MOST_DESCRIPTORS>,
 ) -> Result<ArrayVec<Spot, 32>, Missed>
     requires bare { cell_pass.old.good ≡ [] }
     requires few { length descriptors.now ≤ MOST_DESCRIPTORS }
     requires rules { length rules.now ≡ length descriptors.now }
     requires known { AreBoundEntries N.setup.cells (knows claims.now).known cell_pass.old.pairs known.old }
     ensures known { AreBoundEntries N.setup.cells (knows claims.now).known cell_pass.new.pairs known.new }
-    ensures same { SameSpots known.old known.new }
+    ensures same { SameKnown known.old known.new }
     ensures pinned { IfOk result (λ ss. ArePinned N.setup.cells (knows claims.now).known
         (names_under request.now descriptors.now rules.now) ss.items cell_pass.old cell_pass.new) }
     ensures all { IfOk result (λ _. KnowsUnder (length descriptors.now) request.now cell_pass.old.moment known.old descriptors.now
         rules.now) }
+    ensures seen { IfOk result
+        (λ _. AreSeenAt (knows claims.now).known request.now cell_pass.old.moment known.old descriptors.now rules.now seen.new.items) }
     ensures kept { IfErr result (λ _. SameButPins cell_pass.old cell_pass.new × (cell_pass.new.good ≡ [])) }
+    ensures grew { IfErr result (λ _. KnowsUnder (length descriptors.now) request.now cell_pass.old.moment known.old descriptors.now
+        rules.now → length cell_pass.old.others < length cell_pass.new.others) }
     ensures missed { IfErr result (λ m. HasMissCause request.now cell_pass.old.moment known.old descriptors.now rules.now m
         cell_pass.old cell_pass.new) }
 {
-    match find_known(claims, cell_pass, known, key, request, descriptors, rules) {
+    match find_known(claims, cell_pass, known, request, descriptors, rules, seen) {
         Err(place) => Err(Missed::Unknown { place }),
         Ok(found) => pin_found(
             cells,

@@ -41,7 +41,7 @@ pub(crate) fn parts_of<N: CellNaming>(
             claims: claim_pass,
             cells: cell_pass,
             known: _,
-            key: _,
+            looks: _,
             refused: _,
         } = pass;
         versions.push_reserved(version);

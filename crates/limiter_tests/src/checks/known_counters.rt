@@ -14,8 +14,8 @@ use std::random::RandomSource;
 use std::sync::Wait;
 use std::test::Fail;
 
-// Whether a check without lock and memory is answered by these codes and counts.
-fn answers_open<N: CellNaming>(
+/// Whether a check without lock and memory is answered by these codes and counts.
+pub(crate) fn answers_open<N: CellNaming>(
     limiter: &Limiter<N>,
     pass: &mut Pass<N>,
     request: &Request,

@@ -1,4 +1,4 @@
-use Rattle.std.proofs.Common.{◌≡◌, ◌∙◌, ◌<◌, ℕ, List, Option, length, get_or, sym, subst, ap, arith}
+use Rattle.std.proofs.Common.{◌≡◌, ◌∙◌, ◌<◌, ◌++◌, ◌∷◌, [], ℕ, List, Option, length, get_or, sym, subst, ap, arith}
 use mathlib.Core.Option.{some}
 use lib.ListN.{get_elem?}
 use Rattle.told_list.specs.Tokens.{view}
@@ -6,10 +6,11 @@ use Rattle.counter_cells.specs.declared.answers.Spot.{Spot}
 use Rattle.rate_types.specs.declared.request.Descriptor.{Descriptor}
 use Rattle.rule_lookup.specs.declared.found.Found.{Found}
 use Rattle.rule_lookup.specs.declared.found.Found.TheVariants.{NoRule}
-use Rattle.rate_limiter.specs.Known.{SameSpots}
-use Rattle.rate_limiter.specs.Sought.{IsOwnAt, AreOwn, IsKnownAt, AreKnown, IsAt}
+use Rattle.rate_limiter.specs.Known.{spot_in}
+use Rattle.rate_limiter.specs.Sought.{seen_in, IsOwnAt, AreOwn, IsKnownAt, AreKnown, IsSeenAt, AreSeenAt, IsAt}
 use Rattle.rate_limiter.proofs.Totalling.{item_at}
-use Rattle.rate_limiter.proofs.Seeking.{each_next, known_since, unknown_since, knows_under, spots_then}
+use Rattle.rate_limiter.proofs.Seeking.{each_next, known_since, unknown_since, knows_under, seen_since, same_known_then}
+use Rattle.rate_limiter.proofs.Knowing.{spots_same}
 use Rattle.rate_limiter.proofs.sought.find_known.Goals as goal
 
 pub descriptors-preserved : goal.descriptors-preserved
@@ -21,25 +22,34 @@ descriptors-preserved g c =
     let ds = c.args.descriptors.now in
     let fs = c.args.rules.now in
     let i = c.descriptors.place in
+    let old = c.args.known.now in
     let before = c.descriptors.invariant in
     let d = c.index-descriptors-place.result in
     let f : Found = get_or fs i NoRule in
-    let o = c.in-Ok.spot in
+    let o = spot_in c.in-Ok.found in
+    let n = seen_in c.in-Ok.found in
     let spots = c.descriptors.spots.items in
+    let values = c.descriptors.seen.items in
     let lt : i < length ds = omega arith in
     let lt_f : i < length fs = omega (arith, c.requires.rules) in
-    let d_at : get_elem? ds (length spots) ≡ some d
-    = ap (get_elem? ds) before.count ∙ item_at ds i d lt ∙ sym (ap (λ (e : Descriptor). some e) c.index-descriptors-place.is) in
-    let f_at : get_elem? fs (length spots) ≡ some f = ap (get_elem? fs) before.count ∙ item_at fs i NoRule lt_f in
+    let d_at : get_elem? ds i ≡ some d = item_at ds i d lt ∙ sym (ap (λ (e : Descriptor). some e) c.index-descriptors-place.is) in
+    let f_at : get_elem? fs i ≡ some f = item_at fs i NoRule lt_f in
+    let spot_pushed : c.push.new.self.items ≡ spots ++ o ∷ [] = c.push.ensures.items ∙ ap (λ (p : Option Spot). spots ++ p ∷ []) c.spot_of.ensures in
+    let seen_pushed : c.push-in-Ok.new.self.items ≡ values ++ n ∷ [] = c.push-in-Ok.ensures.items ∙ ap (λ (m : ℕ). values ++ m ∷ []) c.seen_of.ensures in
     record {
       known = c.find_next.ensures.known;
-      same = spots_then c.args.known.now c.descriptors.known c.find_next.new.known before.same c.find_next.ensures.same;
+      same = same_known_then old c.descriptors.known c.find_next.new.known before.same c.find_next.ensures.same;
       count = omega (arith, c.push.ensures.len, before.count);
-      own = subst (AreOwn cells claims v.pairs r v.moment ds fs) (sym c.push.ensures.items)
-          (each_next (IsOwnAt cells claims v.pairs r v.moment) ds fs spots d f o before.own d_at f_at c.in-Ok.ensures.own);
-      spots = subst (AreKnown r v.moment c.args.known.now ds fs) (sym c.push.ensures.items)
-          (each_next (IsKnownAt r v.moment c.args.known.now) ds fs spots d f o before.spots d_at f_at
-          (known_since r v.moment c.args.known.now c.descriptors.known d f o before.same c.in-Ok.ensures.spot));
+      own = subst (AreOwn cells claims v.pairs r v.moment ds fs) (sym spot_pushed)
+          (each_next (IsOwnAt cells claims v.pairs r v.moment) ds fs spots d f o before.own (ap (get_elem? ds) before.count ∙ d_at) (ap (get_elem? fs) before.count ∙ f_at)
+          c.in-Ok.ensures.own);
+      spots = subst (AreKnown r v.moment old ds fs) (sym spot_pushed)
+          (each_next (IsKnownAt r v.moment old) ds fs spots d f o before.spots (ap (get_elem? ds) before.count ∙ d_at) (ap (get_elem? fs) before.count ∙ f_at)
+          (known_since r v.moment old c.descriptors.known d f o (spots_same old c.descriptors.known before.same) c.in-Ok.ensures.spot));
+      values = omega (arith, c.push-in-Ok.ensures.len, before.values);
+      seen = subst (AreSeenAt claims r v.moment old ds fs) (sym seen_pushed)
+          (each_next (IsSeenAt claims r v.moment old) ds fs values d f n before.seen (ap (get_elem? ds) before.values ∙ d_at) (ap (get_elem? fs) before.values ∙ f_at)
+          (seen_since r v.moment claims old c.descriptors.known before.same d f n c.in-Ok.ensures.seen));
     }
 
 pub returns-in-Err-clause-unknown : goal.returns-in-Err-clause-unknown
@@ -63,6 +73,6 @@ returns-in-Err-clause-unknown g c =
         descriptor = item_at ds i d lt ∙ sym (ap (λ (e : Descriptor). some e) c.index-descriptors-place.is);
         found = item_at fs i NoRule lt_f;
       };
-      unknown = unknown_since r v.moment c.args.known.now c.descriptors.known d f before.same c.in-Err.ensures.unknown;
+      unknown = unknown_since r v.moment c.args.known.now c.descriptors.known d f (spots_same c.args.known.now c.descriptors.known before.same) c.in-Err.ensures.unknown;
       before = knows_under r v.moment cells claims v.pairs c.args.known.now ds fs c.descriptors.spots.items i (omega (arith, before.count)) before.own before.spots;
     }

@@ -1,56 +1,40 @@
-use Rattle.std.proofs.Common.{◌≡◌, sym, subst, ap, ◌∙◌}
+use Rattle.std.proofs.Common.{◌≡◌, ◌∙◌, List, Option, Some, None, IfSome, sym, subst, ap}
 use Rattle.told_list.specs.Tokens.{view}
+use Rattle.rate_types.specs.declared.counter_key.CounterKey.{CounterKey}
 use Rattle.window_keys.specs.Counter.{counter_of}
-use Rattle.window_keys.specs.Key.{key_bytes}
-use Rattle.window_keys.specs.Window.{window_start}
-use Rattle.rate_limiter.specs.Known.{key_of, IsBoundEntry, AreBoundEntries}
-use Rattle.rate_limiter.proofs.Knowing.{asked_all, asked_spots, found_bound}
-use Rattle.rate_limiter.proofs.Seeking.{spot_none, spot_some}
+use Rattle.counter_directory.specs.declared.claim.Claim.{Claim}
+use Rattle.over_cache.specs.Entries.{Entries, known_of}
+use Rattle.over_cache.specs.declared.known.Known.{Known}
+use Rattle.rate_limiter.specs.Known.{counter_named, key_of, IsBoundEntry, AreBoundEntries}
+use Rattle.rate_limiter.specs.Sought.{IsOwnSpot}
+use Rattle.rate_limiter.proofs.Knowing.{asked_all, asked_same, own_entry}
 use Rattle.rate_limiter.proofs.sought.find_one.Goals as goal
-
-pub returns-in_err-found-clause-known : goal.returns-in_err-found-clause-known
-returns-in_err-found-clause-known g c =
-    let cells = g.N.CellNaming.setup.cells in
-    let claims = (view c.args.claims.now).known in
-    let pins = c.args.cell_pass.now.pairs in
-    subst (AreBoundEntries cells claims pins) (sym c.known.ensures.order)
-    (asked_all (IsBoundEntry cells claims pins) c.as_slice.result.now c.args.known.now c.requires.known)
-
-pub returns-in_err-found-clause-same : goal.returns-in_err-found-clause-same
-returns-in_err-found-clause-same g c = asked_spots c.as_slice.result.now c.args.known.now c.known.new.self c.known.ensures.order
-
-pub returns-in_err-found-clause-spot : goal.returns-in_err-found-clause-spot
-returns-in_err-found-clause-spot g c =
-    let start = c.start.ensures.start ∙ ap (window_start c.args.unit) c.moment-moment.ensures in
-    let q = counter_of c.args.request.now.domain c.args.descriptor.now c.args.unit c.args.cell_pass.now.moment in
-    let is : c.as_slice.result.now ≡ key_of q
-    = c.as_slice.ensures.value ∙ c.write_key.ensures.bytes
-    ∙ (λ i. key_bytes (c.domain.ensures.same i) c.args.descriptor.now.entries c.args.unit (start i)) in
-    c.from_residual.ensures ∙ spot_none q c.as_slice.result.now c.args.known.now is (sym c.in_err-found.ensures.known)
 
 pub returns-clause-known : goal.returns-clause-known
 returns-clause-known g c =
     let cells = g.N.CellNaming.setup.cells in
     let claims = (view c.args.claims.now).known in
     let pins = c.args.cell_pass.now.pairs in
-    subst (AreBoundEntries cells claims pins) (sym c.known.ensures.order)
-    (asked_all (IsBoundEntry cells claims pins) c.as_slice.result.now c.args.known.now c.requires.known)
+    let key = key_of (counter_named c.domain.result.now c.args.descriptor.now.entries c.args.unit c.moment-moment.result) in
+    subst (AreBoundEntries cells claims pins) (sym c.find.ensures.order) (asked_all (IsBoundEntry cells claims pins) key c.args.known.now c.requires.known)
 
 pub returns-clause-same : goal.returns-clause-same
-returns-clause-same g c = asked_spots c.as_slice.result.now c.args.known.now c.known.new.self c.known.ensures.order
+returns-clause-same g c =
+    asked_same (key_of (counter_named c.domain.result.now c.args.descriptor.now.entries c.args.unit c.moment-moment.result)) c.args.known.now c.find.new.self
+    c.find.ensures.order
 
-pub returns-clause-spot : goal.returns-clause-spot
-returns-clause-spot g c =
-    let start = c.start.ensures.start ∙ ap (window_start c.args.unit) c.moment-moment.ensures in
-    let q = counter_of c.args.request.now.domain c.args.descriptor.now c.args.unit c.args.cell_pass.now.moment in
-    let is : c.as_slice.result.now ≡ key_of q
-    = c.as_slice.ensures.value ∙ c.write_key.ensures.bytes
-    ∙ (λ i. key_bytes (c.domain.ensures.same i) c.args.descriptor.now.entries c.args.unit (start i)) in
-    spot_some q c.as_slice.result.now c.args.known.now c.in_ok-found.found is (sym c.in_ok-found.ensures.known)
+pub returns-clause-found : goal.returns-clause-found
+returns-clause-found g c =
+    let same : counter_named c.domain.result.now c.args.descriptor.now.entries c.args.unit c.moment-moment.result
+    ≡ counter_of c.args.request.now.domain c.args.descriptor.now c.args.unit c.args.cell_pass.now.moment
+    = λ i. counter_named (c.domain.ensures.same i) c.args.descriptor.now.entries c.args.unit (c.moment-moment.ensures i) in
+    c.find.ensures.found ∙ ap (λ (q : CounterKey). known_of (key_of q) c.args.known.now) same
 
 pub returns-clause-own : goal.returns-clause-own
 returns-clause-own g c =
-    let start = c.start.ensures.start ∙ ap (window_start c.args.unit) c.moment-moment.ensures in
-    found_bound g.N.CellNaming.setup.cells (view c.args.claims.now).known c.args.cell_pass.now.pairs c.domain.result.now c.args.request.now.domain c.args.descriptor.now
-    c.args.unit c.args.cell_pass.now.moment c.start.result c.write_key.new.out.items c.as_slice.result.now c.write_key.ensures.of_no_other c.domain.ensures.same start
-    c.as_slice.ensures.value c.args.known.now c.requires.known c.in_ok-found.found (sym c.in_ok-found.ensures.known)
+    let q = counter_of c.args.request.now.domain c.args.descriptor.now c.args.unit c.args.cell_pass.now.moment in
+    let same : counter_named c.domain.result.now c.args.descriptor.now.entries c.args.unit c.moment-moment.result ≡ q
+    = λ i. counter_named (c.domain.ensures.same i) c.args.descriptor.now.entries c.args.unit (c.moment-moment.ensures i) in
+    own_entry g.N.CellNaming.setup.cells (view c.args.claims.now).known c.args.cell_pass.now.pairs q
+    (subst (λ (p : CounterKey). (x : CounterKey) → key_of x ≡ key_of p → x ≡ p) same c.find.ensures.alone) c.args.known.now c.requires.known c.find.result
+    (c.find.ensures.found ∙ ap (λ (p : CounterKey). known_of (key_of p) c.args.known.now) same)

@@ -57,7 +57,8 @@ invariant_of-self g c =
     let at : get_elem? b.index.items c.from-unit.result ≡ some r =
     at_index b.index.items c.from-unit.result r (omega (arith, c.from-unit.ensures, c.rank.ensures, b.index.ok.0, b.found.four, rank_few n.unit)) c.index_mut.ensures.value in
     let x : Claim = record { key = c.key_at-key.result; cell = e.claims.0; claim = e.claims.1; moment = b.pool.last } in
-    let same = last_expired b.pool.reserved.items _ (spot e.claims.0 e.claims.1) s s c.len.result e.claims.2 (omega (arith, b.pool.reserved.ok.0, c.len.ensures)) c.index-spot.ensures in
+    let same = last_expired b.pool.reserved.items _ (spot e.claims.0 e.claims.1) s s c.len.result e.claims.2 (omega (arith, b.pool.reserved.ok.0, c.len.ensures))
+    c.index-spot.ensures in
     record {
       size = e.numbers.cells ∙ b.size;
       heard = omega (arith, e.same.2, b.heard, ap (λ (v : CellView). v.heard) c.open_cell.ensures.opened, ap (λ (v : CellView). v.heard) c.reset.ensures.reset);

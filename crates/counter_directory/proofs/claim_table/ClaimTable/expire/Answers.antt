@@ -17,5 +17,6 @@ invariant_of-self g c =
       gates = gates_to _ _ _ _ _ _ _ _ _ _ _ e.numbers.cells e.last e.numbers.next_claim e.same.0 (ap (λ z. z.items) e.same.1)
           (gates_later b.claimer b.pool.cells b.pool.last c.args.moment b.pool.next_claim b.pool.claims b.pool.reserved.items c.requires.0 b.gates);
       found = index_to _ _ _ _ _ e.last e.same.0
-          (index_turned b.pool.last c.args.moment b.pool.claims b.index.items t.items c.requires.0 (omega (arith, t.ok.0, c.turn_all.ensures.four)) c.turn_all.ensures.turned b.found);
+          (index_turned b.pool.last c.args.moment b.pool.claims b.index.items t.items c.requires.0 (omega (arith, t.ok.0, c.turn_all.ensures.four)) c.turn_all.ensures.turned
+          b.found);
     }

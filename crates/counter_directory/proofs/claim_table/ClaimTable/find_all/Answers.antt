@@ -16,7 +16,8 @@ returns-in_default-clause-found g c = λ all.
     let i = c.loop-name.name-index in
     let keys = keys_at m c.args.names.now in
     let at : get_or keys i (key_at m n) ≡ key_at m n = key_or m c.args.names.now i n ∙ ap (key_at m) (sym c.name-item.is) in
-    let one = all (key_at m n) (key_count_at (key_at m n) keys i (key_at m n) (omega (arith, len_keys m c.args.names.now)) (is_same (get_or keys i (key_at m n)) (key_at m n) at)) in
+    let one = all (key_at m n) (key_count_at (key_at m n) keys i (key_at m n) (omega (arith, len_keys m c.args.names.now)) (is_same (get_or keys i (key_at m n)) (key_at m n) at))
+    in
     absurd (omega (arith, one, c.in_default.ensures.none))
 
 pub loop-name-preserved : goal.loop-name-preserved

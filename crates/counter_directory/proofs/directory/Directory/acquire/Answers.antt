@@ -25,7 +25,8 @@ returns-in-Ok-clause-turn g c =
     let most : z.pool.most ≡ state.claims_max = t.5 ∙ ap (λ (o : DirectoryView). o.claims_max) c.self.view_is in
     let b' : Bounds = record { cells = cells; claims = state.claims_max; held = 32 * (state.passes - 1) } in
     let same : b ≡ b' = λ i. record { cells = cells; claims = claims i; held = 32 * (passes i - 1) } in
-    turns b b' z.pool.most c.args.names.now c.args.cell_pass.now c.with.new.act.cell_pass.now c.cell_pass-1.given.0 found left (Ok c.acquired-2-1.given.0) _ _ same most cell_pass did t.2.3 t.2.4 t.3
+    turns b b' z.pool.most c.args.names.now c.args.cell_pass.now c.with.new.act.cell_pass.now c.cell_pass-1.given.0 found left (Ok c.acquired-2-1.given.0) _ _ same most cell_pass
+    did t.2.3 t.2.4 t.3
 
 pub returns-in-Err-clause-turn : goal.returns-in-Err-clause-turn
 returns-in-Err-clause-turn g c =
@@ -43,7 +44,8 @@ returns-in-Err-clause-turn g c =
     let most : z.pool.most ≡ state.claims_max = t.5 ∙ ap (λ (o : DirectoryView). o.claims_max) c.self.view_is in
     let b' : Bounds = record { cells = cells; claims = state.claims_max; held = 32 * (state.passes - 1) } in
     let same : b ≡ b' = λ i. record { cells = cells; claims = claims i; held = 32 * (passes i - 1) } in
-    turns b b' z.pool.most c.args.names.now c.args.cell_pass.now c.with.new.act.cell_pass.now c.cell_pass-1.given.0 found left (Err c.in-Err.fault) _ _ same most cell_pass t.2.2 t.2.3 t.2.4 t.3
+    turns b b' z.pool.most c.args.names.now c.args.cell_pass.now c.with.new.act.cell_pass.now c.cell_pass-1.given.0 found left (Err c.in-Err.fault) _ _ same most cell_pass t.2.2
+    t.2.3 t.2.4 t.3
 
 pub returns-in-Ok-clause-within : goal.returns-in-Ok-clause-within
 returns-in-Ok-clause-within g c =

@@ -20,4 +20,5 @@ returns-clause-order c =
     ∙ ap (asked c.args.key.now) c.self.view_is
 
 pub returns-clause-remembers : goal.returns-clause-remembers
-returns-clause-remembers c = λ uses r. subst (λ (es : Entries). Remembers (Asked c.args.key.now ∷ uses) es) (sym (returns-clause-order c)) (asked_remembers c.args.key.now uses c.args.self.now r)
+returns-clause-remembers c = λ uses r. subst (λ (es : Entries). Remembers (Asked c.args.key.now ∷ uses) es) (sym (returns-clause-order c))
+    (asked_remembers c.args.key.now uses c.args.self.now r)

@@ -1,5 +1,10 @@
 use Rattle.std.proofs.Common.{◌≡◌, ◌∙◌, ◌<◌, ◌&&◌, not, ℕ, List, All, length, map, refl, sym, subst, ap, arith}
 use Rattle.std.specs.List.{list_any}
+use mathlib.Core.Option.{some}
+use lib.ListN.{get_elem?}
+use Rattle.rate_types.specs.declared.counter_name.CounterName.{CounterName}
+use Rattle.counter_directory.specs.Keys.{keys_at}
+use Rattle.counter_directory.specs.Spots.{Bound}
 use Rattle.told_list.specs.Tokens.{list_of, view}
 use Rattle.rate_types.specs.declared.request.Descriptor.{Descriptor}
 use Rattle.rule_lookup.specs.declared.found.Found.{Found}
@@ -16,7 +21,9 @@ use Rattle.rate_limiter.specs.PassStep.{HasRenewed}
 use Rattle.rate_limiter.specs.Planned.{names_under, planned_each, DoneEach, IsReady}
 use Rattle.rate_limiter.specs.Refusals.{HasRefused, HasCause}
 use Rattle.rate_limiter.proofs.Readying.{ready_all}
-use Rattle.rate_limiter.proofs.Stepping.{early, refused_early, refusal_of, step_of}
+use Rattle.rate_limiter.proofs.Stepping.{early, refused_early, refusal_of, step_of, still_then, each_still, leaves_still}
+use Rattle.rate_limiter.proofs.Resting.{no_turn, no_turn_at_all}
+use Rattle.rate_limiter.proofs.Seeing.{looks_kept}
 use Rattle.rate_limiter.proofs.limiter.Limiter.check.Goals as goal
 
 pub returns-in_err-renew-clause-step : goal.returns-in_err-renew-clause-step
@@ -85,6 +92,29 @@ answer-requires-clause-count g c =
     ap length c.as_slice-in-Ok-2.ensures.value ∙ c.in-Ok.ensures.pinned.count
     ∙ (λ i. length (names_under request (all i) ((c.as_slice.ensures.value ∙ sym c.as_slice-in-Ok.ensures.value) i)))
 
+pub answer-requires-clause-under : goal.answer-requires-clause-under
+answer-requires-clause-under g c = λ i s a. c.in-Ok.ensures.pinned.under i s (subst (λ (l : List Spot). get_elem? l i ≡ some s) c.as_slice-in-Ok-2.ensures.value a)
+
+pub answer-requires-clause-bound : goal.answer-requires-clause-bound
+answer-requires-clause-bound g c =
+    let request = c.args.request.now in
+    let claims = (view c.pin_counters.new.claims).known in
+    let w = c.pin_counters.new.cell_pass in
+    let all = c.descriptors-descriptors.ensures.all in
+    subst (Bound claims (keys_at w.moment (names_under request request.descriptors c.as_slice-in-Ok.result.now))) (sym c.as_slice-in-Ok-2.ensures.value)
+    (subst (λ (ns : List CounterName). Bound claims (keys_at w.moment ns) c.in-Ok.spots.items)
+    (λ i. names_under request (all i) ((c.as_slice.ensures.value ∙ sym c.as_slice-in-Ok.ensures.value) i)) c.in-Ok.ensures.pinned.bound)
+
+pub answer-requires-clause-values : goal.answer-requires-clause-values
+answer-requires-clause-values g c = λ i d f n a b e.
+    c.in-Ok.ensures.values i d f n (subst (λ (l : List Descriptor). get_elem? l i ≡ some d) (sym c.descriptors-descriptors.ensures.all) a)
+    (subst (λ (l : List Found). get_elem? l i ≡ some f) (c.as_slice-in-Ok.ensures.value ∙ sym c.as_slice.ensures.value) b)
+    (subst (λ (l : List ℕ). get_elem? l i ≡ some n) c.as_slice-in-Ok-3.ensures.value e)
+
+pub answer-requires-clause-looks : goal.answer-requires-clause-looks
+answer-requires-clause-looks g c =
+    looks_kept c.pass.inside.looks c.pass.inside.cells c.pin_counters.new.cell_pass c.pin_counters.ensures.looks c.pass.invariant.4
+
 pub returns-in-Ok-clause-step : goal.returns-in-Ok-clause-step
 returns-in-Ok-clause-step g c =
     let limiter = c.args.self.now in
@@ -117,7 +147,7 @@ returns-in-Ok-clause-step g c =
       version = p2.version;
       claims = view c.pin_counters.new.claims;
       cells = c.answer.new.cell_pass;
-      known = c.pin_counters.new.known;
+      known = c.answer.new.known;
       refused = inside.refused;
     } in
     let r = c.answer.result in
@@ -131,3 +161,75 @@ returns-in-Ok-clause-step g c =
     names rules spots w did.0 r renewed rules_are names_are c.in-Ok.ensures.pinned done did.2
     c.answer.ensures.bare refl (λ i. record { claims = list i; versions = versions_of inside.version }) refl (c.answer.ensures.version ∙ c.version.ensures) c.answer.ensures.moment
     c.answer.ensures.over
+
+pub returns-in_err-renew-clause-turns : goal.returns-in_err-renew-clause-turns
+returns-in_err-renew-clause-turns g c =
+    no_turn_at_all c.args.request.now c.tick.result c.args.now c.args.pass.now c.tick.new.pass c.renew.new.pass c.renew.new.pass c.tick.ensures.ticked c.tick.ensures.rest
+    c.renew.ensures.rest refl
+
+pub returns-in-Err-clause-turns : goal.returns-in-Err-clause-turns
+returns-in-Err-clause-turns g c =
+    let request = c.args.request.now in
+    let p = c.args.pass.now in
+    let p1 = c.tick.new.pass in
+    let inside = c.pass.inside in
+    let p2 : PassView = record {
+      limiter = record { claims = list_of inside.claims; versions = versions_of inside.version };
+      version = pass_state inside.version;
+      claims = view inside.claims;
+      cells = inside.cells;
+      known = inside.known;
+      refused = inside.refused;
+    } in
+    let rest : KeepsAllButVersion p1 p2 = subst (KeepsAllButVersion p1) (sym c.pass.view_is) c.renew.ensures.rest in
+    let all = c.descriptors-descriptors.ensures.all in
+    let rules = c.as_slice.result.now in
+    let rules_are : rules ≡ map (found_for p2.version.index request) request.descriptors
+    = c.as_slice.ensures.value ∙ c.find_rules-rules.ensures ∙ (λ i. map (found_among (c.index.ensures.same i) (c.domain.ensures.same i) (all i)) (all i)) in
+    let q : PassView = record {
+      limiter = record { claims = list_of c.pin_counters.new.claims; versions = versions_of inside.version };
+      version = p2.version;
+      claims = view c.pin_counters.new.claims;
+      cells = c.pin_counters.new.cell_pass;
+      known = c.pin_counters.new.known;
+      refused = c.refuse.new.refused;
+    } in
+    let waited = c.in-Err.ensures.refused.waited in
+    no_turn request c.tick.result c.args.now p p1 p2 q c.tick.ensures.ticked c.tick.ensures.rest rest c.descriptors-descriptors.result.now rules all rules_are refl
+    waited.ticked.added waited.ticked.ticks c.pin_counters.ensures.turns
+
+pub returns-in-Ok-clause-turns : goal.returns-in-Ok-clause-turns
+returns-in-Ok-clause-turns g c =
+    let request = c.args.request.now in
+    let p = c.args.pass.now in
+    let p1 = c.tick.new.pass in
+    let inside = c.pass.inside in
+    let p2 : PassView = record {
+      limiter = record { claims = list_of inside.claims; versions = versions_of inside.version };
+      version = pass_state inside.version;
+      claims = view inside.claims;
+      cells = inside.cells;
+      known = inside.known;
+      refused = inside.refused;
+    } in
+    let rest : KeepsAllButVersion p1 p2 = subst (KeepsAllButVersion p1) (sym c.pass.view_is) c.renew.ensures.rest in
+    let all = c.descriptors-descriptors.ensures.all in
+    let rules = c.as_slice.result.now in
+    let rules_are : rules ≡ map (found_for p2.version.index request) request.descriptors
+    = c.as_slice.ensures.value ∙ c.find_rules-rules.ensures ∙ (λ i. map (found_among (c.index.ensures.same i) (c.domain.ensures.same i) (all i)) (all i)) in
+    let w = c.pin_counters.new.cell_pass in
+    let q : PassView = record {
+      limiter = record { claims = list_of c.pin_counters.new.claims; versions = versions_of inside.version };
+      version = p2.version;
+      claims = view c.pin_counters.new.claims;
+      cells = c.answer.new.cell_pass;
+      known = c.answer.new.known;
+      refused = inside.refused;
+    } in
+    let did = c.answer.ensures.done in
+    let still = still_then w did.0 q.cells
+    (each_still w.moment (planned_each request request.descriptors c.as_slice-in-Ok.result.now c.as_slice-in-Ok-2.result.now) c.answer.result.statuses.items w did.0 did.1)
+    (leaves_still did.0 q.cells did.2) in
+    let waited = c.in-Ok.ensures.pinned.waited in
+    no_turn request c.tick.result c.args.now p p1 p2 q c.tick.ensures.ticked c.tick.ensures.rest rest c.descriptors-descriptors.result.now rules all rules_are refl
+    waited.ticked.added (still.ticks ∙ waited.ticked.ticks) (λ knows others. c.pin_counters.ensures.turns knows (sym still.others ∙ others))

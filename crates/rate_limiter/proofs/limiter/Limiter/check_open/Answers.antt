@@ -1,5 +1,10 @@
 use Rattle.std.proofs.Common.{◌≡◌, ◌∙◌, ◌<◌, ◌+◌, ℕ, List, length, map, refl, sym, subst, ap, arith}
 use Rattle.std.specs.Prelude.{Err}
+use mathlib.Core.Option.{some}
+use lib.ListN.{get_elem?}
+use Rattle.rate_types.specs.declared.counter_name.CounterName.{CounterName}
+use Rattle.counter_directory.specs.Keys.{keys_at}
+use Rattle.counter_directory.specs.Spots.{Bound}
 use Rattle.told_list.specs.Tokens.{list_of, view}
 use Rattle.rate_types.specs.declared.request.Descriptor.{Descriptor}
 use Rattle.descriptor_tree.specs.Trees.{DomainTree}
@@ -14,11 +19,28 @@ use Rattle.rate_limiter.specs.Passes.{LimiterId, LimiterView, PassView, KeepsAll
 use Rattle.rate_limiter.specs.PassStep.{HasRenewed, HasOffered, IsPassStep}
 use Rattle.rate_limiter.specs.Opens.{Opens}
 use Rattle.rate_limiter.specs.Planned.{names_under, planned_each, DoneEach}
-use Rattle.rate_limiter.specs.Sought.{HasMissCause, KnowsUnder}
-use Rattle.rate_limiter.proofs.Knowing.{pinned_known}
+use Rattle.rate_limiter.specs.Sought.{HasMissCause, KnowsUnder, IsSeenAt}
+use Rattle.rate_limiter.specs.Known.{SameSpots}
+use Rattle.rate_limiter.proofs.Knowing.{pinned_known, spots_same}
+use Rattle.rate_limiter.proofs.Seeking.{seen_still, spots_then}
+use Rattle.rate_limiter.proofs.Seeing.{seen_kept, seen_same, looks_kept}
 use Rattle.rate_limiter.proofs.Opening.{loaded_alone, between, first_offered, first_ticks, then_version, open_renews, stayed_open, knows_first, opens_not}
 use Rattle.rate_limiter.proofs.Stepping.{step_of}
 use Rattle.rate_limiter.proofs.limiter.Limiter.check_open.Goals as goal
+
+pub invariant_of-pass-in-Err : goal.invariant_of-pass-in-Err
+invariant_of-pass-in-Err g c =
+    let v = c.pass-2.inside.cells in
+    let w = c.pin_known.new.cell_pass in
+    let known = c.pin_known.new.known in
+    let before = c.pass-2.invariant in
+    let kept = c.in-Err.ensures.kept in (
+      kept.1,
+      c.pin_known.ensures.known,
+      seen_kept v w known (record { looks = kept.0.looks; charges = kept.0.charges }) (seen_same v c.pass-2.inside.known known c.pin_known.ensures.same before.2),
+      before.3,
+      looks_kept c.pass-2.inside.looks v w kept.0.looks before.4,
+    )
 
 pub returns-in-Err-clause-step : goal.returns-in-Err-clause-step
 returns-in-Err-clause-step g c =
@@ -70,8 +92,48 @@ returns-in-Err-clause-step g c =
     let m = c.in-Err.missed in
     let kept = c.in-Err.ensures.kept in
     subst (λ (e : NotOpen). Opens limiter request c.args.now p (Err e) q) (sym c.of.ensures)
-    (opens_not c.args.now p p1 p2 loads offered ticks q refl refl refl c.pin_known.ensures.same refl loaded newest request kept.0.moment rules rules_are limiter m kept.0 kept.1
+    (opens_not c.args.now p p1 p2 loads offered ticks q refl refl refl (spots_same p2.known q.known c.pin_known.ensures.same) refl loaded newest request kept.0.moment rules rules_are limiter m kept.0 kept.1
     (subst (λ (ds : List Descriptor). HasMissCause request p2.cells.moment p2.known ds rules m p2.cells q.cells) all c.in-Err.ensures.missed))
+
+pub answer-requires-clause-under : goal.answer-requires-clause-under
+answer-requires-clause-under g c = λ i s a. c.in-Ok.ensures.pinned.under i s (subst (λ (l : List Spot). get_elem? l i ≡ some s) c.as_slice-in-Ok-2.ensures.value a)
+
+pub answer-requires-clause-bound : goal.answer-requires-clause-bound
+answer-requires-clause-bound g c =
+    let request = c.args.request.now in
+    let claims = (view c.pass-2.inside.claims).known in
+    let a = c.in-Ok.ensures.pinned in
+    let all = c.descriptors-descriptors.ensures.all in
+    let m = c.pin_known.new.cell_pass.moment in
+    subst (Bound claims (keys_at m (names_under request request.descriptors c.as_slice-in-Ok.result.now))) (sym c.as_slice-in-Ok-2.ensures.value)
+    (subst (λ (ns : List CounterName). Bound claims (keys_at m ns) c.in-Ok.spots.items)
+    (λ i. names_under request (all i) ((c.as_slice.ensures.value ∙ sym c.as_slice-in-Ok.ensures.value) i))
+    (subst (λ n. Bound claims (keys_at n (names_under request c.descriptors-descriptors.result.now c.as_slice.result.now)) c.in-Ok.spots.items)
+    (sym a.same.moment) a.bound))
+
+pub answer-requires-clause-values : goal.answer-requires-clause-values
+answer-requires-clause-values g c = λ i d f n a b e.
+    let request = c.args.request.now in
+    let claims = (view c.pass-2.inside.claims).known in
+    let known = c.pin_known.new.known in
+    let v = c.pass-2.inside.cells in
+    let was = c.in-Ok.ensures.seen i d f n (subst (λ (l : List Descriptor). get_elem? l i ≡ some d) (sym c.descriptors-descriptors.ensures.all) a)
+    (subst (λ (l : List Found). get_elem? l i ≡ some f) (c.as_slice-in-Ok.ensures.value ∙ sym c.as_slice.ensures.value) b)
+    (subst (λ (l : List ℕ). get_elem? l i ≡ some n) c.as_slice-in-Ok-3.ensures.value e) in
+    subst (λ m. IsSeenAt claims request m known d f n) (sym c.in-Ok.ensures.pinned.same.moment)
+    (seen_still request v.moment claims c.pass-2.inside.known known c.pin_known.ensures.same d f n was)
+
+pub answer-requires-clause-seen : goal.answer-requires-clause-seen
+answer-requires-clause-seen g c =
+    let v = c.pass-2.inside.cells in
+    let a = c.in-Ok.ensures.pinned in
+    let known = c.pin_known.new.known in
+    seen_kept v c.pin_known.new.cell_pass known (record { looks = a.same.looks; charges = a.same.charges })
+    (seen_same v c.pass-2.inside.known known c.pin_known.ensures.same c.pass-2.invariant.2)
+
+pub answer-requires-clause-looks : goal.answer-requires-clause-looks
+answer-requires-clause-looks g c =
+    looks_kept c.pass-2.inside.looks c.pass-2.inside.cells c.pin_known.new.cell_pass c.in-Ok.ensures.pinned.same.looks c.pass-2.invariant.4
 
 pub returns-in-Ok-clause-step : goal.returns-in-Ok-clause-step
 returns-in-Ok-clause-step g c =
@@ -121,9 +183,11 @@ returns-in-Ok-clause-step g c =
       version = p2.version;
       claims = p2.claims;
       cells = c.answer.new.cell_pass;
-      known = c.pin_known.new.known;
+      known = c.answer.new.known;
       refused = p2.refused;
     } in
+    let spots_kept : SameSpots p2.known q.known
+    = spots_then p2.known c.pin_known.new.known q.known (spots_same p2.known c.pin_known.new.known c.pin_known.ensures.same) c.answer.ensures.spots in
     let r = c.answer.result in
     let spots = c.in-Ok.spots.items in
     let did = c.answer.ensures.done in
@@ -139,7 +203,7 @@ returns-in-Ok-clause-step g c =
     c.answer.ensures.bare refl refl refl (c.answer.ensures.version ∙ c.version.ensures) c.answer.ensures.moment c.answer.ensures.over in
     let moment : q.cells.moment ≡ p2.cells.moment = sym step.moment_is ∙ c.answer.ensures.moment ∙ c.in-Ok.ensures.pinned.same.moment in (
       step,
-      stayed_open c.args.now p p1 p2 loads offered ticks q refl refl refl c.pin_known.ensures.same refl loaded newest,
-      knows_first c.args.now p p1 p2 loads offered ticks q refl refl refl c.pin_known.ensures.same refl loaded newest request moment rules rules_are (length request.descriptors)
+      stayed_open c.args.now p p1 p2 loads offered ticks q refl refl refl spots_kept refl loaded newest,
+      knows_first c.args.now p p1 p2 loads offered ticks q refl refl refl spots_kept refl loaded newest request moment rules rules_are (length request.descriptors)
           (subst (λ (l : List Descriptor). KnowsUnder (length l) request p2.cells.moment p2.known l rules) all c.in-Ok.ensures.all),
     )

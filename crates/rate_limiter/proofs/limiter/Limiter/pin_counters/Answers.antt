@@ -1,4 +1,6 @@
-use Rattle.std.proofs.Common.{◌≡◌, ◌∙◌, [], List, length, subst, ap, arith, rules}
+use Rattle.std.proofs.Common.{◌≡◌, ◌∙◌, ◌<◌, ℕ, [], List, length, sym, subst, ap, arith, rules}
+use mathlib.Core.Option.{some, some-ne-none}
+use lib.ListN.{get_elem?}
 use Rattle.told_list.specs.Tokens.{view}
 use Rattle.rate_types.specs.declared.counter_name.CounterName.{CounterName}
 use Rattle.counter_directory.specs.Keys.{keys_at}
@@ -6,13 +8,58 @@ use Rattle.rate_limiter.specs.Passes.{bounds_of}
 use Rattle.rate_limiter.specs.Planned.{names_under}
 use Rattle.rate_limiter.specs.Pinned.{SameButPins, HasPins, HasNoPins}
 use Rattle.rate_limiter.proofs.Knowing.{pinned_known, pins_after, no_pins_after, entries_later, claimed_prefix}
+use Rattle.rate_limiter.specs.Sought.{IsSeenAt, KnowsUnder}
 use Rattle.rate_limiter.proofs.Readying.{names_few}
+use Rattle.rate_limiter.proofs.Seeing.{seen_kept, seen_same}
+use Rattle.rate_limiter.proofs.Seeking.{seen_still}
 use Rattle.rate_limiter.proofs.limiter.Limiter.pin_counters.Goals as goal
 
 pub returns-in-Ok-clause-pinned : goal.returns-in-Ok-clause-pinned
 returns-in-Ok-clause-pinned g c =
     pinned_known g.N.CellNaming.setup.cells (names_under c.args.request.now c.args.descriptors.now c.args.rules.now) c.in-Ok.spots.items c.args.cell_pass.now
     c.pin_known.new.cell_pass (view c.args.claims.now) c.in-Ok.ensures.pinned
+
+pub returns-in-Ok-clause-seen : goal.returns-in-Ok-clause-seen
+returns-in-Ok-clause-seen g c =
+    let a = c.in-Ok.ensures.pinned in
+    let v = c.args.cell_pass.now in
+    let known = c.pin_known.new.known in
+    seen_kept v c.pin_known.new.cell_pass known (record { looks = a.same.looks; charges = a.same.charges })
+    (seen_same v c.args.known.now known c.pin_known.ensures.same c.requires.seen)
+
+pub returns-in-Ok-clause-looks : goal.returns-in-Ok-clause-looks
+returns-in-Ok-clause-looks g c = c.in-Ok.ensures.pinned.same.looks
+
+pub returns-in-Ok-clause-values : goal.returns-in-Ok-clause-values
+returns-in-Ok-clause-values g c = λ i d f n a b e.
+    let r = c.args.request.now in
+    let v = c.args.cell_pass.now in
+    let claims = (view c.args.claims.now).known in
+    let known = c.pin_known.new.known in
+    subst (λ m. IsSeenAt claims r m known d f n) (sym c.in-Ok.ensures.pinned.same.moment)
+    (seen_still r v.moment claims c.args.known.now known c.pin_known.ensures.same d f n (c.in-Ok.ensures.seen i d f n a b e))
+
+pub returns-in_default-names_of-clause-seen : goal.returns-in_default-names_of-clause-seen
+returns-in_default-names_of-clause-seen g c =
+    let v = c.args.cell_pass.now in
+    let mid = c.pin_known.new.cell_pass in
+    let known = c.pin_known.new.known in
+    let missed : SameButPins v mid × (mid.good ≡ []) = search rules in
+    seen_kept v mid known (record { looks = missed.0.looks; charges = missed.0.charges }) (seen_same v c.args.known.now known c.pin_known.ensures.same c.requires.seen)
+
+pub returns-in-Err-clause-seen : goal.returns-in-Err-clause-seen
+returns-in-Err-clause-seen g c =
+    let v = c.args.cell_pass.now in
+    let mid = c.pin_known.new.cell_pass in
+    let known = c.pin_known.new.known in
+    let missed : SameButPins v mid × (mid.good ≡ []) = search rules in
+    seen_kept mid c.pin_names.new.cell_pass known c.in-Err.ensures.refused.waited.keeps
+    (seen_kept v mid known (record { looks = missed.0.looks; charges = missed.0.charges }) (seen_same v c.args.known.now known c.pin_known.ensures.same c.requires.seen))
+
+pub returns-in-Err-clause-looks : goal.returns-in-Err-clause-looks
+returns-in-Err-clause-looks g c =
+    let missed : SameButPins c.args.cell_pass.now c.pin_known.new.cell_pass × (c.pin_known.new.cell_pass.good ≡ []) = search rules in
+    c.in-Err.ensures.refused.waited.keeps.looks ∙ missed.0.looks
 
 pub pin_names-requires-clause-few : goal.pin_names-requires-clause-few
 pin_names-requires-clause-few g c =
@@ -42,7 +89,8 @@ note_names-requires-clause-known g c =
     let t = view c.args.claims.now in
     let u = view c.pin_names.new.claims in
     entries_later g.N.CellNaming.setup.cells t.known u.known c.pin_known.new.cell_pass.pairs c.pin_names.new.cell_pass.pairs c.pin_known.new.known
-    (claimed_prefix (keys_at c.pin_names.new.cell_pass.moment c.as_slice.result.now) c.pin_names.new.cell_pass.moment t u c.in-Ok-pin_names.ensures.pinned.claimed) c.pin_names.ensures.grow c.pin_known.ensures.known
+    (claimed_prefix (keys_at c.pin_names.new.cell_pass.moment c.as_slice.result.now) c.pin_names.new.cell_pass.moment t u c.in-Ok-pin_names.ensures.pinned.claimed)
+    c.pin_names.ensures.grow c.pin_known.ensures.known
 
 pub returns-clause-pinned : goal.returns-clause-pinned
 returns-clause-pinned g c =
@@ -55,3 +103,53 @@ returns-clause-pinned g c =
     let missed : SameButPins v mid × (mid.good ≡ []) = search rules in
     pins_after v mid w missed.0 (names_under c.args.request.now c.args.descriptors.now c.args.rules.now) spots t u
     (subst (λ (l : List CounterName). HasPins l spots mid w t u) (c.as_slice.ensures.value ∙ c.in-Ok-names_of.ensures.names) c.in-Ok-pin_names.ensures.pinned)
+
+pub returns-clause-seen : goal.returns-clause-seen
+returns-clause-seen g c =
+    let v = c.args.cell_pass.now in
+    let mid = c.pin_known.new.cell_pass in
+    let w = c.pin_names.new.cell_pass in
+    let known = c.pin_known.new.known in
+    let missed : SameButPins v mid × (mid.good ≡ []) = search rules in
+    c.note_names.ensures.seen w (seen_kept mid w known c.in-Ok-pin_names.ensures.pinned.waited.keeps
+    (seen_kept v mid known (record { looks = missed.0.looks; charges = missed.0.charges }) (seen_same v c.args.known.now known c.pin_known.ensures.same c.requires.seen)))
+
+pub returns-clause-looks : goal.returns-clause-looks
+returns-clause-looks g c =
+    let missed : SameButPins c.args.cell_pass.now c.pin_known.new.cell_pass × (c.pin_known.new.cell_pass.good ≡ []) = search rules in
+    c.in-Ok-pin_names.ensures.pinned.waited.keeps.looks ∙ missed.0.looks
+
+pub returns-clause-values : goal.returns-clause-values
+returns-clause-values g c = λ i d f n a b e. absurd (some-ne-none n (sym (subst (λ (l : List ℕ). get_elem? l i ≡ some n) c.clear.ensures e)))
+
+pub returns-in_default-names_of-clause-turns : goal.returns-in_default-names_of-clause-turns
+returns-in_default-names_of-clause-turns g c = λ knows same.
+    let v = c.args.cell_pass.now in
+    let mid = c.pin_known.new.cell_pass in
+    let grew : KnowsUnder (length c.args.descriptors.now) c.args.request.now v.moment c.args.known.now c.args.descriptors.now c.args.rules.now → length v.others < length mid.others
+    = search rules in
+    let more = grew knows in
+    let e = ap length same in
+    absurd (omega arith)
+
+pub returns-in-Err-clause-turns : goal.returns-in-Err-clause-turns
+returns-in-Err-clause-turns g c = λ knows same.
+    let v = c.args.cell_pass.now in
+    let mid = c.pin_known.new.cell_pass in
+    let grew : KnowsUnder (length c.args.descriptors.now) c.args.request.now v.moment c.args.known.now c.args.descriptors.now c.args.rules.now → length v.others < length mid.others
+    = search rules in
+    let more = grew knows in
+    let kept = c.pin_names.ensures.others in
+    let e = ap length same in
+    absurd (omega arith)
+
+pub returns-clause-turns : goal.returns-clause-turns
+returns-clause-turns g c = λ knows same.
+    let v = c.args.cell_pass.now in
+    let mid = c.pin_known.new.cell_pass in
+    let grew : KnowsUnder (length c.args.descriptors.now) c.args.request.now v.moment c.args.known.now c.args.descriptors.now c.args.rules.now → length v.others < length mid.others
+    = search rules in
+    let more = grew knows in
+    let kept = c.pin_names.ensures.others in
+    let e = ap length same in
+    absurd (omega arith)

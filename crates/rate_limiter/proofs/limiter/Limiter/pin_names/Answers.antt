@@ -1,7 +1,7 @@
 use Rattle.std.proofs.Common.{◌∙◌, ◌*◌, ◌-◌, sym}
 use Rattle.told_list.specs.Tokens.{view}
 use Rattle.counter_directory.specs.Acquired.{Bounds}
-use Rattle.rate_limiter.proofs.Turning.{turned_ok, turned_grow, turned_had, no_names, none_had}
+use Rattle.rate_limiter.proofs.Turning.{turned_ok, turned_grow, turned_had, turned_once, turned_others, no_names, none_had}
 use Rattle.rate_limiter.proofs.limiter.Limiter.pin_names.Goals as goal
 
 pub returns-then-is_empty-clause-pinned : goal.returns-then-is_empty-clause-pinned
@@ -27,3 +27,23 @@ pub returns-in-Err-clause-grow : goal.returns-in-Err-clause-grow
 returns-in-Err-clause-grow g c =
     let b : Bounds = record { cells = g.N.CellNaming.setup.cells; claims = c.self.inside.directory.claims_max; held = 32 * (c.self.inside.directory.passes - 1) } in
     turned_grow b c.args.names.now c.acquire.result c.args.cell_pass.now c.acquire.new.cell_pass (view c.args.claims.now) (view c.acquire.new.pass) c.acquire.ensures.turn
+
+pub returns-in-Ok-clause-once : goal.returns-in-Ok-clause-once
+returns-in-Ok-clause-once g c _ =
+    let b : Bounds = record { cells = g.N.CellNaming.setup.cells; claims = c.self.inside.directory.claims_max; held = 32 * (c.self.inside.directory.passes - 1) } in
+    turned_once b c.args.names.now c.acquire.result c.args.cell_pass.now c.acquire.new.cell_pass (view c.args.claims.now) (view c.acquire.new.pass) c.acquire.ensures.turn
+
+pub returns-in-Err-clause-once : goal.returns-in-Err-clause-once
+returns-in-Err-clause-once g c _ =
+    let b : Bounds = record { cells = g.N.CellNaming.setup.cells; claims = c.self.inside.directory.claims_max; held = 32 * (c.self.inside.directory.passes - 1) } in
+    turned_once b c.args.names.now c.acquire.result c.args.cell_pass.now c.acquire.new.cell_pass (view c.args.claims.now) (view c.acquire.new.pass) c.acquire.ensures.turn
+
+pub returns-in-Ok-clause-others : goal.returns-in-Ok-clause-others
+returns-in-Ok-clause-others g c =
+    let b : Bounds = record { cells = g.N.CellNaming.setup.cells; claims = c.self.inside.directory.claims_max; held = 32 * (c.self.inside.directory.passes - 1) } in
+    turned_others b c.args.names.now c.acquire.result c.args.cell_pass.now c.acquire.new.cell_pass (view c.args.claims.now) (view c.acquire.new.pass) c.acquire.ensures.turn
+
+pub returns-in-Err-clause-others : goal.returns-in-Err-clause-others
+returns-in-Err-clause-others g c =
+    let b : Bounds = record { cells = g.N.CellNaming.setup.cells; claims = c.self.inside.directory.claims_max; held = 32 * (c.self.inside.directory.passes - 1) } in
+    turned_others b c.args.names.now c.acquire.result c.args.cell_pass.now c.acquire.new.cell_pass (view c.args.claims.now) (view c.acquire.new.pass) c.acquire.ensures.turn

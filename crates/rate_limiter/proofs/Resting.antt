@@ -1,0 +1,81 @@
+-- A check that took no turn at the directory.
+use Rattle.std.proofs.Common.{◌≡◌, ℕ, ◌+◌, ◌<◌, List, [], ◌∷◌, ◌++◌, length, map, refl, sym, ap, ◌∙◌, subst, append_assoc}
+use mathlib.Core.Option.{some, some-injective}
+use lib.ListN.{get_elem?}
+use Rattle.rate_types.specs.Requests.{RequestParts}
+use Rattle.rate_types.specs.declared.request.Descriptor.{Descriptor}
+use Rattle.descriptor_tree.specs.Trees.{DomainTree}
+use Rattle.rule_lookup.specs.declared.found.Found.{Found}
+use Rattle.config_versions.specs.PassState.{PassState}
+use Rattle.counter_cells.specs.Steps.{ticked, tick_of}
+use Rattle.counter_cells.specs.declared.view.CellView.{CellView}
+use Rattle.counter_cells.specs.declared.view.Tick.{Tick}
+use Rattle.over_cache.specs.Entries.{Entries}
+use Rattle.rls_core.specs.Reply.{found_for}
+use Rattle.rate_limiter.specs.Known.{KnowsCounter}
+use Rattle.rate_limiter.specs.Passes.{PassView, KeepsAllButTicks, KeepsAllButVersion}
+use Rattle.rate_limiter.specs.Sought.{KnowsUnder}
+use Rattle.rate_limiter.specs.Turns.{KnewAll, TakesNoTurn}
+use Rattle.rate_limiter.proofs.Opening.{map_some}
+
+-- lists that are equal behind equal ones
+rest_same : {A : Type 0} (xs ys zs : List A) → xs ++ ys ≡ xs ++ zs → ys ≡ zs
+rest_same [] ys zs e = e
+rest_same (x ∷ xs) ys zs e = rest_same xs ys zs (ap (tail xs ys) e)
+  where
+    tail : {A : Type 0} → List A → List A → List A → List A
+    tail xs ys [] = xs ++ ys
+    tail xs ys (z ∷ l) = l
+
+first_same : {A : Type 0} (x y : A) (xs ys : List A) → x ∷ xs ≡ y ∷ ys → x ≡ y
+first_same x y xs ys e = ap (head x) e
+  where
+    head : {A : Type 0} → A → List A → A
+    head d [] = d
+    head d (z ∷ l) = z
+
+module _ (request : RequestParts) (moment now : ℕ) (p p1 p2 q : PassView) (ticks : p1.cells ≡ ticked moment now p.cells) (rest : KeepsAllButTicks p p1)
+    (renewed : KeepsAllButVersion p1 p2) where
+  cells_same : p2.cells ≡ ticked moment now p.cells
+  cells_same = ap (λ (x : PassView). x.cells) renewed ∙ ticks
+
+  -- nothing was claimed after it
+  pub no_turn_at_all : q.claims ≡ p2.claims → TakesNoTurn request p q
+  no_turn_at_all same first more is knew others = same ∙ ap (λ (x : PassView). x.claims) renewed ∙ ap (λ (x : PassView). x.claims) rest
+
+  module _ (ds : List Descriptor) (rules : List Found) (all : ds ≡ request.descriptors) (are : rules ≡ map (found_for p2.version.index request) request.descriptors)
+      (version : q.version ≡ p2.version) (added : List Tick) (then_ticks : q.cells.ticks ≡ p2.cells.ticks ++ added)
+      (stays : KnowsUnder (length ds) request p2.cells.moment p2.known ds rules → q.cells.others ≡ p2.cells.others → q.claims ≡ p2.claims) where
+    pub no_turn : TakesNoTurn request p q
+    no_turn first more is knew others = no_turn_at_all (stays knows others_same) first more is knew others
+      where
+        tick : Tick
+        tick = tick_of moment now p.cells
+
+        whole : q.cells.ticks ≡ p.cells.ticks ++ tick ∷ added
+        whole =
+            then_ticks ∙ ap (λ (v : CellView). v.ticks ++ added) cells_same ∙ append_assoc p.cells.ticks (tick ∷ []) added
+
+        at_first : first.moment ≡ p2.cells.moment
+        at_first =
+            ap (λ (t : Tick). t.moment) (sym (first_same tick first added more (rest_same p.cells.ticks (tick ∷ added) (first ∷ more) (sym whole ∙ is))))
+            ∙ sym (ap (λ (v : CellView). v.moment) cells_same)
+
+        others_same : q.cells.others ≡ p2.cells.others
+        others_same = others ∙ sym (ap (λ (v : CellView). v.others) cells_same)
+
+        known_same : p2.known ≡ p.known
+        known_same = ap (λ (x : PassView). x.known) renewed ∙ ap (λ (x : PassView). x.known) rest
+
+        knows : KnowsUnder (length ds) request p2.cells.moment p2.known ds rules
+        knows i d f lt a b =
+            let at = subst (λ (l : List Descriptor). get_elem? l i ≡ some d) all a in
+            let g = found_for p2.version.index request d in
+            let here = map_some (found_for p2.version.index request) request.descriptors i d at in
+            let f_is : g ≡ f = some-injective g f (sym here ∙ sym (ap (λ (l : List Found). get_elem? l i) are) ∙ b) in
+            let k = knew i d at in
+            let index : q.version.index ≡ p2.version.index = ap (λ (s : PassState (List DomainTree)). s.index) version in
+            subst (KnowsCounter request p2.cells.moment p2.known d) f_is
+            (subst (λ (c : List DomainTree). KnowsCounter request p2.cells.moment p2.known d (found_for c request d)) index
+            (subst (λ (l : Entries). KnowsCounter request p2.cells.moment l d (found_for q.version.index request d)) (sym known_same)
+            (subst (λ m. KnowsCounter request m p.known d (found_for q.version.index request d)) at_first k)))
