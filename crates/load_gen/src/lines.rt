@@ -78,7 +78,7 @@ fn request_for(alloc: Global, value: u32) -> Result<Request, OutOfMemory>
 /// The lines of the load of a number: so many checks.
 #[tactic(auto, using(crate::proofs::Pushed::lines_none, crate::proofs::Pushed::lines_more))]
 pub fn load_lines(alloc: Global, number: u64, checks: u32) -> Result<Vec<Line>, OutOfMemory>
-    ensures lines { IfOk result (λ v. map line_view v.items ≡ spec.load_lines number checks) }
+    ensures { IfOk result (λ v. map line_view v.items ≡ spec.load_lines number checks) }
 {
     let mut lines = Vec::with_capacity(alloc, checks as usize)?;
     for index in 0..checks {

@@ -1,5 +1,6 @@
 -- Records that are put at the places of their lines are each at their own place.
-use Rattle.std.proofs.Common.{◌≡◌, ◌≢◌, ◌⊎◌, inl, inr, ℕ, zero, suc, ◌+◌, ◌-◌, ◌≤◌, ◌<◌, ◌==◌, List, [], ◌∷◌, ◌++◌, length, map, set, replicate, Bool, true, false, refl, sym, ap, ◌∙◌, subst, arith}
+use Rattle.std.proofs.Common.{◌≡◌, ◌≢◌, ◌⊎◌, inl, inr, ℕ, zero, suc, ◌+◌, ◌-◌, ◌≤◌, ◌<◌, ◌==◌, List, [], ◌∷◌, ◌++◌, length, map, set, replicate, Bool, true, false}
+use Rattle.std.proofs.Common.{refl, sym, ap, ◌∙◌, subst, arith}
 use Rattle.std.proofs.Common.{append_assoc, eq-eqb, Some, None}
 use Rattle.std.proofs.lemmas.Bool.Decides.{nat_tests}
 use Rattle.std.proofs.Math.ListN.{length-set}
@@ -60,7 +61,8 @@ empty lines done places r i h is none (Some s) at =
     absurd (omega arith)
 
 -- one record more
-put_one : (lines : ℕ) (done : List Record) (places : List (Option Record)) (r : Record) (i : ℕ) → Holds lines done places → r.line ≡ i + 1 → i < lines → total (on_line r.line) done ≡ 0
+put_one : (lines : ℕ) (done : List Record) (places : List (Option Record)) (r : Record) (i : ℕ) → Holds lines done places → r.line ≡ i + 1 → i < lines → total (on_line r.line) done
+    ≡ 0
     → Holds lines (done ++ r ∷ []) (set places i (Some r))
 put_one lines done places r i h is lt none =
     let o = there places i (let e = h.len in omega arith) in

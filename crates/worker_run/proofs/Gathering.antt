@@ -1,5 +1,6 @@
 -- What workers that are done left together.
-use Rattle.std.proofs.Common.{◌≡◌, ℕ, zero, suc, ◌+◌, ◌-◌, ◌≤◌, ◌<◌, ◌==◌, List, [], ◌∷◌, ◌++◌, length, map, true, Some, None, Option, refl, sym, ap, ◌∙◌, subst, arith, zero-add, eq-eqb, ne_eqb}
+use Rattle.std.proofs.Common.{◌≡◌, ℕ, zero, suc, ◌+◌, ◌-◌, ◌≤◌, ◌<◌, ◌==◌, List, [], ◌∷◌, ◌++◌, length, map, true, Some, None, Option, refl, sym, ap, ◌∙◌, subst, arith}
+use Rattle.std.proofs.Common.{zero-add, eq-eqb, ne_eqb}
 use Rattle.std.specs.Prelude.{All, IfOk, slice_get, slice_index_or, Result, Ok}
 use Rattle.rate_types.specs.declared.memory.OutOfMemory.{OutOfMemory}
 use Rattle.std.specs.List.{AllByRecursion}
@@ -77,7 +78,8 @@ module _ {N : Type 0} where
   workers_more limiter numbers n [] w h e r = (omega arith, r, tt)
   workers_more limiter numbers n (x ∷ xs) w h e r = (h.0, h.1, workers_more limiter numbers (suc n) xs w h.2 (omega arith) r)
 
-  pub all_ready : (limiter : LimiterId) (numbers : TableId × ℕ) (n : ℕ) (ws : List (Worker N)) → AreWorkers limiter numbers n ws → AllByRecursion (λ w. IsReady limiter numbers w) ws
+  pub all_ready : (limiter : LimiterId) (numbers : TableId × ℕ) (n : ℕ) (ws : List (Worker N)) → AreWorkers limiter numbers n ws
+      → AllByRecursion (λ w. IsReady limiter numbers w) ws
   all_ready limiter numbers n [] h = tt
   all_ready limiter numbers n (w ∷ ws) h = (h.1, all_ready limiter numbers (suc n) ws h.2)
 
@@ -200,7 +202,8 @@ module _ {N : Type 0} where
       mapped (λ (v : Worked N). v.pass) vs ∙ as_many b limiter start lines numbers ws vs h ∙ sym (mapped (λ (w : Worker N). w.pass) ws),
       mapped (λ (v : Worked N). v.journal) vs ∙ as_many b limiter start lines numbers ws vs h ∙ sym (mapped (λ (w : Worker N). w.pass) ws),
     );
-    each = λ i p rs q e f k. subst (λ (n : ℕ). Journal b limiter start n lines p rs q) (zero-add i) (journal_at b limiter start lines limiter.id numbers 0 ws vs a h i p rs q e f k);
+    each = λ i p rs q e f k. subst (λ (n : ℕ). Journal b limiter start n lines p rs q) (zero-add i)
+        (journal_at b limiter start lines limiter.id numbers 0 ws vs a h i p rs q e f k);
     in_order = in_order b limiter start lines numbers ws vs h;
     merges = m;
   }

@@ -1,5 +1,6 @@
 -- The charges that the records of workers show are those of their passes.
-use Rattle.std.proofs.Common.{◌≡◌, ℕ, zero, suc, ◌+◌, ◌-◌, ◌≤◌, ◌==◌, ◌&&◌, List, [], ◌∷◌, ◌++◌, length, map, cond, Some, None, Option, refl, sym, ap, ◌∙◌, subst, arith, append_assoc}
+use Rattle.std.proofs.Common.{◌≡◌, ℕ, zero, suc, ◌+◌, ◌-◌, ◌≤◌, ◌==◌, ◌&&◌, List, [], ◌∷◌, ◌++◌, length, map, cond, Some, None, Option, refl, sym, ap, ◌∙◌, subst}
+use Rattle.std.proofs.Common.{arith, append_assoc}
 use Rattle.std.proofs.lemmas.List.{map-append}
 use Rattle.std.proofs.lemmas.List.Sums.{sum_by-cons}
 use Rattle.std.specs.Prelude.{slice_get, sum_by, nat_lt}
@@ -96,7 +97,8 @@ append_nil (x ∷ xs) = ap (λ (l : List _). x ∷ l) (append_nil xs)
 none_charged : (claims : List Claim) (p q : PassView) → q.cells.charges ≡ p.cells.charges → Grows claims p q []
 none_charged claims p q e = record { added = []; grew = e ∙ append_nil p.cells.charges; named = tt }
 
-pub step_claims : (b : Bounds) (limiter : LimiterView) (start : ℕ) (l : ScriptLine) (o : Outcome) (p q : PassView) → LineStep b limiter start l p o q → IsPrefix p.claims.known q.claims.known
+pub step_claims : (b : Bounds) (limiter : LimiterView) (start : ℕ) (l : ScriptLine) (o : Outcome) (p q : PassView) → LineStep b limiter start l p o q
+    → IsPrefix p.claims.known q.claims.known
 step_claims b limiter start (check request) (outcome.Checked answer) p q s = let c = s.1.claims in prefix_added p.claims.known c.found c.added q.claims.known c.knew c.known
 step_claims b limiter start (check request) (outcome.Full live held wanted) p q s = s.0.claims
 step_claims b limiter start (check request) (outcome.Spent claims wanted) p q s = s.0.claims
@@ -202,7 +204,8 @@ module _ (all : List ScriptLine) where
   }
 
   -- the first record's charges
-  first_charges : (n : ℕ) (l : ScriptLine) (ls : List ScriptLine) (r : Record) (rs : List Record) → IsFrom n (l ∷ ls) (r ∷ rs) → charges_shown l r.moment r.outcome ≡ charges_by all r
+  first_charges : (n : ℕ) (l : ScriptLine) (ls : List ScriptLine) (r : Record) (rs : List Record) → IsFrom n (l ∷ ls) (r ∷ rs) → charges_shown l r.moment r.outcome
+      ≡ charges_by all r
   first_charges n l ls r rs h =
       let a = h.records 0 r refl in
       let at : n + 0 ≡ r.line - 1 = omega arith in

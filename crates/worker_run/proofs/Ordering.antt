@@ -51,7 +51,8 @@ module _ (b : Bounds) (limiter : LimiterView) (start worker : ℕ) (lines : List
     in_turn p (z ∷ zs) q h (suc i) (suc j) e r x y le = in_turn h.0 zs q h.2 i j e r x y (omega arith)
 
 -- the lines of a journal rise
-pub index_at : (rs : List Record) (k : ℕ) (r : Record) → get_elem? rs k ≡ some r → (slice_index (map (λ (x : Record). x.line - 1) rs) k ≡ r.line - 1) × (k < length (map (λ (x : Record). x.line - 1) rs))
+pub index_at : (rs : List Record) (k : ℕ) (r : Record) → get_elem? rs k ≡ some r → (slice_index (map (λ (x : Record). x.line - 1) rs) k ≡ r.line - 1)
+    × (k < length (map (λ (x : Record). x.line - 1) rs))
 index_at [] k r e = absurd (some-ne-none r (sym e))
 index_at (x ∷ xs) zero r e = (ap (λ (y : Record). y.line - 1) (some-injective x r e), omega arith)
 index_at (x ∷ xs) (suc k) r e = let t = index_at xs k r e in (t.0, omega (arith, t.1))
@@ -69,7 +70,8 @@ earlier_line rs rising i j e r x y lt = pick (dec_le i j)
         absurd (omega (arith, a.0, c.0))
 
 -- no step lowers the version or the moment of a pass
-pub versions_rise : (b : Bounds) (limiter : LimiterView) (start : ℕ) (l : ScriptLine) (o : Outcome) (p q : PassView) → LineStep b limiter start l p o q → p.version.version ≤ q.version.version
+pub versions_rise : (b : Bounds) (limiter : LimiterView) (start : ℕ) (l : ScriptLine) (o : Outcome) (p q : PassView) → LineStep b limiter start l p o q → p.version.version
+    ≤ q.version.version
 versions_rise b limiter start (check request) (outcome.Checked answer) p q s = s.1.version.rises
 versions_rise b limiter start (check request) (outcome.Full live held wanted) p q s = s.0.version
 versions_rise b limiter start (check request) (outcome.Spent claims wanted) p q s = s.0.version
@@ -79,7 +81,8 @@ versions_rise b limiter start (tick now) (outcome.Ticked shown) p q s = let e = 
 versions_rise b limiter start (bad refused) (outcome.Bad shown) p q s = let e = ap (λ (x : PassView). x.version.version) s.1 in omega arith
 versions_rise b limiter start l o p q s = absurd s
 
-pub moments_rise : (b : Bounds) (limiter : LimiterView) (start : ℕ) (l : ScriptLine) (o : Outcome) (p q : PassView) → LineStep b limiter start l p o q → p.cells.moment ≤ q.cells.moment
+pub moments_rise : (b : Bounds) (limiter : LimiterView) (start : ℕ) (l : ScriptLine) (o : Outcome) (p q : PassView) → LineStep b limiter start l p o q → p.cells.moment
+    ≤ q.cells.moment
 moments_rise b limiter start (check request) (outcome.Checked answer) p q s = s.1.ticks.later
 moments_rise b limiter start (check request) (outcome.Full live held wanted) p q s = s.0.ticks.later
 moments_rise b limiter start (check request) (outcome.Spent claims wanted) p q s = s.0.ticks.later

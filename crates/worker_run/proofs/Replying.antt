@@ -82,7 +82,8 @@ module _ (b : Bounds) (limiter : LimiterView) (start : ℕ) (lines : List Script
   reply_at w p (x ∷ xs) q h known (suc k) r e l at = reply_at w h.0 xs q h.2 known k r e l at
 
 -- each answered check is the reply of the version that its record shows
-pub replies_by_rule : (b : Bounds) (limiter : LimiterView) (start : ℕ) (lines : List ScriptLine) (before after : List PassView) (records : List Record) (versions : List (List DomainTree))
+pub replies_by_rule : (b : Bounds) (limiter : LimiterView) (start : ℕ) (lines : List ScriptLine) (before after : List PassView) (records : List Record)
+    (versions : List (List DomainTree))
     → HaveRun b limiter start lines before after records → AllByRecursion (λ (q : PassView). IsPrefix q.version.view.known versions) after
     → RepliesByRule (config_at versions) limiter.global_shadow lines records
 replies_by_rule b limiter start lines before after records versions h known i l r el er =

@@ -44,7 +44,8 @@ extends_on p q r a b = record {
   charges = prefix_on _ _ _ a.charges b.charges;
 }
 
-step_looks : (b : Bounds) (limiter : LimiterView) (start : ℕ) (l : ScriptLine) (o : Outcome) (p q : PassView) → LineStep b limiter start l p o q → IsPrefix p.cells.looks q.cells.looks
+step_looks : (b : Bounds) (limiter : LimiterView) (start : ℕ) (l : ScriptLine) (o : Outcome) (p q : PassView) → LineStep b limiter start l p o q
+    → IsPrefix p.cells.looks q.cells.looks
 step_looks b limiter start (check request) (outcome.Checked answer) p q s = s.1.charged.looks
 step_looks b limiter start (check request) (outcome.Full live held wanted) p q s = prefix_same _ _ s.0.counts.looks
 step_looks b limiter start (check request) (outcome.Spent claims wanted) p q s = prefix_same _ _ s.0.counts.looks
@@ -69,7 +70,8 @@ value_grows claim value v w looks charges h =
     let f = ap (total (λ (x : cell_charge.Charge). one_if ((x.claim == claim) && (x.before + x.hits == value)))) charges.1 in
     omega arith
 
-pub sight_grows : (c d : List Claim) (v w : CellView) (x : Sight CounterKey) → IsPrefix c d → IsPrefix v.looks w.looks → IsPrefix v.charges w.charges → HasSight c v x → HasSight d w x
+pub sight_grows : (c d : List Claim) (v w : CellView) (x : Sight CounterKey) → IsPrefix c d → IsPrefix v.looks w.looks → IsPrefix v.charges w.charges → HasSight c v x
+    → HasSight d w x
 sight_grows c d v w x claims looks charges h =
     let g = claimed_grows x.counter h.0 c d claims in
     let o = h.1 in

@@ -1,5 +1,6 @@
 -- The moments of records: each has its source, and the closing moment is the greatest of the start and the ticks.
-use Rattle.std.proofs.Common.{◌≡◌, ◌⊎◌, inl, inr, ⊎_elim, ℕ, zero, suc, ◌+◌, ◌-◌, ◌≤◌, ◌<◌, ◌==◌, not, nat_lt, List, [], ◌∷◌, ◌++◌, length, map, take, Some, None, Option, Bool, true, false, cond}
+use Rattle.std.proofs.Common.{◌≡◌, ◌⊎◌, inl, inr, ⊎_elim, ℕ, zero, suc, ◌+◌, ◌-◌, ◌≤◌, ◌<◌, ◌==◌, not, nat_lt, List, [], ◌∷◌, ◌++◌, length, map, take, Some, None}
+use Rattle.std.proofs.Common.{Option, Bool, true, false, cond}
 use Rattle.std.proofs.Common.{refl, sym, ap, ◌∙◌, subst, arith, eq-eqb, ne_eqb}
 use Rattle.std.proofs.lemmas.Bool.{lt-ltb}
 use Rattle.std.proofs.lemmas.Bool.Decides.{nat_tests}
@@ -323,7 +324,8 @@ module _ (b : Bounds) (limiter : LimiterView) (start : ℕ) (lines : List Script
         (source_of start (other_offers (ticks_of (cells_of after))) (cells_of after) lawful.sourced y.worker y.last.cells mine_at t.0 t.1 there)
       where
         from_tick : (z : Tick) → r.moment ≡ z.moment → z.number ≡ length before - suc y.worker → (k : ℕ) → take (suc k) y.last.cells.ticks ≡ y.split.to.cells.ticks
-            → From start (total (λ (u : CellView). own_offers z.number z.moment u.ticks) (take y.worker (cells_of after)) + own_offers z.number z.moment (take (suc k) y.last.cells.ticks))
+            → From start (total (λ (u : CellView). own_offers z.number z.moment u.ticks) (take y.worker (cells_of after))
+            + own_offers z.number z.moment (take (suc k) y.last.cells.ticks))
             (other_offers (ticks_of (cells_of after)) z.number z.moment) z
             → Source i r
         from_tick z m is k front (inl e) = inl (m ∙ e)

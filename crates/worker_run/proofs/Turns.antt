@@ -234,7 +234,8 @@ module _ (whole : List (Charge CounterKey)) (lawful : IsLawfulLedger same_counte
           pick true e =
               let same : c ≡ q = same_is c q e in
               let mine : charged_in ledger q ≡ b = ap (charged_in ledger) (sym same) ∙ sym value in
-              let its = known_last known c (b + hits) most (subst (λ (x : CounterKey). KnownAtMost (known ++ (record { counter = c; seen = b + hits }) ∷ []) x most) (sym same) at) in
+              let its = known_last known c (b + hits) most (subst (λ (x : CounterKey). KnownAtMost (known ++ (record { counter = c; seen = b + hits }) ∷ []) x most) (sym same) at)
+              in
               let hit : charged_in (new ∷ []) q ≡ hits = one ∙ rw e refl in
               omega (arith, more, mine, its, hit)
           pick false e =

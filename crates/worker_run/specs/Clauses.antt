@@ -9,8 +9,8 @@ use Rattle.script_run.specs.Kinds.{OneRecordPerLine}
 use Rattle.script_run.specs.Versions.{VersionsNeverFall}
 use Rattle.script_run.specs.Moments.{tick_of}
 
--- One record for each line, by one of so many workers; along the records of one worker neither the versions nor the moments fall; and each moment
--- is no earlier than the start, nor than the number of its line where that is a tick.
+-- One record for each line, by one of so many workers; along the records of one worker neither the versions nor the moments fall;
+-- and each moment is no earlier than the start, nor than the number of its line where that is a tick.
 pub record AreInOrder (workers start : ℕ) (lines : List ScriptLine) (records : List Record) : Type 0 where
   pub one_record_per_line : OneRecordPerLine workers lines records
   pub versions_never_fall : VersionsNeverFall lines records

@@ -41,7 +41,8 @@ LineStep b limiter start (tick now) p (outcome.Ticked shown) q =
 LineStep b limiter start (bad refused) p (outcome.Bad shown) q = (shown ≡ refused) × (q ≡ p)
 LineStep b limiter start line p other q = ⊥
 
--- A record is that of the line with its number, and shows its worker, and the version and the moment that the pass has after the line's step.
+-- A record is that of the line with its number, and shows its worker, and the version and the moment that the pass has after the
+-- line's step.
 pub record IsRecordStep (b : Bounds) (limiter : LimiterView) (start worker : ℕ) (lines : List ScriptLine) (p : PassView) (r : Record)
     (q : PassView) : Type 0 where
   pub line : ScriptLine
@@ -53,7 +54,8 @@ pub record IsRecordStep (b : Bounds) (limiter : LimiterView) (start worker : ℕ
   pub step : LineStep b limiter start line p r.outcome q
 
 -- the last charges that the pass made are those that the outcome shows, each under a claim that binds its counter
-pub record AreLastCharges (charges : List (Charge Rattle.rate_types.specs.declared.counter_key.CounterKey.CounterKey)) (q : PassView) : Type 0 where
+pub record AreLastCharges (charges : List (Charge Rattle.rate_types.specs.declared.counter_key.CounterKey.CounterKey)) (q : PassView)
+    : Type 0 where
   pub earlier : List cell_charge.Charge
   pub last : List cell_charge.Charge
   pub made : q.cells.charges ≡ earlier ++ last
@@ -66,8 +68,8 @@ HasCharged (check request) (outcome.Checked answer) q =
 HasCharged line (outcome.Checked answer) q = ⊥
 HasCharged line other q = ⊤
 
--- A record shows the version and the moment of the pass, and where it is that of an answered check, its line is a check, and the last charges
--- of the pass are those that it shows.
+-- A record shows the version and the moment of the pass, and where it is that of an answered check, its line is a check, and the
+-- last charges of the pass are those that it shows.
 pub record IsShown (line : ScriptLine) (r : Record) (q : PassView) : Type 0 where
   pub version : r.version ≡ q.version.version
   pub moment : r.moment ≡ q.cells.moment

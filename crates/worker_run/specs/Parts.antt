@@ -29,5 +29,6 @@ module _ {N : Type 0} where
   -- each worker is done
   abbrev pub AreDone : Bounds → LimiterView → ℕ → List ScriptLine → TableId × ℕ → List (Worker N) → List (Worked N) → Type 0
   AreDone b limiter start lines numbers [] [] = Unit {0}
-  AreDone b limiter start lines numbers (w ∷ ws) (v ∷ vs) = IsDone b limiter start lines numbers w v × AreDone b limiter start lines numbers ws vs
+  AreDone b limiter start lines numbers (w ∷ ws) (v ∷ vs) = IsDone b limiter start lines numbers w v
+      × AreDone b limiter start lines numbers ws vs
   AreDone b limiter start lines numbers ws vs = ⊥

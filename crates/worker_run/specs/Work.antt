@@ -10,8 +10,8 @@ use Rattle.script_run.specs.ScriptLine.{ScriptLine}
 use Rattle.script_run.specs.Merged.{Merges}
 use Rattle.worker_run.specs.Journal.{Journal}
 
--- Worker by worker there is a journal, whose records are the steps that brought its pass from what it was to what it is, in rising order of their lines; the records are those
--- of all journals, in the order of their lines.
+-- Worker by worker there is a journal, whose records are the steps that brought its pass from what it was to what it is, in rising
+-- order of their lines; the records are those of all journals, in the order of their lines.
 pub record HaveRun (b : Bounds) (limiter : LimiterView) (start : ℕ) (lines : List ScriptLine) (before after : List PassView)
     (records : List Record) : Type 0 where
   pub journals : List (List Record)

@@ -27,7 +27,8 @@ fn check_line<N: CellNaming, R: Wait>(
 ) -> Result<Outcome, OutOfMemory>
     requires pass { pass.old.limiter ≡ limiter.now.id }
     ensures pass { pass.new.limiter ≡ limiter.now.id }
-    ensures step { IfOk result (λ o. LineStep (bounds_of N.setup.cells limiter.now) limiter.now start (check request.now) pass.old o pass.new) }
+    ensures step { IfOk result (λ o. LineStep (bounds_of N.setup.cells limiter.now) limiter.now start (check request.now) pass.old o
+        pass.new) }
 {
     match limiter.check(rt, alloc, pass, request, start) {
         Ok(reply) => {
@@ -57,7 +58,8 @@ fn reload_line<N: CellNaming, R: Wait>(
 ) -> Result<Outcome, OutOfMemory>
     requires pass { pass.old.limiter ≡ limiter.now.id }
     ensures pass { pass.new.limiter ≡ limiter.now.id }
-    ensures step { IfOk result (λ o. LineStep (bounds_of N.setup.cells limiter.now) limiter.now start (reload (config_view (arc_value config)))
+    ensures step { IfOk result
+        (λ o. LineStep (bounds_of N.setup.cells limiter.now) limiter.now start (reload (config_view (arc_value config)))
         pass.old o pass.new) }
 {
     let _ = start;
@@ -79,7 +81,8 @@ pub(crate) fn run_line<N: CellNaming, R: Wait>(
 ) -> Result<Outcome, OutOfMemory>
     requires pass { pass.old.limiter ≡ limiter.now.id }
     ensures pass { pass.new.limiter ≡ limiter.now.id }
-    ensures step { IfOk result (λ o. LineStep (bounds_of N.setup.cells limiter.now) limiter.now start (line_view line.now) pass.old o pass.new) }
+    ensures step { IfOk result (λ o. LineStep (bounds_of N.setup.cells limiter.now) limiter.now start (line_view line.now) pass.old o
+        pass.new) }
 {
     match line {
         Line::Check(request) => check_line(rt, alloc, limiter, pass, request, start),

@@ -74,7 +74,8 @@ fn work_each<N: CellNaming + Send + Sync, G: Gate, R: Threads + Wait + Sync>(
         &|worker: Worker<N>| -> Result<Worked<N>, OutOfMemory>
             requires { (length run.now.lines.now ≤ MOST_LINES) × (lines_of run.now.numbers.now ≡ length run.now.lines.now)
                 × IsReady run.now.limiter.now.id (numbers_id run.now.numbers.now) worker }
-            ensures { IfOk result (λ w. IsDone (bounds_of N.setup.cells run.entry.now.limiter.now) run.entry.now.limiter.now run.entry.now.start
+            ensures { IfOk result (λ w. IsDone (bounds_of N.setup.cells run.entry.now.limiter.now) run.entry.now.limiter.now
+                run.entry.now.start
                 (map line_view run.entry.now.lines.now) (numbers_id run.entry.now.numbers.now) worker w) }
         { work(rt, alloc, run, worker) },
     )

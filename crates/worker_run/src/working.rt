@@ -87,7 +87,8 @@ pub fn work<N: CellNaming, G: Gate, R: Wait>(
     requires drawer { (numbers_of worker.drawer ≡ numbers_id run.now.numbers.now) × IsFresh worker.drawer }
     requires lines { (length run.now.lines.now ≤ MOST_LINES) × (lines_of run.now.numbers.now ≡ length run.now.lines.now) }
     ensures drawer { IfOk result (λ w. numbers_of w.drawer ≡ numbers_id run.now.numbers.now) }
-    ensures worked { IfOk result (λ w. HasWorked (bounds_of N.setup.cells run.now.limiter.now) run.now.limiter.now run.now.start worker.number
+    ensures worked { IfOk result (λ w. HasWorked (bounds_of N.setup.cells run.now.limiter.now) run.now.limiter.now run.now.start
+        worker.number
         (map line_view run.now.lines.now) worker.pass w.journal w.pass w.drawer) }
 {
     let Worker {

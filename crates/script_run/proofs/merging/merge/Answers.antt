@@ -39,7 +39,8 @@ put-requires c =
 pub filled-requires : goal.filled-requires
 filled-requires c =
     let inv = c.loop-journal.invariant in
-    let rest : c.loop-journal.journal-iterator.rest.items ≡ [] = nil_from_length c.loop-journal.journal-iterator.rest.items (sym c.loop-journal.journal-iterator.rest.ok.0 ∙ c.in-None.ensures.steps.0) in
+    let rest : c.loop-journal.journal-iterator.rest.items ≡ [] = nil_from_length c.loop-journal.journal-iterator.rest.items (sym c.loop-journal.journal-iterator.rest.ok.0
+    ∙ c.in-None.ensures.steps.0) in
     let same : c.loop-journal.places.items ≡ all_placed (replicate c.args.lines None) (joined c.args.journals.items)
     = ap (λ l. all_placed c.loop-journal.places.items (joined l)) (sym rest) ∙ inv.left in
     subst (λ l. AllByRecursion (λ p. IsSome p) l) (sym same)
@@ -54,7 +55,8 @@ merged_of (Err e) lines journals places once same h = tt
 pub returns : goal.returns
 returns c =
     let inv = c.loop-journal.invariant in
-    let rest : c.loop-journal.journal-iterator.rest.items ≡ [] = nil_from_length c.loop-journal.journal-iterator.rest.items (sym c.loop-journal.journal-iterator.rest.ok.0 ∙ c.in-None.ensures.steps.0) in
+    let rest : c.loop-journal.journal-iterator.rest.items ≡ [] = nil_from_length c.loop-journal.journal-iterator.rest.items (sym c.loop-journal.journal-iterator.rest.ok.0
+    ∙ c.in-None.ensures.steps.0) in
     let same : c.loop-journal.places.items ≡ all_placed (replicate c.args.lines None) (joined c.args.journals.items)
     = ap (λ l. all_placed c.loop-journal.places.items (joined l)) (sym rest) ∙ inv.left in
     record { merged = merged_of c.filled.result c.args.lines c.args.journals.items c.loop-journal.places.items c.requires.once same c.filled.ensures }

@@ -74,7 +74,8 @@ returns-clause-run g c =
     let ls = map line_view c.args.lines.now in
     subst (λ (l : List PassView). HaveRun b c.args.limiter.now c.args.start ls c.args.passes.items l c.in_ok-records.records) (sym c.in_ok-passes.ensures.passes)
     (subst (λ (l : List PassView). HaveRun b c.args.limiter.now c.args.start ls l (map (λ v. v.pass) vs) c.in_ok-records.records) c.in_ok-workers.ensures.passes
-    (have_run b c.args.limiter.now c.args.start ls (numbers_id c.in_ok-numbers.numbers) ws vs c.in_ok-records.records c.in_ok-workers.ensures.workers c.in_ok-done.ensures.done merged))
+    (have_run b c.args.limiter.now c.args.start ls (numbers_id c.in_ok-numbers.numbers) ws vs c.in_ok-records.records c.in_ok-workers.ensures.workers c.in_ok-done.ensures.done
+    merged))
 
 pub returns-clause-records : goal.returns-clause-records
 returns-clause-records g c =
@@ -88,5 +89,6 @@ workers_of-requires-clause-passes g c = index_all (λ (p : PassView). p.limiter 
 
 pub returns-clause-passes : goal.returns-clause-passes
 returns-clause-passes g c =
-    all_index (λ (p : PassView). p.limiter ≡ c.args.limiter.now.id) c.in_ok-passes.field-0.passes.items (subst (λ l. AllByRecursion (λ (p : PassView). p.limiter ≡ c.args.limiter.now.id) l) (sym c.in_ok-passes.ensures.passes)
+    all_index (λ (p : PassView). p.limiter ≡ c.args.limiter.now.id) c.in_ok-passes.field-0.passes.items
+    (subst (λ l. AllByRecursion (λ (p : PassView). p.limiter ≡ c.args.limiter.now.id) l) (sym c.in_ok-passes.ensures.passes)
     (passes_here _ _ _ _ _ c.in_ok-workers.workers.items c.in_ok-done.field-0.items c.in_ok-done.ensures.done))

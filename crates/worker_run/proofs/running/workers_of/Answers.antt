@@ -20,7 +20,8 @@ loop-pass-preserved g c =
     let is : c.loop-pass.pass-iterator.rest.items ≡ pass ∷ rest = c.in-Some.ensures.steps.0 in
     let n = ap length is in
     let passes = subst (λ l. AllByRecursion (λ p. p.limiter ≡ c.args.limiter.now.id) l) is inv.passes in
-    let popped = All-pop (λ d. (numbers_of d ≡ numbers_id c.args.numbers.now) × IsFresh d) c.loop-pass.drawers.items c.pop.new.self.items c.pop.result c.pop.ensures.items inv.drawers in
+    let popped = All-pop (λ d. (numbers_of d ≡ numbers_id c.args.numbers.now) × IsFresh d) c.loop-pass.drawers.items c.pop.new.self.items c.pop.result c.pop.ensures.items
+    inv.drawers in
     let fresh = subst (λ r. IfSome r (λ d. (numbers_of d ≡ numbers_id c.args.numbers.now) × IsFresh d)) c.in-Some-pop.is popped.1 in
     let pushed = c.push_reserved.ensures.items in
     record {

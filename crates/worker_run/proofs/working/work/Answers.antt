@@ -33,6 +33,7 @@ lines-preserved g c =
       journal = subst (λ l. Journal (bounds_of g.N.CellNaming.setup.cells c.args.run.now.limiter.now) c.args.run.now.limiter.now c.args.run.now.start c.args.worker.number
           (map line_view c.args.run.now.lines.now) c.args.worker.pass l c.run_drawn.new.pass) (sym is)
           (journal_push _ _ _ _ _ c.args.worker.pass c.lines.journal c.lines.pass r c.run_drawn.new.pass inv.journal c.in_ok-record.ensures.step);
-      drawn = c.in-Some.ensures.drawn ∙ ap (λ l. l ++ c.in-Some.number ∷ []) inv.drawn ∙ ap (λ n. map (λ x. x.line - 1) c.lines.journal ++ n ∷ []) (one_before r.line c.in-Some.number number)
+      drawn = c.in-Some.ensures.drawn ∙ ap (λ l. l ++ c.in-Some.number ∷ []) inv.drawn ∙ ap (λ n. map (λ x. x.line - 1) c.lines.journal ++ n ∷ [])
+          (one_before r.line c.in-Some.number number)
           ∙ sym (map_push c.lines.journal r) ∙ ap (λ l. map (λ x. x.line - 1) l) (sym is);
     }
