@@ -1,1 +1,4 @@
 pub mod Crossing
+pub mod Grown
+pub mod Replied
+pub mod Ledger

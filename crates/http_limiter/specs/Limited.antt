@@ -7,12 +7,14 @@ use Rattle.rate_io.specs.Listeners.{ListenEvent}
 use Rattle.descriptor_tree.specs.Trees.{DomainTree}
 use Rattle.http_endpoint.specs.declared.link_end.LinkEnd.{LinkEnd}
 use Rattle.rate_limiter.specs.Passes.{LimiterView, PassView, IsNewPass}
-use Rattle.http_checks.specs.Checker.{Checker, ChecksBy}
+use Rattle.http_checks.specs.Checker.{Checker, checker, ChecksBy}
+use Rattle.http_checks.specs.Ledger.{AreLawfulChecks, all_asked}
 use Rattle.http_serve.specs.Service.{Service}
 use Rattle.http_serve.specs.Links.{AllServed, ends_of}
 use Rattle.http_serve.specs.declared.links.LinksFault.{LinksFault}
 use Rattle.http_serve.specs.declared.links.LinksFault.TheVariants.{Listen, OutOfMemory}
 use Rattle.http_limiter.specs.declared.limited.Setup.{Setup}
+use Rattle.http_limiter.specs.declared.limited.TheConstants.{SERVED_CLAIMS}
 
 -- so many passes and cells as may be
 pub record IsInRange (setup : Setup) (connections : ℕ) : Type 0 where
@@ -22,19 +24,23 @@ pub record IsInRange (setup : Setup) (connections : ℕ) : Type 0 where
 
 -- passes as checkers
 abbrev pub checkers : LimiterView → List PassView → List Checker
-checkers limiter passes = map (λ p. record { limiter = limiter; pass = p }) passes
+checkers limiter passes = map (λ p. checker limiter p) passes
 
--- A limiter of the configuration with a pass for each worker, which were new at moment 0, served these links: each once, by one of the
--- passes, whose checks are steps of the pass at moments between the clock's bounds.
+-- A limiter of the configuration, which gives cells to at most so many counters, with a pass for each worker, which were new at moment 0,
+-- served these links: each once, by one of the passes, whose checks are steps of the pass at moments between the clock's bounds. Where
+-- all links were served, the limiter was closed after the last one: the checks of all of them are lawful checks by the configuration.
 pub record ServedByLimiter (config : List DomainTree) (setup : Setup) (bounds : Option (ℕ × ℕ)) (old new : List ListenEvent)
     (services : List Service) (is_all : Bool) : Type 0 where
   pub limiter : LimiterView
+  pub passes : limiter.passes ≡ setup.workers
+  pub claims : limiter.claims_max ≡ SERVED_CLAIMS
   pub shadow : limiter.global_shadow ≡ setup.global_shadow
   pub before : List PassView
   pub as_many : length before ≡ setup.workers
   pub fresh : All (λ p. IsNewPass config 0 p) before
   pub after : List Checker
   pub served : AllServed (ChecksBy setup.cells) bounds (checkers limiter before) after old new services is_all
+  pub lawful : is_all ≡ true → AreLawfulChecks config setup.global_shadow (all_asked served.asked)
 
 -- the answer of serving links, as a list
 abbrev pub ends_in : {E A : Type 0} → Result (Vec LinkEnd A) E → Result (List LinkEnd) E
@@ -46,7 +52,9 @@ ends_in (Err e) = Err e
 abbrev pub ServesLimited : List DomainTree → Setup → Option (ℕ × ℕ) → ℕ → List ListenEvent → List ListenEvent → ℕ × ℕ
     → Result (List LinkEnd) LinksFault → Type 0
 ServesLimited config setup bounds connections old new faults (Ok ends) =
-    (services : List Service) × (length services ≡ connections) × ServedByLimiter config setup bounds old new services true × (ends ≡ ends_of services)
+    (services : List Service) × (length services ≡ connections) × ServedByLimiter config setup bounds old new services true
+    × (ends ≡ ends_of services)
 ServesLimited config setup bounds connections old new faults (Err Listen) =
-    (services : List Service) × (length services < connections) × ServedByLimiter config setup bounds old new services false × Rose faults.0 faults.1
+    (services : List Service) × (length services < connections) × ServedByLimiter config setup bounds old new services false
+    × Rose faults.0 faults.1
 ServesLimited config setup bounds connections old new faults (Err OutOfMemory) = Grew old new (λ events. ⊤)

@@ -5,9 +5,10 @@ ghost use Rattle.counter_cells.specs.Opened.{table_of, setup_of};
 ghost use Rattle.http_serve.specs.Links.{IsUnused};
 ghost use Rattle.http_limiter.specs.Limited.{IsInRange, ServesLimited, ends_in};
 
-use crate::passes::checks_of;
+use crate::passes::{checks_of, passes_of};
 use counter_cells::{CellNaming, OpenedCells};
 use descriptor_tree::Config;
+use http_checks::close_served;
 use http_endpoint::LinkEnd;
 use http_serve::{LinksFault, serve_links};
 use rate_io::{Clock, Listen};
@@ -19,8 +20,8 @@ use std::marker::Brand;
 use std::sync::{Arc, Wait};
 use std::thread::Threads;
 
-/// The most counters that are given cells before the limiter is made anew.
-const SERVED_CLAIMS: u64 = 16_777_216;
+/// How many counters are given cells, one after the other, before the program has to be started anew.
+pub const SERVED_CLAIMS: u64 = 16_777_216;
 
 /// What a limiter that serves links has.
 #[derive(Clone, Copy, Debug, PartialEq, Eq)]
@@ -41,7 +42,7 @@ fn shared(alloc: Global, config: Config) -> Result<Arc<Config>, OutOfMemory>
     Ok(config)
 }
 
-// Serves links by a limiter on these cells.
+// Serves links by a limiter on these cells, and closes it after the last.
 fn serve_opened<N: CellNaming + Send + Sync, R: Threads + Wait + Sync, L: Listen, C: Clock>(
     rt: &R,
     alloc: Global,
@@ -68,16 +69,19 @@ where
     };
     let (limiter, passes) = Limiter::<N>::make(alloc, config, opened, limits, seed)?;
     let checks = checks_of(alloc, &limiter, passes)?;
-    match serve_links(rt, alloc, checks, listen, connections, clock) {
-        Ok((_, ends)) => Ok(ends),
-        Err(LinksFault::Listen) => Err(LinksFault::Listen),
-        Err(LinksFault::OutOfMemory) => Err(LinksFault::OutOfMemory),
-    }
+    let (checks, ends) = match serve_links(rt, alloc, checks, listen, connections, clock) {
+        Ok(served) => served,
+        Err(LinksFault::Listen) => return Err(LinksFault::Listen),
+        Err(LinksFault::OutOfMemory) => return Err(LinksFault::OutOfMemory),
+    };
+    let passes = passes_of(alloc, checks)?;
+    close_served(alloc, limiter, passes)?;
+    Ok(ends)
 }
 
-/// Serves so many links of a listener, each once, by a limiter of this configuration, which starts at moment 0. Answers how each
-/// link ended. The listener has a port. A check is refused where its counters find no cells, or where 16,777,216 counters had cells
-/// before.
+/// Serves so many links of a listener, each once, by a limiter of this configuration, which starts at moment 0 and is closed after the
+/// last link. Answers how each link ended. The listener has a port. A check is refused where its counters find no cells, or where
+/// [`SERVED_CLAIMS`] counters had cells before.
 pub fn serve_limited<R: Threads + Wait + Sync, L: Listen, C: Clock>(
     rt: &R,
     alloc: Global,

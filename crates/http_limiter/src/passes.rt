@@ -1,5 +1,5 @@
-// From passes to checkers.
-ghost use Rattle.std.specs.Prelude.{◌≡◌, All, IfOk};
+// From passes to checkers, and back.
+ghost use Rattle.std.specs.Prelude.{◌≡◌, All, IfOk, map};
 ghost use Rattle.http_limiter.specs.Limited.{checkers};
 
 use counter_cells::CellNaming;
@@ -22,4 +22,19 @@ pub fn checks_of<'a, N: CellNaming>(
         checks.push_reserved(PassChecks::new(limiter, pass));
     }
     Ok(checks)
+}
+
+/// The pass of each checker.
+pub fn passes_of<'a, N: CellNaming>(
+    alloc: Global,
+    checks: Vec<PassChecks<'a, N>>,
+) -> Result<Vec<Pass<N>>, OutOfMemory>
+    ensures passes { IfOk result (λ v. v.items ≡ map (λ c. c.pass) checks.entry.items) }
+    ensures limiters { IfOk result (λ v. map (λ p. p.limiter) v.items ≡ map (λ c. c.limiter.id) checks.entry.items) }
+{
+    let mut passes = Vec::with_capacity(alloc, checks.len())?;
+    for check in checks {
+        passes.push_reserved(check.into_pass());
+    }
+    Ok(passes)
 }

@@ -1,5 +1,6 @@
 -- Links that are put at the places of their numbers are each at their own place.
-use Rattle.std.proofs.Common.{◌≡◌, ◌≢◌, ◌⊎◌, inl, inr, ℕ, zero, suc, ◌+◌, ◌≤◌, ◌<◌, ◌==◌, List, [], ◌∷◌, ◌++◌, length, map, set, replicate, Bool, true, false, refl, sym, ap, ◌∙◌, subst, arith}
+use Rattle.std.proofs.Common.{◌≡◌, ◌≢◌, ◌⊎◌, inl, inr, ℕ, zero, suc, ◌+◌, ◌≤◌, ◌<◌, ◌==◌, List, [], ◌∷◌, ◌++◌, length, map, set, replicate, Bool, true, false, refl}
+use Rattle.std.proofs.Common.{sym, ap, ◌∙◌, subst, arith}
 use Rattle.std.proofs.Common.{append_assoc, eq-eqb, Some, None}
 use Rattle.std.proofs.lemmas.Bool.Decides.{nat_tests}
 use Rattle.std.proofs.Math.ListN.{length-set}
@@ -59,7 +60,8 @@ empty count done places r i h is none (Some s) at =
     absurd (omega arith)
 
 -- one link more
-put_one : (count : ℕ) (done : List Service) (places : List (Option Service)) (r : Service) (i : ℕ) → Holds count done places → r.number ≡ i → i < count → total (on_number r.number) done ≡ 0
+put_one : (count : ℕ) (done : List Service) (places : List (Option Service)) (r : Service) (i : ℕ) → Holds count done places → r.number ≡ i → i < count
+    → total (on_number r.number) done ≡ 0
     → Holds count (done ++ r ∷ []) (set places i (Some r))
 put_one count done places r i h is lt none =
     let o = there places i (let e = h.len in omega arith) in

@@ -123,8 +123,10 @@ module _ {N S : Type 0} {link : Ghosts N} where
     asked_all (v ∷ vs) [] a = absurd a
     asked_all (v ∷ vs) (w ∷ ws) a = a.0.asked ∷ asked_all vs ws a.1
 
-    lengths : (old new : List (Worker N S link)) → (a : AllWorked old new) → (length (map (λ (w : Worker N S link). w.checks) new) ≡ length (map (λ (w : Worker N S link). w.checks) old))
-        × (length (map served_of new) ≡ length (map (λ (w : Worker N S link). w.checks) old)) × (length (asked_all old new a) ≡ length (map (λ (w : Worker N S link). w.checks) old))
+    lengths : (old new : List (Worker N S link)) → (a : AllWorked old new)
+        → (length (map (λ (w : Worker N S link). w.checks) new) ≡ length (map (λ (w : Worker N S link). w.checks) old))
+        × (length (map served_of new) ≡ length (map (λ (w : Worker N S link). w.checks) old))
+        × (length (asked_all old new a) ≡ length (map (λ (w : Worker N S link). w.checks) old))
     lengths [] [] a = (refl, refl, refl)
     lengths [] (w ∷ ws) a = absurd a
     lengths (v ∷ vs) [] a = absurd a

@@ -1,5 +1,6 @@
 -- What serving the links of a listener comes to.
-use Rattle.std.specs.Prelude.{◌≡◌, ℕ, ◌+◌, ◌<◌, List, [], ◌∷◌, ◌++◌, length, map, replicate, Option, Bool, true, false, Vec, Result, Ok, Err, ⊤}
+use Rattle.std.specs.Prelude.{◌≡◌, ℕ, ◌+◌, ◌<◌, List, [], ◌∷◌, ◌++◌, length, map, replicate, Option, Bool, true, false, Vec}
+use Rattle.std.specs.Prelude.{Result, Ok, Err, ⊤}
 use Rattle.std.specs.Prelude.{if◌then◌else◌}
 use Rattle.std.specs.List.{filter_map}
 use Rattle.rate_io.specs.Causes.{Rose}
@@ -56,5 +57,6 @@ module _ {S : Type 0} (answers : CheckStep S) (bounds : Option (ℕ × ℕ)) whe
   ServesLinks connections before old new faults (Ok r) =
       (services : List Service) × (length services ≡ connections) × AllServed before r.0 old new services true × (r.1 ≡ ends_of services)
   ServesLinks connections before old new faults (Err Listen) =
-      (after : List S) × (services : List Service) × (length services < connections) × AllServed before after old new services false × Rose faults.0 faults.1
+      (after : List S) × (services : List Service) × (length services < connections) × AllServed before after old new services false
+      × Rose faults.0 faults.1
   ServesLinks connections before old new faults (Err OutOfMemory) = Grew old new (λ events. ⊤)

@@ -37,7 +37,8 @@ module _ {N S : Type 0} {link : Ghosts N} where
     pub served : w.served.items ≡ []
 
   -- it took its end mark, and, where memory sufficed, served what it had taken
-  pub record HasWorked (answers : CheckStep S) (bounds : Option (ℕ × ℕ)) (h : Handover (Fresh N link)) (old new : Worker N S link) : Type 0 where
+  pub record HasWorked (answers : CheckStep S) (bounds : Option (ℕ × ℕ)) (h : Handover (Fresh N link)) (old new : Worker N S link)
+      : Type 0 where
     pub take : TakesFrom h new.take
     pub ends : ends_taken new ≡ 1
     pub taken : new.is_whole ≡ true → numbers_taken new.take ≡ map (λ s. s.number) new.served.items

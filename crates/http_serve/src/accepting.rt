@@ -28,7 +28,8 @@ fn put_all<R: Wait, L: Listen>(
     ensures put { PutsInto handover.now put.new × (marks_put put.new ≡ 0) × (takers_of put.new ≡ takers_of put.old) }
     ensures grew { Grew (L.history listen.old) (L.history listen.new) (λ _. ⊤) }
     ensures all { IfOk result (λ r. r ≡ true → length (links_put put.new) ≡ connections) }
-    ensures failed { IfOk result (λ r. r ≡ false → (length (links_put put.new) < connections) × Rose (L.faults listen.old) (L.faults listen.new)) }
+    ensures failed { IfOk result (λ r. r ≡ false → (length (links_put put.new) < connections)
+        × Rose (L.faults listen.old) (L.faults listen.new)) }
     ensures events { IfOk result (λ r. L.history listen.new ≡ L.history listen.old ++ accepts (length (links_put put.new)) r) }
 {
     'links: for number in 0..connections {
@@ -59,8 +60,8 @@ fn finish_all<R: Wait, N: Link + Drop>(
     }
 }
 
-/// Accepts so many links and puts each, and then an end mark for each worker. False where an accept failed. Where a worker is short of memory no more
-/// links are accepted.
+/// Accepts so many links and puts each, and then an end mark for each worker. False where an accept failed. Where a worker is short
+/// of memory no more links are accepted.
 pub fn accept_all<R: Wait, L: Listen>(
     rt: &R,
     handover: &Handover<Fresh<L::Link>>,
@@ -75,7 +76,8 @@ pub fn accept_all<R: Wait, L: Listen>(
     ensures put { PutsInto handover.now put.new × (marks_put put.new ≡ workers) × (takers_of put.new ≡ takers_of put.old) }
     ensures grew { Grew (L.history listen.old) (L.history listen.new) (λ _. ⊤) }
     ensures all { IfOk result (λ r. r ≡ true → length (links_put put.new) ≡ connections) }
-    ensures failed { IfOk result (λ r. r ≡ false → (length (links_put put.new) < connections) × Rose (L.faults listen.old) (L.faults listen.new)) }
+    ensures failed { IfOk result (λ r. r ≡ false → (length (links_put put.new) < connections)
+        × Rose (L.faults listen.old) (L.faults listen.new)) }
     ensures events { IfOk result (λ r. L.history listen.new ≡ L.history listen.old ++ accepts (length (links_put put.new)) r) }
 {
     let is_all = put_all(rt, handover, is_short, connections, put, listen);

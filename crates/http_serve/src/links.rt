@@ -34,8 +34,8 @@ impl From<OutOfMemory> for LinksFault {
     }
 }
 
-/// Accepts so many links and serves each once with one of the checkers, shuts it and gives it back under its number. Answers the checkers in
-/// order, and how each link ended. The listener has a port. After a fault the checkers are given up.
+/// Accepts so many links and serves each once with one of the checkers, shuts it and gives it back under its number. Answers the
+/// checkers in order, and how each link ended. The listener has a port. After a fault the checkers are given up.
 pub fn serve_links<R: Threads + Wait + Sync, L: Listen, C: Clock, K: Checks + Send + Drop>(
     rt: &R,
     alloc: Global,

@@ -82,19 +82,23 @@ fn accept_beside<R: Threads + Wait + Sync, L: Listen, W: Send, F: Fn(usize, &mut
     ensures put { PutsInto handover.now put.new × (marks_put put.new ≡ count) × (takers_of put.new ≡ takers_of put.old) }
     ensures grew { Grew (L.history listen.old) (L.history listen.new) (λ _. ⊤) }
     ensures all { IfOk result (λ r. r ≡ true → length (links_put put.new) ≡ connections) }
-    ensures failed { IfOk result (λ r. r ≡ false → (length (links_put put.new) < connections) × Rose (L.faults listen.old) (L.faults listen.new)) }
+    ensures failed { IfOk result (λ r. r ≡ false → (length (links_put put.new) < connections)
+        × Rose (L.faults listen.old) (L.faults listen.new)) }
     ensures events { IfOk result (λ r. L.history listen.new ≡ L.history listen.old ++ accepts (length (links_put put.new)) r) }
     ensures len { length workers.new ≡ length workers.old }
-    ensures each { (i : ℕ) (d : _) → i < length workers.old → ChangesAt F.Fn serve.now i (slice_index_or workers.old i d) (slice_index_or workers.new i d) }
+    ensures each { (i : ℕ) (d : _) → i < length workers.old → ChangesAt F.Fn serve.now i (slice_index_or workers.old i d)
+        (slice_index_or workers.new i d) }
 {
     let mut accepting = || -> Result<bool, OutOfMemory>
         requires { PutsInto handover.now put.now × (marks_put put.now ≡ 0) × (links_put put.now ≡ []) × (connections ≤ MOST_CONNECTIONS) }
-        ensures put { PutsInto handover.entry.now put.exit.now × (marks_put put.exit.now ≡ count) × (takers_of put.exit.now ≡ takers_of put.entry.now) }
+        ensures put { PutsInto handover.entry.now put.exit.now × (marks_put put.exit.now ≡ count)
+            × (takers_of put.exit.now ≡ takers_of put.entry.now) }
         ensures grew { Grew (L.history listen.entry.now) (L.history listen.exit.now) (λ _. ⊤) }
         ensures all { IfOk result (λ r. r ≡ true → length (links_put put.exit.now) ≡ connections) }
         ensures failed { IfOk result (λ r. r ≡ false → (length (links_put put.exit.now) < connections)
             × Rose (L.faults listen.entry.now) (L.faults listen.exit.now)) }
-        ensures events { IfOk result (λ r. L.history listen.exit.now ≡ L.history listen.entry.now ++ accepts (length (links_put put.exit.now)) r) }
+        ensures events { IfOk result (λ r. L.history listen.exit.now ≡ L.history listen.entry.now
+            ++ accepts (length (links_put put.exit.now)) r) }
     { accept_all(rt, handover, is_short, connections, count, put, listen) };
     let mut serving = ||
         requires { IsSync R.row × IsSync F.row × IsSend W.row × AcceptsEach F.Fn serve.now workers.now }
@@ -114,7 +118,8 @@ fn serve_each<R: Threads + Sync, W: Send, F: Fn(usize, &mut W) + Sync>(
 )
     requires { AcceptsEach F.Fn serve.now workers.old }
     ensures len { length workers.new ≡ length workers.old }
-    ensures each { (i : ℕ) (d : _) → i < length workers.old → ChangesAt F.Fn serve.now i (slice_index_or workers.old i d) (slice_index_or workers.new i d) }
+    ensures each { (i : ℕ) (d : _) → i < length workers.old → ChangesAt F.Fn serve.now i (slice_index_or workers.old i d)
+        (slice_index_or workers.new i d) }
 {
     let threads = workers.len().max(1);
     for_each_mut(rt, workers, threads, serve);
@@ -140,7 +145,8 @@ where
     ensures put { PutsInto handover.now put.new × (marks_put put.new ≡ length workers.old) × (takers_of put.new ≡ takers_of put.old) }
     ensures grew { Grew (L.history listen.old) (L.history listen.new) (λ _. ⊤) }
     ensures all { IfOk result (λ r. r ≡ true → length (links_put put.new) ≡ connections) }
-    ensures failed { IfOk result (λ r. r ≡ false → (length (links_put put.new) < connections) × Rose (L.faults listen.old) (L.faults listen.new)) }
+    ensures failed { IfOk result (λ r. r ≡ false → (length (links_put put.new) < connections)
+        × Rose (L.faults listen.old) (L.faults listen.new)) }
     ensures events { IfOk result (λ r. L.history listen.new ≡ L.history listen.old ++ accepts (length (links_put put.new)) r) }
     ensures len { length workers.new ≡ length workers.old }
     ensures each { (i : ℕ) (d : _) → i < length workers.old → HasWorked K.answers (C.bounds clock.now) handover.now
@@ -206,8 +212,8 @@ fn parts_of<N: Link + Drop, K: Checks + Drop>(
     })
 }
 
-/// Accepts so many links on this thread and hands them to workers, one of each checker, each in a thread of its own. Where no thread can be started
-/// there is no memory.
+/// Accepts so many links on this thread and hands them to workers, one of each checker, each in a thread of its own. Where no
+/// thread can be started there is no memory.
 #[tactic(auto, using(crate::proofs::Events::grown, crate::proofs::Events::stayed))]
 pub fn serve_accepted<R: Threads + Wait + Sync, L: Listen, C: Clock, K: Checks + Send + Drop>(
     rt: &R,

@@ -75,7 +75,8 @@ module _ {N : Type 0} where
       → put_in_all links (marks + 1) ≡ first ++ (items ++ End ∷ [])
   push_end links marks first items e =
       let next : marks + 1 ≡ suc marks = omega arith in
-      ap (λ (m : ℕ). put_in_all links m) next ∙ ap (λ (l : List (Taken N)). numbered 0 links ++ l) (replicate_push marks End) ∙ sym (append_assoc (numbered 0 links) (replicate marks End) (End ∷ []))
+      ap (λ (m : ℕ). put_in_all links m) next ∙ ap (λ (l : List (Taken N)). numbered 0 links ++ l) (replicate_push marks End)
+      ∙ sym (append_assoc (numbered 0 links) (replicate marks End) (End ∷ []))
       ∙ ap (λ (l : List (Taken N)). l ++ End ∷ []) e ∙ append_assoc first items (End ∷ [])
 
   -- no link stands among end marks
@@ -140,7 +141,8 @@ module _ {N : Type 0} where
   numbered_once k [] n le = record { once = λ lt. absurd (omega arith); none = λ ge. refl }
   numbered_once k (x ∷ xs) n le = pick (λ h. numbered_once (k + 1) xs n h) (dec_lt k n)
     where
-      pick : (k + 1 ≤ n → IsOnceBelow (k + 1 + length xs) n (times n (numbers_in (numbered (k + 1) xs)))) → Dec (k < n) → IsOnceBelow (k + length (x ∷ xs)) n (times n (numbers_in (numbered k (x ∷ xs))))
+      pick : (k + 1 ≤ n → IsOnceBelow (k + 1 + length xs) n (times n (numbers_in (numbered (k + 1) xs)))) → Dec (k < n)
+          → IsOnceBelow (k + length (x ∷ xs)) n (times n (numbers_in (numbered k (x ∷ xs))))
       pick more (yes lt) =
           let r = more (omega arith) in
           let o = other_none k n (λ h. omega arith) in

@@ -27,7 +27,8 @@ pub struct Handover<N: Drop> {
 }
 
 impl<N: Drop> Handover<N> {
-    ghost use Rattle.link_handover.specs.Passes.{PutsInto, TakesFrom, links_put, marks_put, takers_of, taken_by, numbers_taken, is_end, IsOnceBelow};
+    ghost use Rattle.link_handover.specs.Passes.{PutsInto, TakesFrom, links_put, marks_put};
+    ghost use Rattle.link_handover.specs.Passes.{takers_of, taken_by, numbers_taken, is_end, IsOnceBelow};
 
     /// A queue with the pass that puts and so many passes that take, 1 to 64. Nothing was put or taken.
     pub fn make(

@@ -28,4 +28,6 @@ from_parts-to_parts accept_failed = refl
 from_parts-to_parts (gave_back number calls shut) = refl
 
 abbrev pub listens_code : Coded (List ListenEvent)
-listens_code = coded_list (code_by Parts (coded× (coded× coded_ℕ coded_ℕ) (coded× (coded× coded_ℕ events_code) coded_bool)) to_parts from_parts from_parts-to_parts)
+listens_code
+    = coded_list (code_by Parts (coded× (coded× coded_ℕ coded_ℕ) (coded× (coded× coded_ℕ events_code) coded_bool)) to_parts from_parts
+    from_parts-to_parts)

@@ -38,7 +38,8 @@ put-requires g c =
 pub filled-requires : goal.filled-requires
 filled-requires g c =
     let inv = c.loop-list.invariant in
-    let rest : c.loop-list.list-iterator.rest.items ≡ [] = nil_from_length c.loop-list.list-iterator.rest.items (sym c.loop-list.list-iterator.rest.ok.0 ∙ c.in-None.ensures.steps.0) in
+    let rest : c.loop-list.list-iterator.rest.items ≡ [] = nil_from_length c.loop-list.list-iterator.rest.items (sym c.loop-list.list-iterator.rest.ok.0
+    ∙ c.in-None.ensures.steps.0) in
     let same : c.loop-list.places.items ≡ all_placed (replicate c.args.count None) (joined c.args.lists.items)
     = ap (λ l. all_placed c.loop-list.places.items (joined l)) (sym rest) ∙ inv.left in
     subst (λ l. AllByRecursion (λ p. IsSome p) l) (sym same)
@@ -53,7 +54,8 @@ merged_of (Err e) count lists places once same h = tt
 pub returns : goal.returns
 returns g c =
     let inv = c.loop-list.invariant in
-    let rest : c.loop-list.list-iterator.rest.items ≡ [] = nil_from_length c.loop-list.list-iterator.rest.items (sym c.loop-list.list-iterator.rest.ok.0 ∙ c.in-None.ensures.steps.0) in
+    let rest : c.loop-list.list-iterator.rest.items ≡ [] = nil_from_length c.loop-list.list-iterator.rest.items (sym c.loop-list.list-iterator.rest.ok.0
+    ∙ c.in-None.ensures.steps.0) in
     let same : c.loop-list.places.items ≡ all_placed (replicate c.args.count None) (joined c.args.lists.items)
     = ap (λ l. all_placed c.loop-list.places.items (joined l)) (sym rest) ∙ inv.left in
     record { merged = merged_of c.filled.result c.args.count c.args.lists.items c.loop-list.places.items c.requires.once same c.filled.ensures }

@@ -34,5 +34,6 @@ loop-check-preserved g c =
 pub returns-clause-checks : goal.returns-clause-checks
 returns-clause-checks g c =
     let inv = c.loop-check.invariant in
-    let rest : c.loop-check.check-iterator.rest.items ≡ [] = nil_from_length c.loop-check.check-iterator.rest.items (sym c.loop-check.check-iterator.rest.ok.0 ∙ c.in-None.ensures.steps.0) in
+    let rest : c.loop-check.check-iterator.rest.items ≡ [] = nil_from_length c.loop-check.check-iterator.rest.items (sym c.loop-check.check-iterator.rest.ok.0
+    ∙ c.in-None.ensures.steps.0) in
     sym (append-nil (map (λ w. w.checks) c.loop-check.workers.items)) ∙ ap (λ l. map (λ w. w.checks) c.loop-check.workers.items ++ l) (sym rest) ∙ inv.same

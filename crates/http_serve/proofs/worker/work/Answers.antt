@@ -30,7 +30,8 @@ loop-preserved g c =
           ∙ sym (ap (map (λ (s : Service). s.number)) h.served);
       served = (
         asked,
-        subst (λ (l : List Service). AreServed g.K.Checks.answers (g.C.Clock.bounds c.args.clock.now) c.args.worker.now.checks l asked c.serve_next.new.worker.checks) (sym h.served)
+        subst (λ (l : List Service). AreServed g.K.Checks.answers (g.C.Clock.bounds c.args.clock.now) c.args.worker.now.checks l asked c.serve_next.new.worker.checks)
+            (sym h.served)
             (served_push g.K.Checks.answers (g.C.Clock.bounds c.args.clock.now) _ _ _ _ _ _ _ inv.served.1 h.one),
       );
     }

@@ -41,7 +41,8 @@ learn_as-requires-clause-channel g c = c.loop-take.invariant.here
 pub learn_as-requires-clause-rule : goal.learn_as-requires-clause-rule
 learn_as-requires-clause-rule g c =
     let i = c.loop-take.invariant in
-    let rest : c.loop-take.take-iterator.rest.items ≡ [] = nil_from_length c.loop-take.take-iterator.rest.items (sym c.loop-take.take-iterator.rest.ok.0 ∙ c.in-None.ensures.steps.0) in
+    let rest : c.loop-take.take-iterator.rest.items ≡ [] = nil_from_length c.loop-take.take-iterator.rest.items (sym c.loop-take.take-iterator.rest.ok.0
+    ∙ c.in-None.ensures.steps.0) in
     let whole : c.loop-take.yielded ≡ c.args.takes.items = sym (append-nil c.loop-take.yielded) ∙ ap (λ l. c.loop-take.yielded ++ l) (sym rest) ∙ i.whole in
     learns _ _ (i.stands.puts ∙ c.args.put.puts)
     (all_parts (view c.args.put.pass) c.loop-take.yielded c.args.takes.items (view c.loop-take.pass) i.stands whole
@@ -50,7 +51,8 @@ learn_as-requires-clause-rule g c =
 pub returns : goal.returns
 returns g c =
     let i = c.loop-take.invariant in
-    let rest : c.loop-take.take-iterator.rest.items ≡ [] = nil_from_length c.loop-take.take-iterator.rest.items (sym c.loop-take.take-iterator.rest.ok.0 ∙ c.in-None.ensures.steps.0) in
+    let rest : c.loop-take.take-iterator.rest.items ≡ [] = nil_from_length c.loop-take.take-iterator.rest.items (sym c.loop-take.take-iterator.rest.ok.0
+    ∙ c.in-None.ensures.steps.0) in
     let whole : c.loop-take.yielded ≡ c.args.takes.items = sym (append-nil c.loop-take.yielded) ∙ ap (λ l. c.loop-take.yielded ++ l) (sym rest) ∙ i.whole in
     let all = closes (view c.args.put.pass) c.args.takes.items (view c.loop-take.pass) c.learn_as.ensures.rule.0
     (subst (λ l. Stands (view c.args.put.pass) l (view c.loop-take.pass)) whole i.stands) c.learn_as.ensures.rule.1 c.requires.ended.0 c.requires.ended.1 in

@@ -1,0 +1,23 @@
+// The end of a limiter.
+ghost use Rattle.std.specs.Prelude.{◌≡◌, All, OnOk, vec_len};
+ghost use Rattle.http_checks.specs.Ledger.{HasClosed};
+
+use counter_cells::CellNaming;
+use rate_limiter::{Limiter, Pass};
+use rate_types::OutOfMemory;
+use std::alloc::Global;
+
+/// Closes a limiter after the last check, for which all its passes are given back. It waits for nobody. After `OutOfMemory` the
+/// limiter and the passes are given up.
+pub fn close_served<N: CellNaming>(
+    alloc: Global,
+    limiter: Limiter<N>,
+    passes: Vec<Pass<N>>,
+) -> Result<(), OutOfMemory>
+    requires passes { All (λ p. p.limiter ≡ limiter.id) passes.items }
+    requires every { vec_len passes ≡ limiter.passes }
+    ensures { OnOk result (HasClosed N.setup.cells limiter passes.items) }
+{
+    limiter.close(alloc, passes)?;
+    Ok(())
+}
