@@ -5,8 +5,8 @@ use run_text::{RunText, Said, read_record, read_run, read_total};
 use std::alloc::Global;
 use std::test::Fail;
 
-// The record of a line that was run.
-fn run(alloc: Global, text: &str) -> Result<Record, Fail> {
+/// The record of a line that was run.
+pub fn run(alloc: Global, text: &str) -> Result<Record, Fail> {
     match read_record(alloc, text.as_bytes())? {
         Some(Said::Run(rec)) => Ok(rec),
         _ => Err("the record of a line that was run".into()),

@@ -1,1 +1,13 @@
+pub mod Ruled
+pub mod Causes
+pub mod Verdict
 pub mod Whose
+pub mod Equal
+pub mod VersionAt
+pub mod Chain
+pub mod Shown
+pub mod Closing
+pub mod Known
+pub mod Greatest
+pub mod Ticks
+pub mod Judged

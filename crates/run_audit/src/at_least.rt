@@ -1,88 +1,75 @@
 // What a record shows beside the earlier records of its worker.
-ghost use Rattle.std.specs.Prelude.{◌≡◌, ◌↔◌, ◌==◌, ◌||◌, not, nat_le, nat_lt, IsTrue};
-ghost use Rattle.std.specs.List.{list_all};
-ghost use Rattle.script_run.specs.Lines.{IsAtLeastEarlier};
-ghost use Rattle.script_run.specs.Versions.{is_installed, IsAbove};
+ghost use Rattle.std.specs.Prelude.{◌≡◌, ◌+◌, not, nat_le, ◌||◌};
+ghost use Rattle.script_run.specs.Versions.{is_installed};
 
-use crate::Fact;
-use rate_types::Seconds;
+use crate::ByEarlier;
+use crate::of_record::moment_of;
 use reply_text::{Outcome, Record};
-use script_run::Line;
-
-fn no_later_version(earlier: &[Record], worker: u32, version: u32) -> bool
-    ensures { result ≡ list_all (λ e. not (e.worker == worker) || nat_le e.version version) earlier.now }
-{
-    earlier
-        .iter()
-        .all(|e| e.worker != worker || e.version <= version)
-}
-
-fn has_no_later_version(earlier: &[Record], rec: &Record) -> bool
-    ensures { result ≡ list_all (λ e. not (e.worker == rec.now.worker) || nat_le e.version rec.now.version) earlier.now }
-{
-    let worker = rec.worker;
-    let version = rec.version;
-    no_later_version(earlier, worker, version)
-}
 
 /// The version is at least those of the worker's earlier records.
 #[derive(Clone, Copy)]
 pub struct VersionAtLeast;
 
-impl Fact for VersionAtLeast {
+fn version_number(rec: &Record) -> u64
+    ensures { result ≡ rec.now.version }
+{
+    u64::from(rec.version)
+}
+
+fn version_after(rec: &Record) -> u64
+    ensures { result ≡ rec.now.version + 1 }
+{
+    u64::from(rec.version) + 1
+}
+
+fn has_version(least: u64, rec: &Record) -> bool
+    ensures { result ≡ nat_le least rec.now.version }
+{
+    least <= version_number(rec)
+}
+
+fn has_moment(least: u64, rec: &Record) -> bool
+    ensures { result ≡ nat_le least rec.now.moment }
+{
+    least <= moment_of(rec).get()
+}
+
+impl ByEarlier for VersionAtLeast {
     ghost use Rattle.script_run.specs.Lines.{IsAtLeastEarlier};
 
-    ghost stands = { λ f before earlier l r. IsAtLeastEarlier (λ s. s.version) earlier r };
+    ghost number = { λ f r. r.version };
 
-    fn decide(&self, _before: &[Line], earlier: &[Record], _line: &Line, rec: &Record) -> bool {
-        has_no_later_version(earlier, rec)
+    ghost stands = { λ f earlier r. IsAtLeastEarlier (λ s. s.version) earlier r };
+
+    fn number(&self, rec: &Record) -> u64 {
+        version_number(rec)
     }
-}
 
-fn no_later_moment(earlier: &[Record], worker: u32, moment: Seconds) -> bool
-    ensures { result ≡ list_all (λ e. not (e.worker == worker) || nat_le e.moment moment) earlier.now }
-{
-    earlier
-        .iter()
-        .all(|e| e.worker != worker || e.moment.get() <= moment.get())
-}
-
-fn has_no_later_moment(earlier: &[Record], rec: &Record) -> bool
-    ensures { result ≡ list_all (λ e. not (e.worker == rec.now.worker) || nat_le e.moment rec.now.moment) earlier.now }
-{
-    let worker = rec.worker;
-    let moment = rec.moment;
-    no_later_moment(earlier, worker, moment)
+    fn decide(&self, most: u64, rec: &Record) -> bool {
+        let stands = has_version(most, rec);
+        stands
+    }
 }
 
 /// The moment is at least those of the worker's earlier records.
 #[derive(Clone, Copy)]
 pub struct MomentAtLeast;
 
-impl Fact for MomentAtLeast {
+impl ByEarlier for MomentAtLeast {
     ghost use Rattle.script_run.specs.Lines.{IsAtLeastEarlier};
 
-    ghost stands = { λ f before earlier l r. IsAtLeastEarlier (λ s. s.moment) earlier r };
+    ghost number = { λ f r. r.moment };
 
-    fn decide(&self, _before: &[Line], earlier: &[Record], _line: &Line, rec: &Record) -> bool {
-        has_no_later_moment(earlier, rec)
+    ghost stands = { λ f earlier r. IsAtLeastEarlier (λ s. s.moment) earlier r };
+
+    fn number(&self, rec: &Record) -> u64 {
+        moment_of(rec).get()
     }
-}
 
-fn all_below(earlier: &[Record], worker: u32, version: u32) -> bool
-    ensures { result ≡ list_all (λ e. not (e.worker == worker) || nat_lt e.version version) earlier.now }
-{
-    earlier
-        .iter()
-        .all(|e| e.worker != worker || e.version < version)
-}
-
-fn is_above(earlier: &[Record], rec: &Record) -> bool
-    ensures { result ≡ list_all (λ e. not (e.worker == rec.now.worker) || nat_lt e.version rec.now.version) earlier.now }
-{
-    let worker = rec.worker;
-    let version = rec.version;
-    all_below(earlier, worker, version)
+    fn decide(&self, most: u64, rec: &Record) -> bool {
+        let stands = has_moment(most, rec);
+        stands
+    }
 }
 
 /// Whether a configuration was installed.
@@ -95,23 +82,36 @@ pub fn is_installed(outcome: &Outcome) -> bool
     }
 }
 
+fn was_installed(rec: &Record) -> bool
+    ensures { result ≡ is_installed rec.now.outcome }
+{
+    is_installed(&rec.outcome)
+}
+
+fn stands_above(most: u64, rec: &Record) -> bool
+    ensures { result ≡ (not (is_installed rec.now.outcome) || nat_le most rec.now.version) }
+{
+    !was_installed(rec) || has_version(most, rec)
+}
+
 /// An installed version is greater than those of the worker's earlier records.
 #[derive(Clone, Copy)]
 pub struct Above;
 
-impl Fact for Above {
+impl ByEarlier for Above {
+    ghost use Rattle.std.specs.Prelude.{◌+◌};
     ghost use Rattle.script_run.specs.Versions.{IsAbove};
 
-    ghost stands = { λ f before earlier l r. IsAbove earlier r r.outcome };
+    ghost number = { λ f r. r.version + 1 };
 
-    fn decide(&self, _before: &[Line], earlier: &[Record], _line: &Line, rec: &Record) -> bool {
-        stands_above(earlier, rec)
+    ghost stands = { λ f earlier r. IsAbove earlier r r.outcome };
+
+    fn number(&self, rec: &Record) -> u64 {
+        version_after(rec)
     }
-}
 
-fn stands_above(earlier: &[Record], rec: &Record) -> bool
-    ensures { result ≡ (not (is_installed rec.now.outcome)
-        || list_all (λ e. not (e.worker == rec.now.worker) || nat_lt e.version rec.now.version) earlier.now) }
-{
-    !is_installed(&rec.outcome) || is_above(earlier, rec)
+    fn decide(&self, most: u64, rec: &Record) -> bool {
+        let stands = stands_above(most, rec);
+        stands
+    }
 }

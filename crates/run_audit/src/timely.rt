@@ -1,79 +1,47 @@
 // Which moment a record may have.
-ghost use Rattle.std.specs.Prelude.{◌≡◌, ◌↔◌, ◌≤◌, ◌⊎◌, ◌++◌, ◌∷◌, [], ◌&&◌, ◌||◌, ◌==◌, IsTrue, length, map};
-ghost use Rattle.script_run.specs.Moments.{tick_of, offers, IsTimely};
+ghost use Rattle.std.specs.Prelude.{◌≡◌, ◌↔◌, ◌≤◌, ◌==◌, ◌||◌, IsTrue, IfOk, length, map, nat_lt};
+ghost use Rattle.script_run.specs.Lines.{EachLine};
+ghost use Rattle.script_run.specs.Moments.{tick_of, IsTimely};
 ghost use Rattle.script_run.specs.Views.{line_view};
-ghost use Rattle.run_audit.specs.Whose.{is_of};
-ghost use Rattle.run_audit.specs.declared.offers.Whose.TheVariants.{Own, Others};
+ghost use Rattle.run_audit.specs.Ticks.{all_in, ticks_in};
 
-use crate::Fact;
-use crate::connectives::{both, either};
-use crate::offers::{Whose, is_offered, offer_by, tick_of};
-use rate_types::Seconds;
+use crate::connectives::both;
+use crate::of_record::{moment_of, worker_of};
+use crate::offers::tick_of;
+use crate::ticks::{Ticks, add_tick, all_in, all_ticks_of, ticks_in, ticks_of};
+use rate_types::{OutOfMemory, Seconds};
 use reply_text::Record;
 use script_run::Line;
+use std::alloc::Global;
+use std::collections::BTreeMap;
 
-// Whether an earlier line of the worker, or this one, is a tick with this number.
-fn is_offered_to(
-    worker: u32,
-    moment: u64,
-    before: &[Line],
-    earlier: &[Record],
-    line: &Line,
+fn is_from(start: u64, all: u64, own: u64, sooner: u64, moment: u64) -> bool
+    ensures { result ≡ ((moment == start) || (nat_lt own all || nat_lt 0 sooner)) }
+{
+    moment == start || (own < all || 0 < sooner)
+}
+
+// Whether a moment has its source: the start, a tick of another worker, or one of its own worker that isn't later than its line.
+fn has_source(
+    start: Seconds,
+    all: &BTreeMap<u64, u64>,
+    own: &Ticks,
+    sooner: &Ticks,
     rec: &Record,
 ) -> bool
-    requires { length before.now ≡ length earlier.now }
-    ensures { IsTrue result ↔ (1 ≤ offers (is_of Own worker) moment (map line_view before.now ++ line_view line.now ∷ [])
-        (earlier.now ++ rec.now ∷ [])) }
-{
-    let sooner = is_offered(Whose::Own, worker, moment, before, earlier);
-    let now = offer_by(Whose::Own, worker, moment, line, rec);
-    let offered = either(sooner, now > 0);
-    offered
-}
-
-/// The moment of a record has its source.
-#[derive(Clone, Copy)]
-pub struct Timely<'a> {
-    pub start: Seconds,
-    pub lines: &'a [Line],
-    pub records: &'a [Record],
-    ghost as_many: { length lines.now ≡ length records.now },
-}
-
-fn worker_of(rec: &Record) -> u32
-    ensures { result ≡ rec.now.worker }
-{
-    rec.worker
-}
-
-fn moment_of(rec: &Record) -> u64
-    ensures { result ≡ rec.now.moment }
-{
-    rec.moment.get()
-}
-
-fn is_start(run: &Timely, moment: u64) -> bool
-    ensures { result ≡ (moment == run.now.start) }
-{
-    moment == run.start.get()
-}
-
-// Whether a moment has its source.
-fn has_source(run: &Timely, before: &[Line], earlier: &[Record], line: &Line, rec: &Record) -> bool
-    requires { length before.now ≡ length earlier.now }
-    ensures { IsTrue result ↔ ((rec.now.moment ≡ run.now.start)
-        ⊎ ((1 ≤ offers (is_of Others rec.now.worker) rec.now.moment (map line_view run.now.lines.now) run.now.records.now)
-        ⊎ (1 ≤ offers (is_of Own rec.now.worker) rec.now.moment (map line_view before.now ++ line_view line.now ∷ [])
-        (earlier.now ++ rec.now ∷ [])))) }
+    ensures { result ≡ ((rec.now.moment == start)
+        || (nat_lt (ticks_in own.now.entries rec.now.moment rec.now.worker) (all_in all.now.entries rec.now.moment)
+        || nat_lt 0 (ticks_in sooner.now.entries rec.now.moment rec.now.worker))) }
 {
     let worker = worker_of(rec);
-    let moment = moment_of(rec);
-    let at_start = is_start(run, moment);
-    let others = is_offered(Whose::Others, worker, moment, run.lines, run.records);
-    let own = is_offered_to(worker, moment, before, earlier, line, rec);
-    let ticked = either(others, own);
-    let source = either(at_start, ticked);
-    source
+    let moment = moment_of(rec).get();
+    is_from(
+        start.get(),
+        all_in(all, moment),
+        ticks_in(own, moment, worker),
+        ticks_in(sooner, moment, worker),
+        moment,
+    )
 }
 
 // Whether a moment is late enough.
@@ -86,17 +54,31 @@ fn is_late_enough(start: Seconds, line: &Line, rec: &Record) -> bool
     both(least, ticked)
 }
 
-impl Fact for Timely<'_> {
-    ghost use Rattle.std.specs.Prelude.{map};
-    ghost use Rattle.script_run.specs.Moments.{IsTimely};
-    ghost use Rattle.script_run.specs.Views.{line_view};
-
-    ghost stands = { λ f before earlier l r. IsTimely f.start (map line_view f.lines.now) f.records.now before earlier l r };
-
-    fn decide(&self, before: &[Line], earlier: &[Record], line: &Line, rec: &Record) -> bool {
-        let late = is_late_enough(self.start, line, rec);
-        let source = has_source(self, before, earlier, line, rec);
-        let stands = both(late, source);
-        stands
+/// Whether the moment of each record has its source.
+pub fn all_timely(
+    alloc: Global,
+    start: Seconds,
+    lines: &[Line],
+    records: &[Record],
+) -> Result<bool, OutOfMemory>
+    requires { length records.now ≡ length lines.now }
+    ensures { IfOk result (λ b. IsTrue b ↔ EachLine (map line_view lines.now) records.now
+        (λ before earlier l r. IsTimely start (map line_view lines.now) records.now before earlier l r)) }
+{
+    let all = all_ticks_of(alloc, lines, records)?;
+    let own = ticks_of(alloc, lines, records)?;
+    let mut sooner = BTreeMap::new(alloc);
+    'lines: for i in 0..lines.len() {
+        let line = &lines[i];
+        let rec = &records[i];
+        let worker = worker_of(rec);
+        add_tick(&mut sooner, line, worker)?;
+        let late = is_late_enough(start, line, rec);
+        let source = has_source(start, &all, &own, &sooner, rec);
+        let timely = both(late, source);
+        if !timely {
+            return Ok(false);
+        }
     }
+    Ok(true)
 }

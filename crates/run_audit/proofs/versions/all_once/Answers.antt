@@ -7,17 +7,17 @@ use Rattle.run_audit.proofs.versions.all_once.Goals as goal
 false_true : false ≡ true → ⊥
 false_true e = cc
 
-pub returns-then-installs_as-ne1 : goal.returns-then-installs_as-ne1
-returns-then-installs_as-ne1 c = (
+pub returns-then-number_in-ne1 : goal.returns-then-number_in-ne1
+returns-then-number_in-ne1 c = (
   λ e. absurd (false_true e),
   λ h.
-      absurd (c.if-installs_as-ne1.true (c.installs_as.ensures ∙ h (c.versions.k + 1) (omega arith) (omega arith))),
+      absurd (c.if-number_in-ne1.true (c.number_in.ensures ∙ c.in_ok-counts.ensures (c.versions.k + 1) ∙ h (c.versions.k + 1) (omega arith) (omega arith))),
 )
 
 pub versions-preserved : goal.versions-preserved
 versions-preserved c = λ v some most. elim (cases_eq v (c.versions.k + 1)) [
   | inl e ↦ subst (λ n. count_by (λ r. is_installed r.outcome && (r.version == n)) c.args.records.now ≡ 1) (sym e)
-      (sym c.installs_as.ensures ∙ c.if-installs_as-ne1.false)
+      (sym (c.number_in.ensures ∙ c.in_ok-counts.ensures (c.versions.k + 1)) ∙ c.if-number_in-ne1.false)
   | inr other ↦ c.versions.invariant v some (omega arith)
 ]
 

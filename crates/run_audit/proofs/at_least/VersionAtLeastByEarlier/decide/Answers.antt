@@ -1,0 +1,6 @@
+use Rattle.run_audit.proofs.Tests.{renamed}
+use Rattle.run_audit.proofs.Earliest.{at_least_by}
+use Rattle.run_audit.proofs.at_least.VersionAtLeastByEarlier.decide.Goals as goal
+
+pub returns : goal.returns
+returns c = λ earlier is. renamed _ _ c.has_version-stands.ensures (at_least_by (λ r. r.version) c.args.rec.now earlier c.args.most is)

@@ -1,0 +1,6 @@
+use Rattle.script_run.specs.Named.{is_among}
+use Rattle.run_audit.proofs.Numbers.{at_most}
+use Rattle.run_audit.proofs.refusals.are_there.Goals as goal
+
+pub returns : goal.returns
+returns c = at_most (is_among c.args.counters.items) c.in_ok-there.there c.in_ok-there.ensures c.args.number

@@ -1,0 +1,39 @@
+use Rattle.std.proofs.Common.{◌<◌, ◌≤◌, List, length, map, refl, sym, ◌∙◌, arith}
+use Rattle.reply_text.specs.declared.record.Record.{Record}
+use Rattle.script_run.specs.ScriptLine.{ScriptLine}
+use Rattle.script_run.specs.Views.{line_view}
+use Rattle.run_audit.specs.Causes.{IsCaused}
+use Rattle.run_audit.specs.VersionAt.{config_at}
+use Rattle.run_audit.proofs.Each.{here, more, below_all}
+use Rattle.run_audit.proofs.Tests.{false_true}
+use Rattle.run_audit.proofs.refusals.refusals_have_causes.Goals as goal
+
+pub returns-then-not-caused : goal.returns-then-not-caused
+returns-then-not-caused c = (
+  λ e. absurd (false_true e),
+  λ each.
+      let run = c.args.run.now in
+      let Fact : List ScriptLine → List Record → ScriptLine → Record → Type 0
+      = λ before earlier l r. IsCaused (config_at run.configs.now) run.workers run.cells (map line_view run.lines.now) run.records.now before earlier l r in
+      let within : c.lines.i < length run.records.now = omega arith in
+      let stands = here run.lines.now run.records.now Fact c.lines.i c.index-lines-i.result c.index-records-i.result run.as_many within
+      c.index-lines-i.is c.index-records-i.is each in
+      absurd (false_true (sym c.if-not-caused.true ∙ c.in_ok-caused.ensures.1 stands)),
+)
+
+pub lines-preserved : goal.lines-preserved
+lines-preserved c =
+    let run = c.args.run.now in
+    let Fact : List ScriptLine → List Record → ScriptLine → Record → Type 0
+    = λ before earlier l r. IsCaused (config_at run.configs.now) run.workers run.cells (map line_view run.lines.now) run.records.now before earlier l r in
+    let within : c.lines.i < length run.records.now = omega arith in
+    more run.lines.now run.records.now Fact c.lines.i c.index-lines-i.result c.index-records-i.result run.as_many within c.index-lines-i.is
+    c.index-records-i.is c.lines.invariant (c.in_ok-caused.ensures.0 c.if-not-caused.false)
+
+pub returns : goal.returns
+returns c =
+    let run = c.args.run.now in
+    let Fact : List ScriptLine → List Record → ScriptLine → Record → Type 0
+    = λ before earlier l r. IsCaused (config_at run.configs.now) run.workers run.cells (map line_view run.lines.now) run.records.now before earlier l r in
+    let all : length run.records.now ≤ c.lines.i = omega arith in
+    (λ e. below_all c.lines.i (map line_view run.lines.now) run.records.now Fact all c.lines.invariant, λ h. refl)

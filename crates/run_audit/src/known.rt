@@ -1,0 +1,55 @@
+// What workers know of counters.
+ghost use Rattle.std.specs.Prelude.{◌≡◌, ℕ, ◌≤◌, ◌∷◌, [], IfOk, if◌then◌else◌};
+ghost use Rattle.std.specs.Ordering.{is_eq};
+ghost use Rattle.rate_types.specs.declared.counter_key.CounterKey.{CounterKey};
+ghost use Rattle.script_run.specs.Values.{KnownAtMost};
+ghost use Rattle.run_audit.specs.Known.{Learns, known_cmp, value_in};
+
+use rate_types::{CounterKey, OutOfMemory};
+use std::alloc::Global;
+use std::collections::BTreeMap;
+
+/// A counter that a worker knows.
+#[derive(PartialEq, Eq, PartialOrd, Ord, Drop)]
+pub struct KnownCounter {
+    pub worker: u32,
+    pub counter: CounterKey,
+}
+
+/// The greatest value that each worker knows of each counter.
+pub type KnownValues = BTreeMap<KnownCounter, u128>;
+
+fn known_of(values: &KnownValues, key: &KnownCounter) -> u128
+    ensures { result ≡ value_in values.now.entries key.now.worker key.now.counter }
+{
+    match values.get(key) {
+        Some(value) => *value,
+        None => 0,
+    }
+}
+
+fn put(values: &mut KnownValues, key: KnownCounter, value: u128) -> Result<(), OutOfMemory>
+    ensures { IfOk result (λ _. (w : ℕ) (c : CounterKey) → value_in values.new.entries w c
+        ≡ (if is_eq (known_cmp key (record { worker = w; counter = c })) then value else value_in values.old.entries w c)) }
+{
+    values.insert(key, value)?;
+    Ok(())
+}
+
+/// Whether a worker knows at most so much of a counter. Where it does, it then knows this value of it, which is at least as much.
+pub fn learn(
+    values: &mut KnownValues,
+    key: KnownCounter,
+    most: u128,
+    value: u128,
+) -> Result<bool, OutOfMemory>
+    requires { most ≤ value }
+    ensures { IfOk result (λ b. Learns values.old.entries values.new.entries key.worker b
+        (λ known. KnownAtMost known key.counter most) (record { counter = key.counter; seen = value } ∷ [])) }
+{
+    if known_of(values, &key) > most {
+        return Ok(false);
+    }
+    put(values, key, value)?;
+    Ok(true)
+}

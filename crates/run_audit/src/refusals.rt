@@ -1,0 +1,366 @@
+// Whether refusals have their causes.
+ghost use Rattle.std.specs.Prelude.{◌≡◌, ◌↔◌, ◌≤◌, ◌+◌, ◌*◌, ◌-◌, ◌<◌, ◌++◌, not, true, IsTrue, IfOk, filter, length, map};
+ghost use Rattle.rate_types.specs.declared.limits.TheConstants.{MOST_PINS, MOST_VERSIONS};
+ghost use Rattle.rls_core.specs.Reply.{counters_named};
+ghost use Rattle.rls_core.specs.Sequential.{IsNumberOf, LacksRoom};
+ghost use Rattle.script_run.specs.Named.{AreThere, bound_by, is_among, is_open_at};
+ghost use Rattle.script_run.specs.Refusals.{HasRefusalCause, IsFull, is_named_at, may_be_bound};
+ghost use Rattle.script_run.specs.Sequential.{IsInTurn, is_bound};
+ghost use Rattle.script_run.specs.Versions.{installs};
+ghost use Rattle.script_run.specs.Views.{line_view};
+ghost use Rattle.run_audit.specs.Causes.{IsCaused, RefusalsCaused, is_refusal};
+ghost use Rattle.run_audit.specs.VersionAt.{config_at};
+ghost use Rattle.run_audit.specs.Whose.{is_of};
+ghost use Rattle.run_audit.specs.declared.offers.Whose.TheVariants.{Own, Others};
+
+use crate::Configs;
+use crate::configs::index_of;
+use crate::connectives::both;
+use crate::counters::{all_tried, bound_by, counters_named, distinct};
+use crate::installs::installs;
+use crate::of_record::{moment_of, worker_of};
+use crate::offers::Whose;
+use rate_types::limits::{MOST_PINS, MOST_VERSIONS};
+use rate_types::{CounterKey, OutOfMemory, Request, Seconds};
+use reply_text::{Outcome, Record};
+use rule_lookup::Index;
+use script_run::Line;
+use std::alloc::Global;
+
+/// A run, as the causes of its refusals see it.
+#[derive(Clone, Copy)]
+pub struct RunParts<'a> {
+    pub configs: &'a Configs,
+    pub workers: u32,
+    pub cells: u32,
+    pub lines: &'a [Line],
+    pub records: &'a [Record],
+    ghost as_many: { length records.now ≡ length lines.now },
+}
+
+// Whether there are so many different counters among these.
+fn are_there(alloc: Global, counters: Vec<CounterKey>, number: u64) -> Result<bool, OutOfMemory>
+    ensures { IfOk result (λ b. IsTrue b ↔ AreThere (is_among counters.items) number) }
+{
+    let there = distinct(alloc, counters)?;
+    Ok(number <= there as u64)
+}
+
+// Whether so many different counters are these.
+fn are_so_many(alloc: Global, counters: Vec<CounterKey>, number: u64) -> Result<bool, OutOfMemory>
+    ensures { IfOk result (λ b. IsTrue b ↔ IsNumberOf (is_among counters.items) number) }
+{
+    let there = distinct(alloc, counters)?;
+    Ok(number == there as u64)
+}
+
+// Whether a check may want so many cells.
+fn may_want(
+    alloc: Global,
+    index: &Index,
+    request: &Request,
+    moment: Seconds,
+    wanted: u32,
+) -> Result<bool, OutOfMemory>
+    ensures { IfOk result (λ b. IsTrue b ↔ AreThere (is_among (counters_named index.now request.now moment)) wanted) }
+{
+    let named = counters_named(alloc, index, request, moment)?;
+    let there = are_there(alloc, named, wanted as u64)?;
+    Ok(there)
+}
+
+// The counters that may have cells when a worker's line is run.
+fn bound_before(
+    alloc: Global,
+    run: &RunParts,
+    before: &[Line],
+    earlier: &[Record],
+    worker: u32,
+    moment: Seconds,
+) -> Result<Vec<CounterKey>, OutOfMemory>
+    requires { length earlier.now ≡ length before.now }
+    ensures { IfOk result (λ v. v.items ≡ filter (is_open_at moment)
+        (bound_by (is_of Others worker) (config_at run.now.configs.now) (map line_view run.now.lines.now) run.now.records.now)
+        ++ filter (is_open_at moment) (bound_by (is_of Own worker) (config_at run.now.configs.now) (map line_view before.now) earlier.now)) }
+{
+    let mut others = bound_by(
+        alloc,
+        run.configs,
+        Whose::Others,
+        worker,
+        moment,
+        run.lines,
+        run.records,
+    )?;
+    let own = bound_by(
+        alloc,
+        run.configs,
+        Whose::Own,
+        worker,
+        moment,
+        before,
+        earlier,
+    )?;
+    for counter in own {
+        others.push(counter)?;
+    }
+    Ok(others)
+}
+
+// Whether so many counters may have cells when a record's line is run.
+fn may_live(
+    alloc: Global,
+    run: &RunParts,
+    before: &[Line],
+    earlier: &[Record],
+    rec: &Record,
+    live: u32,
+) -> Result<bool, OutOfMemory>
+    requires { length earlier.now ≡ length before.now }
+    ensures { IfOk result (λ b. IsTrue b ↔ AreThere (may_be_bound (config_at run.now.configs.now) (map line_view run.now.lines.now)
+        run.now.records.now (map line_view before.now) earlier.now rec.now) live) }
+{
+    let worker = worker_of(rec);
+    let moment = moment_of(rec);
+    let bound = bound_before(alloc, run, before, earlier, worker, moment)?;
+    let there = are_there(alloc, bound, live as u64)?;
+    Ok(there)
+}
+
+// Whether checks of the run name so many counters whose windows aren't over.
+fn may_be_named(
+    alloc: Global,
+    run: &RunParts,
+    moment: Seconds,
+    number: u64,
+) -> Result<bool, OutOfMemory>
+    ensures { IfOk result (λ b. IsTrue b ↔ AreThere (is_named_at (config_at run.now.configs.now) (map line_view run.now.lines.now)
+        run.now.records.now moment) number) }
+{
+    let named = all_tried(alloc, run.configs, moment, run.lines, run.records)?;
+    let there = are_there(alloc, named, number)?;
+    Ok(there)
+}
+
+/// The numbers of a refusal for want of cells.
+#[derive(Clone, Copy)]
+struct Numbers {
+    live: u32,
+    held: u32,
+    wanted: u32,
+}
+
+// Whether these numbers are a cause among so many workers and cells.
+fn are_too_many(workers: u32, cells: u32, numbers: Numbers) -> bool
+    ensures { IsTrue result ↔ ((cells < numbers.live + numbers.held + numbers.wanted)
+        × (1 ≤ numbers.wanted) × (numbers.held ≤ MOST_PINS * (workers - 1))) }
+{
+    let sum = numbers.live as u64 + numbers.held as u64 + numbers.wanted as u64;
+    let full = (cells as u64) < sum;
+    let some = numbers.wanted >= 1;
+    let holds = numbers.held as u64 <= MOST_PINS as u64 * workers.saturating_sub(1) as u64;
+    full && some && holds
+}
+
+// Whether a check that found no room had its cause.
+fn is_full(
+    alloc: Global,
+    run: &RunParts,
+    before: &[Line],
+    earlier: &[Record],
+    request: &Request,
+    rec: &Record,
+    numbers: Numbers,
+) -> Result<bool, OutOfMemory>
+    requires { length earlier.now ≡ length before.now }
+    ensures { IfOk result (λ b. IsTrue b ↔ IsFull (config_at run.now.configs.now) run.now.workers run.now.cells
+        (map line_view run.now.lines.now) run.now.records.now (map line_view before.now) earlier.now request.now rec.now
+        numbers.live numbers.held numbers.wanted) }
+{
+    let many = are_too_many(run.workers, run.cells, numbers);
+    let index = index_of(run.configs, rec);
+    let moment = moment_of(rec);
+    let number = numbers.live as u64 + numbers.wanted as u64;
+    let wants = may_want(alloc, index, request, moment, numbers.wanted)?;
+    let lives = may_live(alloc, run, before, earlier, rec, numbers.live)?;
+    let names = may_be_named(alloc, run, moment, number)?;
+    let first = both(many, wants);
+    let second = both(lives, names);
+    let stands = both(first, second);
+    Ok(stands)
+}
+
+fn is_among(counters: &[CounterKey], counter: &CounterKey) -> bool
+    ensures { result ≡ is_among counters.now counter.now }
+{
+    counters.iter().any(|k| counter == k)
+}
+
+// The counters that aren't among the bound ones.
+fn without(
+    alloc: Global,
+    counters: Vec<CounterKey>,
+    bound: &[CounterKey],
+) -> Result<Vec<CounterKey>, OutOfMemory>
+    ensures { IfOk result (λ v. v.items ≡ filter (λ c. not (is_among bound.now c)) counters.items) }
+{
+    let mut left = Vec::new(alloc);
+    'counters: for counter in counters {
+        if !is_among(bound, &counter) {
+            left.push(counter)?;
+        }
+    }
+    Ok(left)
+}
+
+// Whether, with one worker, the cells didn't suffice in these numbers.
+fn lacks_room(
+    alloc: Global,
+    run: &RunParts,
+    before: &[Line],
+    earlier: &[Record],
+    request: &Request,
+    rec: &Record,
+    numbers: Numbers,
+) -> Result<bool, OutOfMemory>
+    requires { length earlier.now ≡ length before.now }
+    ensures { IfOk result (λ b. IsTrue b ↔ LacksRoom (config_at run.now.configs.now rec.now.version) run.now.cells request.now
+        rec.now.moment
+        (is_bound (config_at run.now.configs.now) (map line_view before.now) earlier.now rec.now.moment) numbers.live numbers.wanted) }
+{
+    let moment = moment_of(rec);
+    let index = index_of(run.configs, rec);
+    let bound = bound_by(alloc, run.configs, Whose::All, 0, moment, before, earlier)?;
+    let named = counters_named(alloc, index, request, moment)?;
+    let missing = without(alloc, named, bound.as_slice())?;
+    let lives = are_so_many(alloc, bound, numbers.live as u64)?;
+    let wants = are_so_many(alloc, missing, numbers.wanted as u64)?;
+    let above = (run.cells as u64) < numbers.live as u64 + numbers.wanted as u64;
+    let needs = both(lives, wants);
+    let stands = both(needs, above);
+    Ok(stands)
+}
+
+// Whether a check that found no room had its cause, with one worker in exact numbers.
+fn is_full_caused(
+    alloc: Global,
+    run: &RunParts,
+    before: &[Line],
+    earlier: &[Record],
+    request: &Request,
+    rec: &Record,
+    numbers: Numbers,
+) -> Result<bool, OutOfMemory>
+    requires { length earlier.now ≡ length before.now }
+    ensures { IfOk result (λ b. IsTrue b ↔ (IsFull (config_at run.now.configs.now) run.now.workers run.now.cells
+        (map line_view run.now.lines.now) run.now.records.now (map line_view before.now) earlier.now request.now rec.now
+        numbers.live numbers.held numbers.wanted
+        × (run.now.workers ≡ 1 → (numbers.held ≡ 0) × LacksRoom (config_at run.now.configs.now rec.now.version) run.now.cells request.now
+        rec.now.moment (is_bound (config_at run.now.configs.now) (map line_view before.now) earlier.now rec.now.moment)
+        numbers.live numbers.wanted))) }
+{
+    let full = is_full(alloc, run, before, earlier, request, rec, numbers)?;
+    if run.workers != 1 {
+        return Ok(full);
+    }
+    let room = lacks_room(alloc, run, before, earlier, request, rec, numbers)?;
+    let exact = both(numbers.held == 0, room);
+    let stands = both(full, exact);
+    Ok(stands)
+}
+
+// Whether a reload that was refused had its cause.
+fn is_reload_caused(run: &RunParts, earlier: &[Record], versions: u32) -> bool
+    ensures { IsTrue result ↔ (((versions ≡ MOST_VERSIONS) × (installs run.now.records.now + 1 ≡ MOST_VERSIONS))
+        × (run.now.workers ≡ 1 → installs earlier.now + 1 ≡ MOST_VERSIONS)) }
+{
+    let most = MOST_VERSIONS as usize;
+    let all = installs(run.records) + 1 == most;
+    let exact = run.workers != 1 || installs(earlier) + 1 == most;
+    versions == MOST_VERSIONS && all && exact
+}
+
+// Whether what came of a line has its cause, where it is a refusal.
+fn is_outcome_caused(
+    alloc: Global,
+    run: &RunParts,
+    before: &[Line],
+    earlier: &[Record],
+    line: &Line,
+    rec: &Record,
+    outcome: &Outcome,
+) -> Result<bool, OutOfMemory>
+    requires { length earlier.now ≡ length before.now }
+    ensures { IfOk result (λ b. IsTrue b ↔ (HasRefusalCause (config_at run.now.configs.now) run.now.workers run.now.cells
+        (map line_view run.now.lines.now) run.now.records.now (map line_view before.now) earlier.now (line_view line.now) rec.now
+        outcome.now
+        × (run.now.workers ≡ 1 → is_refusal outcome.now ≡ true → IsInTurn (config_at run.now.configs.now) run.now.cells
+        (map line_view before.now) earlier.now (line_view line.now) rec.now outcome.now))) }
+{
+    match outcome {
+        Outcome::Full { live, held, wanted } => match line {
+            Line::Check(request) => {
+                let numbers = Numbers {
+                    live: *live,
+                    held: *held,
+                    wanted: *wanted,
+                };
+                is_full_caused(alloc, run, before, earlier, request, rec, numbers)
+            }
+            Line::Reload(_) => Ok(true),
+            Line::Tick(_) => Ok(true),
+            Line::Bad(_) => Ok(true),
+        },
+        Outcome::VersionsFull { versions } => match line {
+            Line::Reload(_) => Ok(is_reload_caused(run, earlier, *versions)),
+            Line::Check(_) => Ok(true),
+            Line::Tick(_) => Ok(true),
+            Line::Bad(_) => Ok(true),
+        },
+        Outcome::Spent { .. } => Ok(false),
+        Outcome::Checked(_) => Ok(true),
+        Outcome::Ticked(_) => Ok(true),
+        Outcome::Installed => Ok(true),
+        Outcome::Bad(_) => Ok(true),
+    }
+}
+
+// Whether a record has its cause, where it shows a refusal.
+fn is_caused(
+    alloc: Global,
+    run: &RunParts,
+    before: &[Line],
+    earlier: &[Record],
+    line: &Line,
+    rec: &Record,
+) -> Result<bool, OutOfMemory>
+    requires { length earlier.now ≡ length before.now }
+    ensures { IfOk result (λ b. IsTrue b ↔ IsCaused (config_at run.now.configs.now) run.now.workers run.now.cells
+        (map line_view run.now.lines.now) run.now.records.now (map line_view before.now) earlier.now (line_view line.now) rec.now) }
+{
+    let caused = is_outcome_caused(alloc, run, before, earlier, line, rec, &rec.outcome)?;
+    Ok(caused)
+}
+
+/// Whether each refusal has its cause, with one worker in exact numbers.
+pub fn refusals_have_causes(alloc: Global, run: &RunParts) -> Result<bool, OutOfMemory>
+    ensures { IfOk result (λ b. IsTrue b ↔ RefusalsCaused (config_at run.now.configs.now) run.now.workers run.now.cells
+        (map line_view run.now.lines.now) run.now.records.now) }
+{
+    let lines = run.lines;
+    let records = run.records;
+    'lines: for i in 0..records.len() {
+        let caused = is_caused(
+            alloc,
+            run,
+            &lines[..i],
+            &records[..i],
+            &lines[i],
+            &records[i],
+        )?;
+        if !caused {
+            return Ok(false);
+        }
+    }
+    Ok(true)
+}
