@@ -1,5 +1,6 @@
 -- What a pools file says.
-use Rattle.std.specs.Prelude.{ℕ, ◌+◌, List, [], ◌∷◌, ◌++◌, length, nat_eq, nat_lt, if◌then◌else◌, Option, Some, None, unwrap_or, Result, Ok, Err}
+use Rattle.std.specs.Prelude.{ℕ, ◌+◌, List, [], ◌∷◌, ◌++◌, length, nat_eq, nat_lt, if◌then◌else◌, Option, Some, None, unwrap_or}
+use Rattle.std.specs.Prelude.{Result, Ok, Err}
 use Rattle.serde_json.specs.Data.{Data, Items, no_items, item}
 use Rattle.rate_types.specs.Places as places
 use Rattle.rate_types.specs.declared.unit.Unit.{Unit}
@@ -18,8 +19,8 @@ use Rattle.quota_pools.specs.Pools.{OnePool, AllPools, has_pool}
 
 -- ---- a pool
 
--- a pool, or the first of its own rules that it breaks: 14 UnitMissing, 32 NoBucketId where its bucket has no name, 37 TooManyParts where it
--- has over 32, 48 TwoPools where an earlier pool has the same bucket, 49 NoLifetime where its lifetime is absent or 0
+-- a pool, or the first of its own rules that it breaks: 14 UnitMissing, 32 NoBucketId where its bucket has no name, 37 TooManyParts
+-- where it has over 32, 48 TwoPools where an earlier pool has the same bucket, 49 NoLifetime where its lifetime is absent or 0
 unfoldable pub checked_pool : List OnePool → List Pair → ℕ → Option Unit → ℕ → Result OnePool ℕ
 checked_pool earlier pairs count None lifetime = Err UNIT_MISSING
 checked_pool earlier pairs count (Some unit) lifetime = if nat_eq (length pairs) 0 then Err NO_BUCKET_ID

@@ -1,5 +1,6 @@
 -- What comes of each line of an events file: the line that is written for it, and the server after it.
-use Rattle.std.specs.Prelude.{ℕ, ◌+◌, ◌&&◌, not, nat_lt, List, [], ◌∷◌, Bool, true, false, if◌then◌else◌, Option, None, Some, Result, Ok, Err, codes}
+use Rattle.std.specs.Prelude.{ℕ, ◌+◌, ◌&&◌, not, nat_lt, List, [], ◌∷◌, Bool, true, false, if◌then◌else◌, Option, None, Some}
+use Rattle.std.specs.Prelude.{Result, Ok, Err, codes}
 use Rattle.rate_types.specs.Counters.{same_text}
 use Rattle.rate_types.specs.Places.{child}
 use Rattle.rate_types.specs.declared.refused.Refused.{Refused}
@@ -81,7 +82,8 @@ outcome_of n bytes s = outcome_read n (reading_of (report_line bytes)) s
 -- what is written for these lines, after so many others
 abbrev pub outputs : ℕ → QuotaServer → List (List ℕ) → List (List ℕ)
 outputs before s [] = []
-outputs before s (bytes ∷ more) = (outcome_of (before + 1) bytes s).written ∷ outputs (before + 1) (outcome_of (before + 1) bytes s).server more
+outputs before s (bytes ∷ more) = (outcome_of (before + 1) bytes s).written ∷ outputs (before + 1) (outcome_of (before + 1) bytes s).server
+    more
 
 -- the server after these lines
 abbrev pub after_lines : ℕ → QuotaServer → List (List ℕ) → QuotaServer

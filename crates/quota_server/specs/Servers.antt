@@ -30,7 +30,8 @@ at_moment at s = record s { time = at }
 abbrev pub is_for : List Pair → WrittenShares → Bool
 is_for bucket w = is_pool_of bucket w.pool
 
--- what a client is granted of a pool at a moment, where there is one: its part of the pool's requests in each of its units, for the lifetime
+-- what a client is granted of a pool at a moment, where there is one: its part of the pool's requests in each of its units, for the
+-- lifetime
 abbrev pub grant_of : List ℕ → ℕ → Option WrittenShares → Grant
 grant_of client at None = NoPool
 grant_of client at (Some w) = Share (granted w.pool.count w.shares client at) w.pool.unit w.pool.lifetime

@@ -88,8 +88,8 @@ impl Server {
         Ok(())
     }
 
-    /// Grants a client its share of a bucket's pool at the present time. It changes nothing where the bucket has no pool, nor where it finds
-    /// no memory.
+    /// Grants a client its share of a bucket's pool at the present time. It changes nothing where the bucket has no pool, nor where
+    /// it finds no memory.
     pub fn grant(
         &mut self,
         alloc: Global,

@@ -56,8 +56,10 @@ fn take_report(
     report: &ReportLine,
 ) -> Result<String, OutOfMemory>
     requires fit { AllFit server.old }
-    ensures server { OnOk result (server.new ≡ (outcomes.outcome_by (outcomes.refusal_of report.now server.old) number report.now server.old).server) }
-    ensures written { IfOk result (λ t. string_bytes t ≡ (outcomes.outcome_by (outcomes.refusal_of report.now server.old) number report.now server.old).written) }
+    ensures server { OnOk result
+        (server.new ≡ (outcomes.outcome_by (outcomes.refusal_of report.now server.old) number report.now server.old).server) }
+    ensures written { IfOk result
+        (λ t. string_bytes t ≡ (outcomes.outcome_by (outcomes.refusal_of report.now server.old) number report.now server.old).written) }
     ensures fit { AllFit server.new }
 {
     if is_of_other(server, report.reports()) {

@@ -1,4 +1,5 @@
--- Inside: laws that proofs cite, here and in other crates. Equal names of buckets are the same list, by the order of names and by their equality.
+-- Inside: laws that proofs cite, here and in other crates. Equal names of buckets are the same list, by the order of names and by
+-- their equality.
 use Rattle.std.proofs.Common.{◌≡◌, ℕ, ◌&&◌, Bool, true, false, List, [], ◌∷◌, refl, ap, arith}
 use Rattle.std.specs.declared.cmp.Ordering.{Ordering}
 use Rattle.std.specs.declared.cmp.Ordering.TheVariants.{Less, Equal, Greater}
@@ -62,7 +63,8 @@ pair_decides : (p q : Pair) → Decides (same_pair p q) (p ≡ q)
 pair_decides p q = (
   λ is. (let both = both_true (same_text p.name q.name) (same_text p.value q.value) is in
       same_pair_by p q ((bytes_decides p.name q.name).0 both.0) ((bytes_decides p.value q.value).0 both.1)),
-  λ e. rw ((bytes_decides p.name q.name).1 (ap (λ (x : Pair). x.name) e), (bytes_decides p.value q.value).1 (ap (λ (x : Pair). x.value) e)) refl,
+  λ e. rw ((bytes_decides p.name q.name).1 (ap (λ (x : Pair). x.name) e), (bytes_decides p.value q.value).1 (ap (λ (x : Pair). x.value) e))
+      refl,
 )
 
 pub same_by_eq : (a b : List Pair) → same_pairs a b ≡ true → a ≡ b

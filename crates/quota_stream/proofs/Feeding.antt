@@ -1,5 +1,6 @@
 -- Each line that is written has one line feed, at its end.
-use Rattle.std.proofs.Common.{◌≡◌, ℕ, zero, suc, ◌+◌, ◌<◌, ◌/◌, ◌%◌, ◌==◌, ◌&&◌, ◌||◌, not, Bool, true, false, cond, List, [], ◌∷◌, ◌++◌, map, codes, decimal, Option, Some, None, Result, Ok, Err, refl, sym, ap, subst, ◌∙◌, append_assoc, arith, nat_lt}
+use Rattle.std.proofs.Common.{◌≡◌, ℕ, zero, suc, ◌+◌, ◌<◌, ◌/◌, ◌%◌, ◌==◌, ◌&&◌, ◌||◌, not, Bool, true, false, cond, List, [], ◌∷◌, ◌++◌, map, codes, decimal, Option}
+use Rattle.std.proofs.Common.{Some, None, Result, Ok, Err, refl, sym, ap, subst, ◌∙◌, append_assoc, arith, nat_lt}
 use Rattle.std.specs.Char.{digit_char}
 use Rattle.std.specs.Fmt.{digits, digits_onto, digit_glyph}
 use Rattle.std.specs.List.{flat_map}
@@ -68,7 +69,8 @@ escaped_other : (x : ℕ) → (x == 10) ≡ false → has_no_feed (escape_byte x
 unfolding escape_byte
 escaped_other x is =
     either (nat_lt 0 (escape_letter x)) (92 ∷ escape_letter x ∷ [])
-    (cond (nat_lt x 32) (92 ∷ 117 ∷ 48 ∷ 48 ∷ digit_char (x / 16) ∷ digit_char (x % 16) ∷ []) (x ∷ [])) (one_more 92 (escape_letter x ∷ []) refl (one_more (escape_letter x) [] (letter x is) refl))
+    (cond (nat_lt x 32) (92 ∷ 117 ∷ 48 ∷ 48 ∷ digit_char (x / 16) ∷ digit_char (x % 16) ∷ []) (x ∷ []))
+    (one_more 92 (escape_letter x ∷ []) refl (one_more (escape_letter x) [] (letter x is) refl))
     (either (nat_lt x 32) (92 ∷ 117 ∷ 48 ∷ 48 ∷ digit_char (x / 16) ∷ digit_char (x % 16) ∷ []) (x ∷ [])
     (one_more (digit_char (x / 16)) (digit_char (x % 16) ∷ []) (hex (x / 16)) (one_more (digit_char (x % 16)) [] (hex (x % 16)) refl))
     (one_more x [] is refl))

@@ -1,5 +1,6 @@
 -- The replay of a stream as a task: how far it has come, and what it answers.
-use Rattle.std.specs.Prelude.{◌≡◌, ℕ, ◌+◌, ◌<◌, ◌≤◌, ◌⊎◌, List, [], ◌∷◌, ◌++◌, length, Bool, true, false, Option, None, Some, Result, Ok, Err, ⊤}
+use Rattle.std.specs.Prelude.{◌≡◌, ℕ, ◌+◌, ◌<◌, ◌≤◌, ◌⊎◌, List, [], ◌∷◌, ◌++◌, length, Bool, true, false, Option, None, Some}
+use Rattle.std.specs.Prelude.{Result, Ok, Err, ⊤}
 use Rattle.std.specs.List.{concat}
 use Rattle.rate_types.specs.declared.limits.TheConstants.{MOST_BYTES, MOST_LINES}
 use Rattle.quota_settings.specs.Covering.{AllSettings}

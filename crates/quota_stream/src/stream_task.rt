@@ -1,4 +1,5 @@
-ghost use Rattle.std.specs.Prelude.{◌≡◌, ℕ, List, ◌+◌, ◌≤◌, ◌++◌, map, true, false, length, OnOk, OnErr, IfErr, IfSome, IfNone, None, Some, string_bytes};
+ghost use Rattle.std.specs.Prelude.{◌≡◌, ℕ, List, ◌+◌, ◌≤◌, ◌++◌, map, true, false};
+ghost use Rattle.std.specs.Prelude.{length, OnOk, OnErr, IfErr, IfSome, IfNone, None, Some, string_bytes};
 ghost use Rattle.std.specs.List.{concat};
 
 use crate::line_number::LineNumber;

@@ -1,4 +1,5 @@
-//! Tests of quota buckets, their settings and the lines of recorded streams. They stand in a crate of their own, since a crate with tests is proved twice.
+//! Tests of quota buckets, their settings and the lines of recorded streams. They stand in a crate of their own, since a crate with
+//! tests is proved twice.
 #![tactic(auto)]
 
 #[cfg(test)]

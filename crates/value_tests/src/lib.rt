@@ -1,4 +1,5 @@
-//! Tests of the crates at the bottom: values, lines of text, fields of messages, windows. They stand in a crate of their own, since a crate with tests is proved twice.
+//! Tests of the crates at the bottom: values, lines of text, fields of messages, windows. They stand in a crate of their own, since
+//! a crate with tests is proved twice.
 #![tactic(auto)]
 
 #[cfg(test)]

@@ -84,5 +84,6 @@ returns-clause-fits c =
     let name : c.in_ok-name.name ≡ c.args.client.now = search rules in
     let written : shares_in c.and-self-inside.result.items ≡ shares ++ c.of.result ∷ [] =
     ap shares_in c.and-self-inside.ensures ∙ map-append share_of p.written.items _ ∙ ap (λ y. shares ++ y ∷ []) (sym (rw name at c.of.ensures)) in
-    let all = written_more p.pool.count p.pool.lifetime p.swept shares c.of.result p.live c.begin.new.live c.self.invariant (rw from later) until count c.begin.ensures.live begun in
+    let all = written_more p.pool.count p.pool.lifetime p.swept shares c.of.result p.live c.begin.new.live c.self.invariant (rw from later) until count c.begin.ensures.live begun
+    in
     subst (SharesFitPool p.pool.count) (sym written) all.fits
