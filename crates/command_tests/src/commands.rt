@@ -1,3 +1,4 @@
+mod generated;
 mod limits;
 mod lines;
 mod pool;

@@ -2,7 +2,7 @@
 use Rattle.std.proofs.Common.{◌≡◌, List, [], ◌∷◌, ℕ, Bool, true, false, ◌&&◌, Option, None, refl, sym, subst, true≢false}
 use Rattle.clap.specs.Words.{App, is_simple_and_free, fault_of}
 use Rattle.clap.specs.Kinds.{Kinds}
-use Rattle.ratelimit_cli.specs.Words.{drive_app, lookup_app, quota_app, pool_app, serve_app, if_taken}
+use Rattle.ratelimit_cli.specs.Words.{drive_app, lookup_app, quota_app, pool_app, audit_app, serve_app, gen_app, if_taken}
 
 pub drive_simple : is_simple_and_free drive_app ≡ true
 unfolding drive_app
@@ -19,6 +19,14 @@ quota_simple = refl
 pub pool_simple : is_simple_and_free pool_app ≡ true
 unfolding pool_app
 pool_simple = refl
+
+pub audit_simple : is_simple_and_free audit_app ≡ true
+unfolding audit_app
+audit_simple = refl
+
+pub gen_simple : is_simple_and_free gen_app ≡ true
+unfolding gen_app
+gen_simple = refl
 
 pub serve_simple : is_simple_and_free serve_app ≡ true
 unfolding serve_app

@@ -4,7 +4,7 @@ use Rattle.std.proofs.Common.{zero, suc, length, Option, Some, slice_get, Result
 use Rattle.std.specs.List.{AllByRecursion}
 use Rattle.std.proofs.lemmas.Option.{same_Some, none-some}
 use Rattle.std.proofs.lemmas.List.Folds.{list_any-append}
-use Rattle.rate_types.specs.declared.limits.TheConstants.{MOST_BYTES, MOST_LINES}
+use Rattle.rate_types.specs.declared.limits.TheConstants.{MOST_LINES}
 use Rattle.rate_types.specs.declared.refused.At.{At}
 use Rattle.rate_types.specs.declared.refused.Refused.{Refused}
 use Rattle.rate_io.specs.Events.{Event, wrote, write_failed, FileEvent, given, has_failed, has_write_failed, is_write_failed}
@@ -15,12 +15,13 @@ use Rattle.quota_stream.specs.Tasks.{IsShort}
 use Rattle.quota_stream.specs.Runs.{HasTooLong}
 use Rattle.quota_pools.specs.Pools.{AllPools}
 use Rattle.ratelimit_cli.specs.Words.{command_of}
-use Rattle.ratelimit_cli.specs.Jobs.{files_of, ReadsConfigs}
+use Rattle.ratelimit_cli.specs.Jobs.{AskedFile, files_of, configs_among, ReadsConfigs}
 use Rattle.ratelimit_cli.specs.declared.command.Command.{Command}
-use Rattle.ratelimit_cli.specs.declared.command.Command.TheVariants.{Plain, Quota, Pool, Threads, Help, Version}
+use Rattle.ratelimit_cli.specs.declared.command.Command.TheVariants.{Plain, Quota, Pool, Audit, Threads, Help, Version}
+use Rattle.ratelimit_cli.specs.declared.command.ThreadJob.TheVariants.{Drive, Serve, Gen}
 use Rattle.ratelimit_cli.specs.declared.command.QuotaJob.{QuotaJob}
 use Rattle.ratelimit_cli.specs.declared.command.PoolJob.{PoolJob}
-use Rattle.ratelimit_cli.specs.World.{World, AreFilesOf, StopsAt, IsLong, IsUnread, WroteUpTo}
+use Rattle.ratelimit_cli.specs.World.{World, AreFilesOf, AreWithin, StopsAt, IsLong, IsUnread, WroteUpTo}
 use Rattle.ratelimit_cli.specs.Configured.{FilesSay}
 use Rattle.ratelimit_cli.specs.Exits.{HasNoCause, Explains, ExplainsCall, IsExitOf, AreLawful}
 use Rattle.ratelimit_cli.specs.Served.{Listening, has_listen_failed, ExplainsServe}
@@ -32,27 +33,36 @@ use Rattle.ratelimit_cli.specs.declared.exit.Exit.TheVariants.{Done, Usage, Conf
 use Rattle.ratelimit_cli.specs.declared.exit.Exit.TheVariants.{OutOfMemory, ListenFault, SettingsRefused}
 
 -- the bytes of the files are those that their reads handed out
-same_files : (content : List ℕ → Option (List ℕ)) (names : List (List ℕ)) (calls : List FileEvent) (files : List (List ℕ)) → AreFilesOf content names calls files
+same_files : (content : List ℕ → Option (List ℕ)) (asked : List AskedFile) (calls : List FileEvent) (files : List (List ℕ)) → AreFilesOf content asked calls files
     → files ≡ map (λ call. given call.1) calls
 same_files content [] [] [] h = refl
 same_files content [] [] (b ∷ files) h = absurd h
 same_files content [] (c ∷ calls) files h = absurd h
-same_files content (n ∷ names) [] files h = absurd h
-same_files content (n ∷ names) (c ∷ calls) [] h = absurd h
-same_files content (n ∷ names) (c ∷ calls) (b ∷ files) h = λ i. sym h.1.0 i ∷ same_files content names calls files h.2 i
+same_files content (a ∷ asked) [] files h = absurd h
+same_files content (a ∷ asked) (c ∷ calls) [] h = absurd h
+same_files content (a ∷ asked) (c ∷ calls) (b ∷ files) h = λ i. sym h.1.0 i ∷ same_files content asked calls files h.2 i
 
--- what holds of all holds of the last
-last_of : {X : Type 0} (P : X → Type 0) (xs : List X) (x : X) → AllByRecursion P (xs ++ x ∷ []) → P x
-last_of P [] x h = h.0
-last_of P (y ∷ xs) x h = last_of P xs x h.1
+abbrev Fits : AskedFile → FileEvent → Type 0
+Fits file call = (has_failed call.1 ≡ false) × (length (given call.1) ≤ file.most)
 
-abbrev Fits : FileEvent → Type 0
-Fits call = (has_failed call.1 ≡ false) × (length (given call.1) ≤ MOST_BYTES)
+-- the last call for a file, behind those before it
+last_fits : (content : List ℕ → Option (List ℕ)) (asked : List AskedFile) (earlier : List FileEvent) (files : List (List ℕ)) (index : ℕ)
+    (file : AskedFile) (call : FileEvent) → AreFilesOf content (take index asked) earlier files → slice_get asked index ≡ Some file
+    → AreWithin asked (earlier ++ call ∷ []) → Fits file call
+last_fits content [] earlier files index file call read named all = absurd (none-some file named)
+last_fits content (a ∷ asked) [] files zero file call read named all =
+    subst (λ (f : AskedFile). Fits f call) (same_Some a file named) (all.0, all.1)
+last_fits content (a ∷ asked) (c ∷ earlier) files zero file call read named all = absurd read
+last_fits content (a ∷ asked) [] files (suc index) file call read named all = absurd read
+last_fits content (a ∷ asked) (c ∷ earlier) [] (suc index) file call read named all = absurd read
+last_fits content (a ∷ asked) (c ∷ earlier) (b ∷ files) (suc index) file call read named all =
+    last_fits content asked earlier files index file call read.2 named all.2
 
--- the last call for a file
-stopped : (content : List ℕ → Option (List ℕ)) (names : List (List ℕ)) (calls : List FileEvent) (index : ℕ) (P : List ℕ → List Event → Type 0) → AllByRecursion Fits calls
-    → (s : StopsAt content names calls index P) → Fits (s.name, s.reads)
-stopped content names calls index P all s = last_of Fits s.earlier (s.name, s.reads) (subst (λ (cs : List FileEvent). AllByRecursion Fits cs) s.last all)
+stopped : (content : List ℕ → Option (List ℕ)) (asked : List AskedFile) (calls : List FileEvent) (index : ℕ) (P : AskedFile → List Event → Type 0)
+    → AreWithin asked calls → (s : StopsAt content asked calls index P) → Fits s.file (s.file.name, s.reads)
+stopped content asked calls index P all s =
+    last_fits content asked s.earlier s.files index s.file (s.file.name, s.reads) s.read s.named
+    (subst (λ (cs : List FileEvent). AreWithin asked cs) s.last all)
 
 or_true : (b : Bool) → (b || true) ≡ true
 or_true true = refl
@@ -64,9 +74,13 @@ write_fails pieces writes h =
     ∙ or_true (has_write_failed (map wrote (take h.count pieces)))
 
 -- files that are no configuration's are those of another command
-lawful_at : (command : Command) (files : List (List ℕ)) → ReadsConfigs command → AreLawful command files → (at : At) → reading_of files ≡ Err at → ⊥
+lawful_at : (command : Command) (files : List (List ℕ)) → ReadsConfigs command → AreLawful command files → (at : At)
+    → reading_of (configs_among command files) ≡ Err at → ⊥
 lawful_at (Plain configs) files kind lawful at is = lawful at is
-lawful_at (Threads run) files kind lawful at is = lawful at is
+lawful_at (Audit job) files kind lawful at is = lawful at is
+lawful_at (Threads (Drive configs workers cells start global_shadow)) files kind lawful at is = lawful at is
+lawful_at (Threads (Serve serving)) files kind lawful at is = lawful at is
+lawful_at (Threads (Gen number checks)) files kind lawful at is = absurd kind
 lawful_at (Quota job) files kind lawful at is = absurd kind
 lawful_at (Pool job) files kind lawful at is = absurd kind
 lawful_at Help files kind lawful at is = absurd kind
@@ -104,23 +118,30 @@ module _ (w : World) (no : HasNoCause w) where
   not_refused : (at : At) (command : Command) → FilesSay w command (Err at) → ⊥
   not_refused at command say =
       lawful_at command (map (λ call. given call.1) w.files) say.kind (same_command command say.named) at
-      (subst (λ (files : List (List ℕ)). reading_of files ≡ Err at)
+      (subst (λ (files : List (List ℕ)). reading_of (configs_among command files) ≡ Err at)
       (same_files w.content (files_of command) w.files say.files say.contents) say.spells)
 
-  not_long : (names : List (List ℕ)) (index : ℕ) → StopsAt w.content names w.files index (IsLong w.content) → ⊥
-  not_long names index s =
-      let fits = stopped w.content names w.files index (IsLong w.content) no.files s in
+  within : (command : Command) → command_of w.words ≡ Some command → AreWithin (files_of command) w.files
+  within command is =
+      subst (λ (c : Command). AreWithin (files_of c) w.files) (same_Some no.command command (sym no.named ∙ is)) no.files
+
+  not_long : (command : Command) → command_of w.words ≡ Some command → (index : ℕ)
+      → StopsAt w.content (files_of command) w.files index (IsLong w.content) → ⊥
+  not_long command is index s =
+      let fits = stopped w.content (files_of command) w.files index (IsLong w.content) (within command is) s in
       omega (arith, fits.1, s.stops.0)
 
-  not_unread : (names : List (List ℕ)) (index : ℕ) → StopsAt w.content names w.files index IsUnread → ⊥
-  not_unread names index s = true≢false (sym s.stops ∙ (stopped w.content names w.files index IsUnread no.files s).0)
+  not_unread : (command : Command) → command_of w.words ≡ Some command → (index : ℕ)
+      → StopsAt w.content (files_of command) w.files index IsUnread → ⊥
+  not_unread command is index s =
+      true≢false (sym s.stops ∙ (stopped w.content (files_of command) w.files index IsUnread (within command is) s).0)
 
   complete_exit : (e : Exit) → Explains e w → (e ≡ Done) ⊎ (e ≡ OutOfMemory)
   complete_exit Done h = inl (λ i. Done)
   complete_exit OutOfMemory h = inr (λ i. OutOfMemory)
   complete_exit Usage h = absurd (none-some no.command (sym h.0 ∙ no.named))
   complete_exit (ConfigRefused at) h = absurd (not_refused at h.0.0 h.0.1)
-  complete_exit TooLong (inl (inl long, unread), none) = absurd (not_long (files_of long.0) long.2.0 long.2.1)
+  complete_exit TooLong (inl (inl long, unread), none) = absurd (not_long long.0 long.1 long.2.0 long.2.1)
   complete_exit TooLong (inl (inr (inr long), unread), none) =
       absurd (few_and_many (length (cut long.1.1.0.events)) (poolable long.0 (Ok (Some long.1.0)) long.1.1.0).1 long.1.1.1)
   complete_exit TooLong (inl (inr (inl long), unread), none) =
@@ -133,7 +154,7 @@ module _ (w : World) (no : HasNoCause w) where
   complete_exit ReadFault h = absurd (true≢false (sym h.1 ∙ no.read))
   complete_exit WriteFault h = absurd (true≢false (sym (write_fails _ w.writes h.0.each) ∙ no.written))
   complete_exit ListenFault h = absurd h
-  complete_exit (FileFault index) h = absurd (not_unread (files_of h.0.0) index h.0.2)
+  complete_exit (FileFault index) h = absurd (not_unread h.0.0 h.0.1 index h.0.2)
 
   port_fails : (port : List ℕ) → WroteUpTo (port ∷ []) w.writes → ⊥
   port_fails port h = true≢false (sym (write_fails (port ∷ []) w.writes h) ∙ no.written)

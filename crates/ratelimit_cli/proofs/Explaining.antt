@@ -1,12 +1,13 @@
 -- From what the parts of the top call answer to what its exit says.
-use Rattle.std.proofs.Common.{◌≡◌, ℕ, List, ◌∷◌, Some, Result, Ok, inl, inr, refl, subst, sym, ◌∙◌}
+use Rattle.std.proofs.Common.{◌≡◌, ℕ, List, ◌∷◌, map, Some, Result, Ok, inl, inr, refl, subst, sym, ◌∙◌}
+use Rattle.rate_types.specs.declared.limits.TheConstants.{MOST_BYTES}
 use Rattle.rate_types.specs.declared.refused.At.{At}
 use Rattle.descriptor_tree.specs.Trees.{DomainTree}
 use Rattle.rate_io.specs.Events.{given}
 use Rattle.quota_settings.specs.Covering.{AllSettings}
 use Rattle.ratelimit_cli.specs.Quota.{settings_of}
 use Rattle.ratelimit_cli.specs.Words.{command_of}
-use Rattle.ratelimit_cli.specs.Jobs.{files_of, ReadsConfigs, command_with}
+use Rattle.ratelimit_cli.specs.Jobs.{asked, files_of, configs_among, ReadsConfigs, command_with}
 use Rattle.ratelimit_cli.specs.World.{World, AreFilesOf, NothingRead, NothingWritten}
 use Rattle.ratelimit_cli.specs.Configured.{FilesSay, HasRead}
 use Rattle.ratelimit_cli.specs.Replayed.{QuotaSays}
@@ -22,9 +23,14 @@ use Rattle.ratelimit_cli.specs.declared.exit.Exit.TheVariants.{Done, Usage, Conf
 use Rattle.ratelimit_cli.specs.declared.exit.Exit.TheVariants.{OutOfMemory, ListenFault, SettingsRefused}
 
 -- a command by its work reads these files
-pub configs_same : (configs : List (List ℕ)) (work : Work) → configs ≡ files_of (command_with configs work)
+pub configs_same : (configs : List (List ℕ)) (work : Work) → map (asked MOST_BYTES) configs ≡ files_of (command_with configs work)
 configs_same configs Lookup = refl
 configs_same configs (Drive setup) = refl
+
+-- and no others
+pub configs_all : (configs : List (List ℕ)) (work : Work) (files : List (List ℕ)) → configs_among (command_with configs work) files ≡ files
+configs_all configs Lookup files = refl
+configs_all configs (Drive setup) files = refl
 
 -- such a command reads configuration files
 pub reads_configs : (configs : List (List ℕ)) (work : Work) → ReadsConfigs (command_with configs work)

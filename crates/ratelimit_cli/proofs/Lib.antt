@@ -2,6 +2,7 @@ pub mod Pieces
 pub mod Told
 pub mod Explaining
 pub mod Pooling
+pub mod Audits
 mod Completing
 pub mod Histories
 pub mod Apps
@@ -10,4 +11,3 @@ pub mod Founds
 pub mod Lines
 pub mod Serving
 pub mod Lining
-pub mod Ranges

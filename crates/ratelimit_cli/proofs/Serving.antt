@@ -1,5 +1,6 @@
 -- From what the parts of `serve` answer to what its exit says.
-use Rattle.std.proofs.Common.{◌≡◌, ℕ, zero, suc, ◌+◌, ◌≤◌, ◌<◌, ◌||◌, List, [], ◌∷◌, ◌++◌, length, map, take, replicate, Bool, true, false, Option, Some, inl, inr, refl, sym, ap, ◌∙◌, subst, arith, append_assoc}
+use Rattle.std.proofs.Common.{◌≡◌, ℕ, zero, suc, ◌+◌, ◌≤◌, ◌<◌, ◌||◌, List, [], ◌∷◌, ◌++◌, length, map, take, replicate, Bool, true, false, Option, Some, inl, inr}
+use Rattle.std.proofs.Common.{refl, sym, ap, ◌∙◌, subst, arith, append_assoc}
 use Rattle.std.specs.Prelude.{slice_get, cond}
 use Rattle.std.specs.List.{concat, filter_map, count_by, list_any}
 use Rattle.std.proofs.lemmas.List.{append-nil, map-append}
@@ -64,14 +65,32 @@ served_from config setup bounds old new services is_all h = record {
   grew = h.served.handled;
   served = record {
     limiter = h.limiter;
+    passes = h.passes;
+    claims = h.claims;
     shadow = h.shadow;
     before = h.before;
     as_many = h.as_many;
     fresh = h.fresh;
     after = h.after;
     served = record { numbered = h.served.numbered; asked = h.served.asked; served = h.served.served; handled = refl };
+    lawful = h.lawful;
   };
 }
+
+-- serving ended as the output of the links' ends did, where all links were served
+pub ended_so : (config : List DomainTree) (job : ServeJob) (bounds : Option (ℕ × ℕ)) (faults : ℕ × ℕ) (s : Sinks) (more : List ListenEvent) (writes : List Event)
+    (services : List Service) (exit : Exit) → length services ≡ job.connections → ServedByLimiter config job.setup bounds [] more services true
+    → IsOfOutput (λ pieces. pieces ≡ end_lines 0 (ends_of services)) s exit writes → EndsServing config job bounds faults s more writes exit
+ended_so config job bounds faults s more writes services Done many served h = (services, many, served, h)
+ended_so config job bounds faults s more writes services WriteFault many served h = (services, many, served, h.0, h.1)
+ended_so config job bounds faults s more writes services OutOfMemory many served h = h
+ended_so config job bounds faults s more writes services ListenFault many served h = absurd h
+ended_so config job bounds faults s more writes services Usage many served h = h
+ended_so config job bounds faults s more writes services (ConfigRefused at) many served h = h
+ended_so config job bounds faults s more writes services TooLong many served h = h
+ended_so config job bounds faults s more writes services ReadFault many served h = h
+ended_so config job bounds faults s more writes services (FileFault index) many served h = h
+ended_so config job bounds faults s more writes services (SettingsRefused refused) many served h = h
 
 or_right : (b : Bool) → (b || true) ≡ true
 or_right true = refl

@@ -1,7 +1,8 @@
 -- Facts about told contents, and the bytes of several files.
-use Rattle.std.proofs.Common.{ℕ, List, [], ◌∷◌, ◌++◌, Option, Some, None, refl}
+use Rattle.std.proofs.Common.{◌≡◌, ℕ, suc, List, [], ◌∷◌, ◌++◌, length, Option, Some, None, refl, ap}
 use Rattle.rate_io.specs.Content.{Told}
 use Rattle.rate_io.specs.Events.{Event, FileEvent}
+use Rattle.ratelimit_cli.specs.Jobs.{AskedFile}
 use Rattle.ratelimit_cli.specs.World.{AreFilesOf, IsFileOf}
 
 pub told_map : (o : Option (List ℕ)) (P Q : List ℕ → Type 0) → ((bytes : List ℕ) → P bytes → Q bytes) → Told o P → Told o Q
@@ -9,12 +10,24 @@ told_map None P Q f h = tt
 told_map (Some bytes) P Q f h = f bytes h
 
 -- one more file was read
-pub files_push : (content : List ℕ → Option (List ℕ)) (names : List (List ℕ)) (calls : List FileEvent) (files : List (List ℕ)) (name bytes : List ℕ) (reads : List Event)
-    → AreFilesOf content names calls files → IsFileOf (content name) reads bytes
-    → AreFilesOf content (names ++ name ∷ []) (calls ++ (name, reads) ∷ []) (files ++ bytes ∷ [])
-files_push content [] [] [] name bytes reads h is = (refl, is, tt)
-files_push content [] [] (b ∷ files) name bytes reads h is = absurd h
-files_push content [] (c ∷ calls) files name bytes reads h is = absurd h
-files_push content (n ∷ names) [] files name bytes reads h is = absurd h
-files_push content (n ∷ names) (c ∷ calls) [] name bytes reads h is = absurd h
-files_push content (n ∷ names) (c ∷ calls) (b ∷ files) name bytes reads h is = (h.0, h.1, files_push content names calls files name bytes reads h.2 is)
+pub files_push : (content : List ℕ → Option (List ℕ)) (asked : List AskedFile) (calls : List FileEvent) (files : List (List ℕ))
+    (file : AskedFile) (bytes : List ℕ) (reads : List Event)
+    → AreFilesOf content asked calls files → IsFileOf file.most (content file.name) reads bytes
+    → AreFilesOf content (asked ++ file ∷ []) (calls ++ (file.name, reads) ∷ []) (files ++ bytes ∷ [])
+files_push content [] [] [] file bytes reads h is = (refl, is, tt)
+files_push content [] [] (b ∷ files) file bytes reads h is = absurd h
+files_push content [] (c ∷ calls) files file bytes reads h is = absurd h
+files_push content (a ∷ asked) [] files file bytes reads h is = absurd h
+files_push content (a ∷ asked) (c ∷ calls) [] file bytes reads h is = absurd h
+files_push content (a ∷ asked) (c ∷ calls) (b ∷ files) file bytes reads h is =
+    (h.0, h.1, files_push content asked calls files file bytes reads h.2 is)
+
+-- as many files were read as were asked for
+pub files_count : (content : List ℕ → Option (List ℕ)) (asked : List AskedFile) (calls : List FileEvent) (files : List (List ℕ))
+    → AreFilesOf content asked calls files → length files ≡ length asked
+files_count content [] [] [] h = refl
+files_count content [] [] (b ∷ files) h = absurd h
+files_count content [] (c ∷ calls) files h = absurd h
+files_count content (a ∷ asked) [] files h = absurd h
+files_count content (a ∷ asked) (c ∷ calls) [] h = absurd h
+files_count content (a ∷ asked) (c ∷ calls) (b ∷ files) h = ap suc (files_count content asked calls files h.2)

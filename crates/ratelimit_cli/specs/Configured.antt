@@ -1,4 +1,4 @@
--- What the exits of the commands say that read configurations and an input: `drive` and `lookup`.
+-- What the exits of the commands say that read configurations and an input: `drive`, `lookup` and `audit`.
 use Rattle.std.specs.Prelude.{◌≡◌, ℕ, ◌≤◌, List, length, Bool, true, Option, Some, Result, Ok, Err}
 use Rattle.std.specs.Io.KnownBytes.{IsAtEnd}
 use Rattle.rate_types.specs.declared.refused.At.{At}
@@ -15,7 +15,7 @@ use Rattle.script_run.specs.Totals.{AreTotalsOf}
 use Rattle.script_run.specs.Run.{IsRun}
 use Rattle.ratelimit_cli.specs.Output.{lines_of}
 use Rattle.ratelimit_cli.specs.Words.{command_of}
-use Rattle.ratelimit_cli.specs.Jobs.{files_of, ReadsConfigs}
+use Rattle.ratelimit_cli.specs.Jobs.{files_of, ReadsConfigs, configs_among}
 use Rattle.ratelimit_cli.specs.Lookup.{lookup_output}
 use Rattle.ratelimit_cli.specs.declared.command.Command.{Command}
 use Rattle.ratelimit_cli.specs.declared.command.Command.TheVariants.{Plain, Threads}
@@ -28,7 +28,7 @@ pub record FilesSay (w : World) (command : Command) (reading : Result (List Doma
   pub kind : ReadsConfigs command
   pub files : List (List ℕ)
   pub contents : AreFilesOf w.content (files_of command) w.files files
-  pub spells : reading_of files ≡ reading
+  pub spells : reading_of (configs_among command files) ≡ reading
 
 -- the files of a command are refused
 abbrev pub AreRefused : World → At → Type 0

@@ -1,27 +1,29 @@
 -- What each exit of the program says.
 use Rattle.std.specs.Prelude.{◌≡◌, ℕ, ◌≤◌, ◌⊎◌, List, [], ◌∷◌, length, map, true, false, None, Some, Err}
-use Rattle.std.specs.List.{concat, AllByRecursion}
+use Rattle.std.specs.List.{concat}
 use Rattle.rate_types.specs.declared.refused.At.{At}
-use Rattle.rate_types.specs.declared.limits.TheConstants.{MOST_BYTES}
 use Rattle.rate_io.specs.Causes.{Rose}
 use Rattle.rate_io.specs.Content.{Told, Appends}
 use Rattle.rate_io.specs.Events.{wrote, given, has_failed, has_write_failed}
 use Rattle.config_json.specs.Reading.{reading_of}
 use Rattle.ratelimit_cli.specs.Output.{AppendsFront}
 use Rattle.ratelimit_cli.specs.Words.{command_of}
+use Rattle.ratelimit_cli.specs.Jobs.{files_of, configs_among}
 use Rattle.ratelimit_cli.specs.declared.command.Command.{Command}
-use Rattle.ratelimit_cli.specs.declared.command.Command.TheVariants.{Quota, Pool, Threads, Help, Version}
-use Rattle.ratelimit_cli.specs.declared.command.ThreadJob.TheVariants.{Serve}
+use Rattle.ratelimit_cli.specs.declared.command.Command.TheVariants.{Quota, Pool, Audit, Threads, Help, Version}
+use Rattle.ratelimit_cli.specs.declared.command.ThreadJob.TheVariants.{Serve, Gen}
 use Rattle.ratelimit_cli.specs.declared.command.ServeJob.{ServeJob}
 use Rattle.ratelimit_cli.specs.declared.help.TheConstants.{HELP, VERSION}
 use Rattle.ratelimit_cli.specs.declared.exit.Exit.{Exit}
 use Rattle.ratelimit_cli.specs.declared.exit.Exit.TheVariants.{Done, Usage, ConfigRefused, TooLong, ReadFault, WriteFault, FileFault}
 use Rattle.ratelimit_cli.specs.declared.exit.Exit.TheVariants.{OutOfMemory, ListenFault, SettingsRefused}
-use Rattle.ratelimit_cli.specs.World.{World, IsTooLong, HasLongFile, FileFails}
+use Rattle.ratelimit_cli.specs.World.{World, IsTooLong, HasLongFile, FileFails, AreWithin}
 use Rattle.ratelimit_cli.specs.World.{NoFileAsked, NothingRead, NothingWritten, IsCommand, WroteUpTo}
 use Rattle.ratelimit_cli.specs.Configured.{AreRefused, IsConfigured, IsMade}
 use Rattle.ratelimit_cli.specs.Served.{Listening, NothingListened, has_listen_failed, ExplainsServe}
 use Rattle.ratelimit_cli.specs.Replayed.{IsSettingsRefused, HasLongStream, IsReplayed, AreReplayable}
+use Rattle.ratelimit_cli.specs.Generated.{load_text}
+use Rattle.ratelimit_cli.specs.Audited.{IsAudited}
 use Rattle.ratelimit_cli.specs.Pooled.{ArePoolsRefused, HasLongEvents, IsPooled, ArePoolable}
 
 -- a text that a command has, whatever files and input hold
@@ -31,13 +33,15 @@ pub record IsFixed (w : World) (command : Command) (text : List ℕ) (pieces : L
   pub unread : NothingRead w
   pub text_alone : pieces ≡ text ∷ []
 
--- The output of a command, piece by piece: the help, the version, what comes of streams or of events, or what is made of the
--- configuration and the input.
+-- The output of a command, piece by piece: the help, the version, the summary of a made-up load, what comes of streams or of events, the
+-- verdict on a printed run, or what is made of the configuration and the input.
 abbrev pub IsOutput : World → Command → List (List ℕ) → Type 0
 IsOutput w Help pieces = IsFixed w Help HELP.now pieces
 IsOutput w Version pieces = IsFixed w Version VERSION.now pieces
 IsOutput w (Quota job) pieces = IsReplayed w job pieces
 IsOutput w (Pool job) pieces = IsPooled w job pieces
+IsOutput w (Audit job) pieces = IsAudited w job pieces
+IsOutput w (Threads (Gen number checks)) pieces = IsFixed w (Threads (Gen number checks)) (load_text number checks) pieces
 IsOutput w command pieces = IsMade w command pieces
 
 -- The output of a command was written, each piece by one call, and nothing else.
@@ -60,14 +64,14 @@ pub record WritesFront (w : World) : Type 0 where
 abbrev pub AreLawful : Command → List (List ℕ) → Type 0
 AreLawful (Quota job) files = AreReplayable files
 AreLawful (Pool job) files = ArePoolable files
-AreLawful command files = (at : At) → reading_of files ≡ Err at → ⊥
+AreLawful command files = (at : At) → reading_of (configs_among command files) ≡ Err at → ⊥
 
 -- The words are a command; no read and no write failed; files and input are within the limits; and the bytes that came of the
 -- files have no refusal.
 pub record HasNoCause (w : World) : Type 0 where
   pub command : Command
   pub named : command_of w.words ≡ Some command
-  pub files : AllByRecursion (λ call. (has_failed call.1 ≡ false) × (length (given call.1) ≤ MOST_BYTES)) w.files
+  pub files : AreWithin (files_of command) w.files
   pub lawful : AreLawful command (map (λ call. given call.1) w.files)
   pub read : has_failed w.reads ≡ false
   pub fits : IsTooLong (given w.reads) → ⊥
@@ -81,7 +85,8 @@ Explains Done w = Writes w
 Explains Usage w = (command_of w.words ≡ None) × NoFileAsked w × NothingRead w × NothingWritten w
 Explains (ConfigRefused at) w = AreRefused w at × NothingRead w × NothingWritten w
 Explains TooLong w =
-    (((HasLongFile w ⊎ HasLongStream w ⊎ HasLongEvents w) × NothingRead w) ⊎ (IsConfigured w × IsTooLong (given w.reads) × Told w.left IsTooLong))
+    (((HasLongFile w ⊎ HasLongStream w ⊎ HasLongEvents w) × NothingRead w)
+    ⊎ (IsConfigured w × IsTooLong (given w.reads) × Told w.left IsTooLong))
     × NothingWritten w
 Explains ReadFault w = IsConfigured w × (has_failed w.reads ≡ true) × Rose w.source_faults.0 w.source_faults.1 × NothingWritten w
 Explains WriteFault w = WritesFront w × Rose w.sink_faults.0 w.sink_faults.1

@@ -7,6 +7,8 @@ pub mod World
 pub mod Configured
 pub mod Replayed
 pub mod Pooled
+pub mod Audited
+pub mod Generated
 pub mod Served
 pub mod Exits
 pub mod Parts

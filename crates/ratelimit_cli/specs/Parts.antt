@@ -1,5 +1,5 @@
 -- Inside: what the parts of the top call answer: reading the files, the configuration and the input, and writing the output.
-use Rattle.std.specs.Prelude.{◌≡◌, ℕ, ◌<◌, ◌≤◌, List, [], length, map, true, Option, Some, Result, Ok, Err, All, ⊤}
+use Rattle.std.specs.Prelude.{◌≡◌, ℕ, ◌<◌, ◌≤◌, List, [], ◌∷◌, length, map, true, Option, Some, Result, Ok, Err, All, ⊤}
 use Rattle.std.specs.List.{concat}
 use Rattle.rate_types.specs.declared.refused.At.{At}
 use Rattle.rate_types.specs.declared.refused.Refused.{Refused}
@@ -9,16 +9,22 @@ use Rattle.rate_io.specs.Content.{Told, Appends}
 use Rattle.rate_io.specs.Events.{Event, wrote, FileEvent, given, has_failed}
 use Rattle.text_lines.specs.Lines.{cut}
 use Rattle.descriptor_tree.specs.Trees.{DomainTree}
+use Rattle.drive_run.specs.Script.{script_of}
+use Rattle.run_audit.specs.declared.setup.Setup.{Setup}
+use Rattle.run_audit.specs.declared.verdict.Verdict.{Verdict}
+use Rattle.run_audit.specs.Verdict.{IsVerdict}
 use Rattle.quota_settings.specs.Covering.{AllSettings}
 use Rattle.quota_stream.specs.Tasks.{IsShort}
 use Rattle.quota_stream.specs.Runs.{HasTooLong}
 use Rattle.quota_pools.specs.Pools.{AllPools}
 use Rattle.quota_server.specs.Outcomes.{pool_output, server_after}
 use Rattle.quota_server.specs.Servers.{AllFit}
-use Rattle.ratelimit_cli.specs.Output.{AppendsFront}
+use Rattle.ratelimit_cli.specs.Output.{AppendsFront, with_line_feed}
+use Rattle.ratelimit_cli.specs.Audited.{verdict_text}
 use Rattle.ratelimit_cli.specs.Lookup.{lookup_output}
 use Rattle.ratelimit_cli.specs.Quota.{settings_of, streams_output}
 use Rattle.ratelimit_cli.specs.Pooled.{pools_of}
+use Rattle.ratelimit_cli.specs.Jobs.{AskedFile}
 use Rattle.ratelimit_cli.specs.World.{StopsAt, IsLong, IsUnread, IsTooLong, WroteUpTo}
 use Rattle.ratelimit_cli.specs.Configured.{IsRunText}
 use Rattle.ratelimit_cli.specs.declared.work.Work.{Work}
@@ -27,12 +33,12 @@ use Rattle.ratelimit_cli.specs.declared.exit.Exit.{Exit}
 use Rattle.ratelimit_cli.specs.declared.exit.Exit.TheVariants.{Done, ConfigRefused, TooLong, ReadFault, WriteFault, FileFault}
 use Rattle.ratelimit_cli.specs.declared.exit.Exit.TheVariants.{OutOfMemory, SettingsRefused}
 
--- why the files of these names weren't read, after these calls for them
-abbrev pub IsOfFiles : (List ℕ → Option (List ℕ)) → List (List ℕ) → ℕ × ℕ → Exit → List FileEvent → Type 0
-IsOfFiles content names faults TooLong calls = (index : ℕ) × StopsAt content names calls index (IsLong content)
-IsOfFiles content names faults (FileFault index) calls = StopsAt content names calls index IsUnread × Rose faults.0 faults.1
-IsOfFiles content names faults OutOfMemory calls = ⊤
-IsOfFiles content names faults other calls = ⊥
+-- why these files weren't read, after these calls for them
+abbrev pub IsOfFiles : (List ℕ → Option (List ℕ)) → List AskedFile → ℕ × ℕ → Exit → List FileEvent → Type 0
+IsOfFiles content asked faults TooLong calls = (index : ℕ) × StopsAt content asked calls index (IsLong content)
+IsOfFiles content asked faults (FileFault index) calls = StopsAt content asked calls index IsUnread × Rose faults.0 faults.1
+IsOfFiles content asked faults OutOfMemory calls = ⊤
+IsOfFiles content asked faults other calls = ⊥
 
 -- why the files are no configuration
 abbrev pub IsOfConfig : Result (List DomainTree) At → Exit → Type 0
@@ -57,6 +63,12 @@ pub record Sinks : Type 0 where
 abbrev pub IsOfWork : Work → List DomainTree → List ℕ → List (List ℕ) → Type 0
 IsOfWork Lookup config bytes pieces = pieces ≡ lookup_output config bytes
 IsOfWork (Drive setup) config bytes pieces = IsRunText config setup.workers setup.cells setup.start setup.global_shadow bytes pieces
+
+-- these pieces are the line of the verdict on a run of these bytes, as a script, by this configuration
+pub record IsOfVerdict (config : List DomainTree) (setup : Setup) (bytes run : List ℕ) (pieces : List (List ℕ)) : Type 0 where
+  pub verdict : Verdict
+  pub judged : IsVerdict config setup (script_of bytes) run verdict
+  pub line : pieces ≡ with_line_feed (verdict_text verdict) ∷ []
 
 -- pieces of which this holds were written
 pub record Wrote (Is : List (List ℕ) → Type 0) (s : Sinks) (writes : List Event) : Type 0 where

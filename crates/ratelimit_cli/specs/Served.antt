@@ -58,9 +58,10 @@ pub record HasBegun (w : World) (job : ServeJob) (config : List DomainTree) : Ty
   pub say : FilesSay w (Threads (Serve job)) (Ok config)
   pub unread : NothingRead w
 
--- The port was asked for, and this one was had. Then these links were accepted, all that were to be or those before an accept that failed; each
--- was served once by a limiter of the configuration, shut, and given back under its number.
-pub record HasListened (l : Listening) (job : ServeJob) (config : List DomainTree) (port : ℕ) (services : List Service) (is_all : Bool) : Type 0 where
+-- The port was asked for, and this one was had. Then these links were accepted, all that were to be or those before an accept that
+-- failed; each was served once by a limiter of the configuration, shut, and given back under its number.
+pub record HasListened (l : Listening) (job : ServeJob) (config : List DomainTree) (port : ℕ) (services : List Service) (is_all : Bool)
+    : Type 0 where
   pub more : List ListenEvent
   pub events : l.listens ≡ bound job.port port ∷ more
   pub served : ServedByLimiter config job.setup l.bounds [] more services is_all
@@ -118,7 +119,8 @@ pub record ServesFirst (w : World) (l : Listening) (job : ServeJob) : Type 0 whe
   pub listened : HasListened l job config port services false
   pub written : PortWritten w port
 
--- When the exits of `serve` come that it has once its files are read. Want of memory is free; then the port's line alone was written, or nothing.
+-- When the exits of `serve` come that it has once its files are read. Want of memory is free; then the port's line alone was
+-- written, or nothing.
 abbrev pub ExplainsServe : Exit → World → Listening → ServeJob → Type 0
 ExplainsServe Done w l job = ServesAll w l job
 ExplainsServe WriteFault w l job = (ServesFront w l job ⊎ PortUnwritten w l job) × Rose w.sink_faults.0 w.sink_faults.1

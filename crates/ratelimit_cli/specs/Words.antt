@@ -1,19 +1,20 @@
 -- The words of the program: which of them are a command.
-use Rattle.std.specs.Prelude.{ℕ, ◌&&◌, ◌||◌, List, [], ◌∷◌, length, Bool, true, false, nat_lt, Option, None, Some}
+use Rattle.std.specs.Prelude.{ℕ, ◌≤◌, ◌&&◌, ◌||◌, List, [], ◌∷◌, length, Bool, true, false, nat_lt, Option, None, Some}
 use Rattle.std.specs.Prelude.{option_and_then, unwrap_or, if◌then◌else◌, codes, ⊤}
 use Rattle.std.specs.List.{list_all}
 use Rattle.std.specs.Str.{bytes_eq}
 use Rattle.std.specs.Str.Parse.{digits_value, without_leading_plus}
 use Rattle.std.specs.Char.{digit_value}
-use Rattle.rate_types.specs.declared.limits.TheConstants.{DEFAULT_CELLS, DEFAULT_WORKERS, LATEST_MOMENT, MOST_CELLS, MOST_CONNECTIONS, MOST_WORKERS}
+use Rattle.rate_types.specs.declared.limits.TheConstants.{DEFAULT_CELLS, DEFAULT_WORKERS, LATEST_MOMENT}
+use Rattle.rate_types.specs.declared.limits.TheConstants.{MOST_CELLS, MOST_CONNECTIONS, MOST_LINES, MOST_WORKERS}
 use Rattle.clap.specs.Words.{App, Row, Rule, new_app, new_rule, with_rule, first_of, all_of, matches_of, fault_of, rows_of, found_of}
 use Rattle.clap.specs.Kinds.{Kinds}
 use Rattle.clap.specs.declared.parser.matches.ArgMatches.{ArgMatches}
 use Rattle.clap.specs.declared.builder.action.ArgAction.TheVariants.{Append, SetTrue}
 use Rattle.http_limiter.specs.Limited.{IsInRange}
 use Rattle.ratelimit_cli.specs.declared.command.Command.{Command}
-use Rattle.ratelimit_cli.specs.declared.command.Command.TheVariants.{Plain, Quota, Pool, Threads, Help, Version}
-use Rattle.ratelimit_cli.specs.declared.command.ThreadJob.TheVariants.{Drive, Serve}
+use Rattle.ratelimit_cli.specs.declared.command.Command.TheVariants.{Plain, Quota, Pool, Audit, Threads, Help, Version}
+use Rattle.ratelimit_cli.specs.declared.command.ThreadJob.TheVariants.{Drive, Serve, Gen}
 
 -- ---- what each command takes
 
@@ -54,6 +55,20 @@ file_named name = record (new_rule name) { required = true }
 -- `pool --pools F EVENTS`
 unfoldable pub pool_app : App
 pool_app = with_rule (with_rule (new_app (codes "pool")) (required_named (codes "pools"))) (file_named (codes "events"))
+
+-- `audit --run F [--workers N] [--cells N] [--start T] [--global-shadow] CONFIG..`
+unfoldable pub audit_app : App
+audit_app = with_rule (with_rule (with_rule (with_rule (with_rule (with_rule (new_app (codes "audit")) (required_named (codes "run")))
+    (option_named (codes "workers"))) (option_named (codes "cells"))) (option_named (codes "start")))
+    (flag_named (codes "global-shadow"))) (files_named (codes "configs"))
+
+-- a number that has to be there
+abbrev pub number_named : List ℕ → Rule
+number_named name = record (new_rule name) { required = true }
+
+-- `gen NUMBER CHECKS`
+unfoldable pub gen_app : App
+gen_app = with_rule (with_rule (new_app (codes "gen")) (number_named (codes "number"))) (number_named (codes "checks"))
 
 -- `serve --port P --connections N [--workers N] [--cells N] [--global-shadow] CONFIG..`
 unfoldable pub serve_app : App
@@ -147,6 +162,28 @@ pool_job rows = pool_job_of (first_of (codes "pools") rows) (first_of (codes "ev
 abbrev pub pool_of : List (List ℕ) → Option Command
 pool_of words = if_taken (fault_of pool_app words) (pool_job (matches_of pool_app words))
 
+-- the judging of a run by these, where all are there
+abbrev pub audit_job_of : List (List ℕ) → Option (List ℕ) → Option ℕ → Option ℕ → Option ℕ → Bool → Option Command
+audit_job_of configs (Some run) (Some workers) (Some cells) (Some start) global_shadow = Some (Audit (record {
+  configs = configs;
+  run = run;
+  workers = workers;
+  cells = cells;
+  start = start;
+  global_shadow = global_shadow;
+}))
+audit_job_of configs run workers cells start global_shadow = None
+
+-- what `audit` judges: a run whose `--workers` was 1 to 64, `--cells` 1 to 1,048,576, `--start` 0 to 1,000,000,000,000
+abbrev pub audit_job : List Row → Option Command
+audit_job rows = audit_job_of (configs_in rows) (first_of (codes "run") rows) (number_in 1 MOST_WORKERS 1 (first_of (codes "workers") rows))
+    (number_in 1 MOST_CELLS DEFAULT_CELLS (first_of (codes "cells") rows))
+    (number_in 0 LATEST_MOMENT 0 (first_of (codes "start") rows)) (is_given (first_of (codes "global-shadow") rows))
+
+-- the words of `audit`
+abbrev pub audit_of : List (List ℕ) → Option Command
+audit_of words = if_taken (fault_of audit_app words) (audit_job (matches_of audit_app words))
+
 -- the number of an option that has to be there
 abbrev pub required_in : ℕ → Option (List ℕ) → Option ℕ
 required_in most None = None
@@ -173,6 +210,20 @@ serve_job rows = serve_job_of (configs_in rows) (required_in 65535 (first_of (co
 abbrev pub serve_of : List (List ℕ) → Option Command
 serve_of words = if_taken (fault_of serve_app words) (serve_job (matches_of serve_app words))
 
+-- the load of these numbers, where both are there
+abbrev pub gen_job_of : Option ℕ → Option ℕ → Option Command
+gen_job_of (Some number) (Some checks) = Some (Threads (Gen number checks))
+gen_job_of number checks = None
+
+-- the load that `gen` runs: the number is 0 to 18,446,744,073,709,551,615, and there are 0 to 1,048,576 checks
+abbrev pub gen_job : List Row → Option Command
+gen_job rows = gen_job_of (required_in 18446744073709551615 (first_of (codes "number") rows))
+    (required_in MOST_LINES (first_of (codes "checks") rows))
+
+-- the words of `gen`
+abbrev pub gen_of : List (List ℕ) → Option Command
+gen_of words = if_taken (fault_of gen_app words) (gen_job (matches_of gen_app words))
+
 -- a command of one word
 abbrev pub alone : List (List ℕ) → Command → Option Command
 alone (word ∷ []) command = Some command
@@ -184,9 +235,11 @@ command_named name words = if bytes_eq name (codes "drive") then drive_of words
     else (if bytes_eq name (codes "lookup") then lookup_of words
     else (if bytes_eq name (codes "quota") then quota_of words
     else (if bytes_eq name (codes "pool") then pool_of words
+    else (if bytes_eq name (codes "audit") then audit_of words
     else (if bytes_eq name (codes "serve") then serve_of words
+    else (if bytes_eq name (codes "gen") then gen_of words
     else (if bytes_eq name (codes "--help") then alone words Help
-    else (if bytes_eq name (codes "--version") then alone words Version else None))))))
+    else (if bytes_eq name (codes "--version") then alone words Version else None))))))))
 
 -- The command that the words are: the first names it, and it takes the rest.
 abbrev pub command_of : List (List ℕ) → Option Command
@@ -199,5 +252,8 @@ rows_in m = rows_of (found_of m)
 
 -- the numbers of a command are in their ranges
 abbrev pub AreInRange : Command → Type 0
+AreInRange (Threads (Drive configs workers cells start global_shadow)) =
+    (1 ≤ workers) × (workers ≤ MOST_WORKERS) × (1 ≤ cells) × (cells ≤ MOST_CELLS)
 AreInRange (Threads (Serve job)) = IsInRange job.setup job.connections
+AreInRange (Threads (Gen number checks)) = checks ≤ MOST_LINES
 AreInRange other = ⊤

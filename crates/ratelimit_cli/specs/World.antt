@@ -1,12 +1,12 @@
 -- What the top call found and did: words, files, reads and writes.
-use Rattle.std.specs.Prelude.{◌≡◌, ℕ, ◌<◌, ◌≤◌, ◌⊎◌, List, [], ◌∷◌, ◌++◌, length, map, take, true, Option, Some, slice_get, Result, Ok}
-use Rattle.std.specs.Prelude.{Err, ⊤}
+use Rattle.std.specs.Prelude.{◌≡◌, ℕ, ◌<◌, ◌≤◌, ◌⊎◌, List, [], ◌∷◌, ◌++◌, length, map, take, true, false, Option, Some, slice_get}
+use Rattle.std.specs.Prelude.{Result, Ok, Err, ⊤}
 use Rattle.rate_types.specs.declared.limits.TheConstants.{MOST_BYTES, MOST_LINES}
 use Rattle.rate_io.specs.Content.{Told}
 use Rattle.rate_io.specs.Events.{Event, wrote, write_failed, FileEvent, given, has_ended, has_failed}
 use Rattle.text_lines.specs.Lines.{cut}
 use Rattle.ratelimit_cli.specs.Words.{command_of}
-use Rattle.ratelimit_cli.specs.Jobs.{files_of}
+use Rattle.ratelimit_cli.specs.Jobs.{AskedFile, files_of}
 use Rattle.ratelimit_cli.specs.declared.command.Command.{Command}
 use Rattle.ratelimit_cli.specs.declared.exit.Exit.{Exit}
 use Rattle.ratelimit_cli.specs.declared.exit.Exit.TheVariants.{Done}
@@ -28,38 +28,44 @@ pub record World : Type 0 where
   pub written : Option (List ℕ)
   pub after : Option (List ℕ)
 
--- The reads of a file handed out these bytes, at most 67,108,864 of them, and then answered the end. Where its content is told,
--- it is these bytes.
-abbrev pub IsFileOf : Option (List ℕ) → List Event → List ℕ → Type 0
-IsFileOf content reads bytes =
-    (given reads ≡ bytes) × (has_ended reads ≡ true) × (length bytes ≤ MOST_BYTES) × Told content (λ told. bytes ≡ told)
+-- The reads of a file handed out these bytes, at most so many of them, and then answered the end. Where its content is told, it is
+-- these bytes.
+abbrev pub IsFileOf : ℕ → Option (List ℕ) → List Event → List ℕ → Type 0
+IsFileOf most content reads bytes =
+    (given reads ≡ bytes) × (has_ended reads ≡ true) × (length bytes ≤ most) × Told content (λ told. bytes ≡ told)
 
--- these calls asked for the files of these names, in order, and these are their bytes
-abbrev pub AreFilesOf : (List ℕ → Option (List ℕ)) → List (List ℕ) → List FileEvent → List (List ℕ) → Type 0
+-- these calls asked for these files, in order, and these are their bytes
+abbrev pub AreFilesOf : (List ℕ → Option (List ℕ)) → List AskedFile → List FileEvent → List (List ℕ) → Type 0
 AreFilesOf content [] [] [] = ⊤
-AreFilesOf content (name ∷ names) (call ∷ calls) (bytes ∷ files) =
-    (call.0 ≡ name) × IsFileOf (content name) call.1 bytes × AreFilesOf content names calls files
-AreFilesOf content names calls files = ⊥
+AreFilesOf content (file ∷ asked) (call ∷ calls) (bytes ∷ files) =
+    (call.0 ≡ file.name) × IsFileOf file.most (content file.name) call.1 bytes × AreFilesOf content asked calls files
+AreFilesOf content asked calls files = ⊥
 
 -- The files before the one of this index were read, then it was asked for, and this holds of its reads; no other was asked for.
-pub record StopsAt (content : List ℕ → Option (List ℕ)) (names : List (List ℕ)) (calls : List FileEvent) (index : ℕ)
-    (P : List ℕ → List Event → Type 0) : Type 0 where
+pub record StopsAt (content : List ℕ → Option (List ℕ)) (asked : List AskedFile) (calls : List FileEvent) (index : ℕ)
+    (P : AskedFile → List Event → Type 0) : Type 0 where
   pub files : List (List ℕ)
   pub earlier : List FileEvent
-  pub read : AreFilesOf content (take index names) earlier files
-  pub name : List ℕ
-  pub named : slice_get names index ≡ Some name
+  pub read : AreFilesOf content (take index asked) earlier files
+  pub file : AskedFile
+  pub named : slice_get asked index ≡ Some file
   pub reads : List Event
-  pub last : calls ≡ earlier ++ (name, reads) ∷ []
-  pub stops : P name reads
+  pub last : calls ≡ earlier ++ (file.name, reads) ∷ []
+  pub stops : P file reads
 
--- the reads of a file handed out more than 67,108,864 bytes
-abbrev pub IsLong : (List ℕ → Option (List ℕ)) → List ℕ → List Event → Type 0
-IsLong content name reads = (MOST_BYTES < length (given reads)) × Told (content name) (λ bytes. MOST_BYTES < length bytes)
+-- the reads of a file handed out more bytes than it may have
+abbrev pub IsLong : (List ℕ → Option (List ℕ)) → AskedFile → List Event → Type 0
+IsLong content file reads = (file.most < length (given reads)) × Told (content file.name) (λ bytes. file.most < length bytes)
 
 -- a read of a file failed
-abbrev pub IsUnread : List ℕ → List Event → Type 0
-IsUnread name reads = has_failed reads ≡ true
+abbrev pub IsUnread : AskedFile → List Event → Type 0
+IsUnread file reads = has_failed reads ≡ true
+
+-- no read of these files failed, and none of them handed out more bytes than it may have
+abbrev pub AreWithin : List AskedFile → List FileEvent → Type 0
+AreWithin (file ∷ asked) (call ∷ calls) =
+    (has_failed call.1 ≡ false) × (length (given call.1) ≤ file.most) × AreWithin asked calls
+AreWithin asked calls = ⊤
 
 -- the input has more bytes, or more lines, than may be
 abbrev pub IsTooLong : List ℕ → Type 0

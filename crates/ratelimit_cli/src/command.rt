@@ -10,6 +10,8 @@ pub enum Command {
     Quota(QuotaJob),
     /// `pool`.
     Pool(PoolJob),
+    /// `audit`.
+    Audit(AuditJob),
     /// A run.
     Threads(ThreadJob),
     /// `--help`.
@@ -38,6 +40,23 @@ pub struct PoolJob {
     pub events: Word,
 }
 
+/// The judging of a printed run of a script.
+#[derive(Drop)]
+pub struct AuditJob {
+    /// The names of the configuration files by which it was run, in order.
+    pub configs: Names,
+    /// The name of the file of the run.
+    pub run: Word,
+    /// How many workers it had: 1 to 64.
+    pub workers: u32,
+    /// How many cells: 1 to 1,048,576.
+    pub cells: u32,
+    /// The moment of its start.
+    pub start: Seconds,
+    /// Whether overall codes were always OK.
+    pub global_shadow: bool,
+}
+
 /// A run that may take workers.
 #[derive(Drop)]
 pub enum ThreadJob {
@@ -53,6 +72,12 @@ pub enum ThreadJob {
     },
     /// `serve`.
     Serve(ServeJob),
+    /// `gen`: the made-up load of this number.
+    Gen {
+        number: u64,
+        /// 0 to 1,048,576.
+        checks: u32,
+    },
 }
 
 /// The serving of so many connections by the configuration files of these names.

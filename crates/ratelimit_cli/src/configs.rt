@@ -1,8 +1,10 @@
 // From the names of files to a configuration.
-ghost use Rattle.std.specs.Prelude.{◌≡◌, Ok, IfOk, IfErr};
+ghost use Rattle.std.specs.Prelude.{◌≡◌, ◌≤◌, Ok, IfOk, IfErr, map};
+ghost use Rattle.rate_types.specs.declared.limits.TheConstants.{MOST_BYTES};
 ghost use Rattle.config_json.specs.Reading.{reading_of};
 ghost use Rattle.descriptor_tree.specs.Views.{config_view};
 ghost use Rattle.rate_io.specs.Events.{Grew};
+ghost use Rattle.ratelimit_cli.specs.Jobs.{asked};
 ghost use Rattle.ratelimit_cli.specs.World.{AreFilesOf};
 ghost use Rattle.ratelimit_cli.specs.Parts.{IsOfFiles, IsOfConfig};
 
@@ -17,9 +19,11 @@ use std::alloc::Global;
 /// The bytes of the files of these names, in order. The first that can't be read ends it.
 pub fn read_files<F: Files>(alloc: Global, files: &mut F, names: &[Word]) -> Result<Blobs, Exit>
     ensures contents { IfOk result (λ b. Grew (F.history files.old) (F.history files.new)
-        (λ calls. AreFilesOf (F.content files.old) names.now calls b)) }
+        (λ calls. AreFilesOf (F.content files.old) (map (asked MOST_BYTES) names.now) calls b)) }
     ensures fault { IfErr result (λ exit. Grew (F.history files.old) (F.history files.new)
-        (IsOfFiles (F.content files.old) names.now (F.faults files.old, F.faults files.new) exit)) }
+        (IsOfFiles (F.content files.old) (map (asked MOST_BYTES) names.now) (F.faults files.old, F.faults files.new) exit)) }
+    ensures same { F.content files.new ≡ F.content files.old }
+    ensures later { F.faults files.old ≤ F.faults files.new }
 {
     let mut blobs = Vec::new(alloc);
     'names: for index in 0..names.len() {

@@ -12,7 +12,8 @@ pub enum Exit {
     Usage,
     /// A configuration file is refused: its index, from 0, the place and the number of its first fault.
     ConfigRefused(At),
-    /// A file or the input has more than 67,108,864 bytes, or the input or a stream has more than 1,048,576 lines.
+    /// A file or the input has more than 67,108,864 bytes, a printed run more than 1,073,741,824, or the input or a stream has more than
+    /// 1,048,576 lines.
     TooLong,
     /// The input couldn't be read.
     ReadFault,

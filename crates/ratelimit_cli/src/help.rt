@@ -23,6 +23,14 @@ ratelimit: a rate limiter after Envoy's rate limit service, over recorded traffi
       Reads pools of quota and recorded usage reports of clients, and prints the assignments of a quota server whose clients
       together hold at most each pool.
         --pools F          the file of pools
+  audit --run F [--workers N] [--cells N] [--start T] [--global-shadow] CONFIG..
+      Reads configuration files, a printed run of drive and then its script from standard input, and prints whether the run is
+      lawful, or its first line that is no record or total, or the first clause that it breaks. The options are those of the run.
+        --run F            the file of the run
+        --workers N        workers: 1 to 64 (default 1)
+        --cells N          cells for counters: 1 to 1048576 (default 262144)
+        --start T          the moment of the start, in seconds: 0 to 1000000000000 (default 0)
+        --global-shadow    no reply has the overall code OVER_LIMIT
   serve --port P --connections N [--workers N] [--cells N] [--global-shadow] CONFIG..
       Reads configuration files and answers checks over HTTP at the loopback address: POST /json with a RateLimitRequest, GET
       /healthcheck. Prints its port, and after N connections how each of them ended.
@@ -31,6 +39,9 @@ ratelimit: a rate limiter after Envoy's rate limit service, over recorded traffi
         --workers N        connections served side by side: 1 to 64 (default 4)
         --cells N          cells for counters: 1 to 1048576 (default 262144)
         --global-shadow    no reply has the overall code OVER_LIMIT
+  gen NUMBER CHECKS
+      Runs the made-up load of a number, 0 to 18446744073709551615, by four workers: so many checks, 0 to 1048576, of 64 counters that
+      admit 100 hits each. Prints how many were admitted and how many denied, which is the same for each run.
   --help
       Prints this text.
   --version

@@ -4,17 +4,22 @@
 //! was handed in: with `Done` the writes are the output of the command: the texts of a lawful run of the script that the
 //! reads of the source handed out, by the configuration of the files that were read, and of its totals; or what each
 //! descriptor of the requests finds (`specs/Lookup.antt`); or the output of each recorded stream, in order (`specs/Quota.antt`);
-//! or the help or the version. Every other exit says what was asked
-//! for, read and written before its cause, and that nothing was after it. `specs/Reports.antt` says which status and which
-//! line an exit has.
+//! or the summary of a made-up load (`specs/Generated.antt`); or the verdict on a printed run (`specs/Audited.antt`); or the help or the
+//! version. Every other exit says what was asked for, read and written before its cause, and that nothing was after it.
+//! `specs/Reports.antt` says which status and which line an exit has.
 #![tactic(auto)]
 
+mod audit_words;
+mod auditing;
 mod command;
 mod configs;
 mod exit;
 mod found_json;
+mod gen_words;
+mod generated;
 mod help;
 mod input;
+mod limits;
 mod lookup;
 mod making;
 mod number;
@@ -32,7 +37,8 @@ mod top;
 mod words;
 mod work;
 
-pub use command::{Command, QuotaJob, ServeJob, ThreadJob};
+pub use command::{AuditJob, Command, QuotaJob, ServeJob, ThreadJob};
 pub use exit::Exit;
+pub use limits::MOST_RUN_BYTES;
 pub use top::ratelimit;
 pub use words::{WordsFault, read_words};

@@ -1,33 +1,38 @@
 // From records and totals to a sink.
-ghost use Rattle.std.specs.Prelude.{◌≡◌, ◌++◌, map, IfOk, OnOk, OnErr, string_bytes};
+ghost use Rattle.std.specs.Prelude.{◌≡◌, ◌∷◌, [], ◌++◌, map, IfOk, OnOk, OnErr, string_bytes};
 ghost use Rattle.std.specs.List.{concat};
 ghost use Rattle.rate_io.specs.Causes.{HasCause};
 ghost use Rattle.rate_io.specs.Content.{Appends};
 ghost use Rattle.reply_text.specs.Texts.{record_text_of, total_text_of};
 ghost use Rattle.rate_io.specs.Events.{Grew, wrote};
-ghost use Rattle.ratelimit_cli.specs.World.{WroteUpTo};
+ghost use Rattle.ratelimit_cli.specs.World.{WroteUpTo, exit_of};
+ghost use Rattle.ratelimit_cli.specs.Parts.{IsOfOutput};
 ghost use Rattle.ratelimit_cli.specs.Output.{AppendsFront, lines_of, with_line_feed};
 
+use crate::Exit;
 use rate_io::{Failed, Sink};
 use rate_types::OutOfMemory;
-use reply_text::{Record, record_text, total_text};
+use reply_text::{Record, put_record, put_total};
 use rls_core::Total;
 use std::alloc::Global;
 
-fn record_line(alloc: Global, rec: &Record) -> Result<String, OutOfMemory>
+// The line of a record, made in a text that is kept from line to line.
+fn record_line(alloc: Global, kept: &mut String, rec: &Record) -> Result<String, OutOfMemory>
     ensures { IfOk result (λ t. string_bytes t ≡ with_line_feed (record_text_of rec.now)) }
 {
-    let mut text = record_text(alloc, rec)?;
-    text.push('\n')?;
-    Ok(text)
+    kept.clear();
+    put_record(alloc, kept, rec)?;
+    kept.push('\n')?;
+    Ok(String::from_str(alloc, kept)?)
 }
 
-fn total_line(alloc: Global, total: &Total) -> Result<String, OutOfMemory>
+fn total_line(alloc: Global, kept: &mut String, total: &Total) -> Result<String, OutOfMemory>
     ensures { IfOk result (λ t. string_bytes t ≡ with_line_feed (total_text_of total.now)) }
 {
-    let mut text = total_text(alloc, total)?;
-    text.push('\n')?;
-    Ok(text)
+    kept.clear();
+    put_total(alloc, kept, total)?;
+    kept.push('\n')?;
+    Ok(String::from_str(alloc, kept)?)
 }
 
 /// The lines of records and then of totals, each with its line feed.
@@ -39,11 +44,12 @@ pub fn all_lines(
     ensures { IfOk result (λ v. map (λ t. string_bytes t) v.items ≡ lines_of records.now totals.now) }
 {
     let mut lines = Vec::new(alloc);
+    let mut kept = String::new(alloc);
     'records: for rec in records {
-        lines.push(record_line(alloc, rec)?)?;
+        lines.push(record_line(alloc, &mut kept, rec)?)?;
     }
     'totals: for total in totals {
-        lines.push(total_line(alloc, total)?)?;
+        lines.push(total_line(alloc, &mut kept, total)?)?;
     }
     Ok(lines)
 }
@@ -62,4 +68,22 @@ pub fn write_lines<K: Sink>(sink: &mut K, lines: &[String]) -> Result<(), Failed
         };
     }
     Ok(())
+}
+
+/// Writes a text by one call.
+pub fn write_line<K: Sink>(alloc: Global, text: String, sink: &mut K) -> Result<(), Exit>
+    ensures { Grew (K.history sink.old) (K.history sink.new) (IsOfOutput (λ pieces. pieces ≡ string_bytes text ∷ []) (record {
+      written = K.written sink.old;
+      after = K.written sink.new;
+      faults = (K.faults sink.old, K.faults sink.new);
+    }) (exit_of result)) }
+{
+    let mut lines = Vec::new(alloc);
+    if lines.push(text).is_err() {
+        return Err(Exit::OutOfMemory);
+    }
+    match write_lines(sink, &lines) {
+        Ok(()) => Ok(()),
+        Err(_) => Err(Exit::WriteFault),
+    }
 }

@@ -191,8 +191,8 @@ where
     }
 }
 
-/// Serves the connections of a job by the configuration of its files, all of which are read first: has the port, writes it, accepts the connections and serves
-/// each once, and writes how each ended, line by line, each line by one call.
+/// Serves the connections of a job by the configuration of its files, all of which are read first: has the port, writes it, accepts
+/// the connections and serves each once, and writes how each ended, line by line, each line by one call.
 pub fn run_serve<R: Threads + Wait + Sync, F: Files, K: Sink, L: Listen, C: Clock>(
     rt: &R,
     alloc: Global,

@@ -1,24 +1,24 @@
 ghost use Rattle.std.specs.Prelude.{◌≡◌, ◌≤◌, ◌∷◌, [], List, ℕ, Some, length};
-ghost use Rattle.rate_types.specs.declared.limits.TheConstants.{MOST_LINES};
+ghost use Rattle.rate_types.specs.declared.limits.TheConstants.{MOST_CELLS, MOST_LINES, MOST_WORKERS};
 ghost use Rattle.rate_io.specs.Events.{Continues, Grew, since};
 ghost use Rattle.descriptor_tree.specs.Views.{config_view};
 ghost use Rattle.http_serve.specs.Links.{IsUnused};
 ghost use Rattle.text_lines.specs.Lines.{cut};
 ghost use Rattle.ratelimit_cli.specs.World.{exit_of};
 ghost use Rattle.ratelimit_cli.specs.Exits.{Explains, ExplainsCall, IsExitOf};
-ghost use Rattle.ratelimit_cli.specs.declared.command.Command.TheVariants.{Threads};
-ghost use Rattle.ratelimit_cli.specs.declared.command.ThreadJob.TheVariants.{Drive};
 ghost use Rattle.ratelimit_cli.specs.Jobs.{command_with};
 ghost use Rattle.ratelimit_cli.specs.Words.{command_of};
 ghost use Rattle.ratelimit_cli.specs.Parts.{IsOfOutput, IsOfWork};
 
 use crate::Exit;
+use crate::auditing::audit_files;
 use crate::command::{Command, ThreadJob};
 use crate::configs::{configuration, read_files};
+use crate::generated::run_gen;
 use crate::help::{HELP, VERSION};
 use crate::input::read_input;
 use crate::making::made_lines;
-use crate::output::write_lines;
+use crate::output::{write_line, write_lines};
 use crate::pool::run_pool;
 use crate::quota::run_quota;
 use crate::serve::run_serve;
@@ -71,14 +71,7 @@ fn write_text<K: Sink>(alloc: Global, text: &str, sink: &mut K) -> Result<(), Ex
     let Ok(text) = String::from_str(alloc, text) else {
         return Err(Exit::OutOfMemory);
     };
-    let mut lines = Vec::new(alloc);
-    if lines.push(text).is_err() {
-        return Err(Exit::OutOfMemory);
-    }
-    match write_lines(sink, &lines) {
-        Ok(()) => Ok(()),
-        Err(_) => Err(Exit::WriteFault),
-    }
+    write_line(alloc, text, sink)
 }
 
 // Does this work by the configuration files of these names: the steps in their order, up to the first that fails.
@@ -128,19 +121,15 @@ fn run_work<R: Threads + Wait + Sync, F: Files, S: Source, K: Sink, G: Gate>(
 
 // The setup of the run that the words name.
 fn setup_of(
-    words: &Names,
-    configs: &Names,
     workers: u32,
     cells: u32,
     start: Seconds,
     global_shadow: bool,
     seed: RandomState,
 ) -> Setup
-    requires { command_of words.now ≡ Some (Threads (Drive configs.now workers cells start global_shadow)) }
+    requires { (1 ≤ workers) × (workers ≤ MOST_WORKERS) × (1 ≤ cells) × (cells ≤ MOST_CELLS) }
     ensures { (result.workers ≡ workers) × (result.cells ≡ cells) × (result.start ≡ start) × (result.global_shadow ≡ global_shadow) }
 {
-    let _ = words;
-    let _ = configs;
     Setup {
         workers,
         cells,
@@ -213,7 +202,7 @@ where
                 },
             ),
         ) => {
-            let setup = setup_of(words, &configs, workers, cells, start, global_shadow, seed);
+            let setup = setup_of(workers, cells, start, global_shadow, seed);
             run_work(
                 rt,
                 alloc,
@@ -228,8 +217,12 @@ where
         Ok(Command::Threads(ThreadJob::Serve(job))) => {
             run_serve(rt, alloc, seed, job, files, sink, listen, clock)
         }
+        Ok(Command::Threads(ThreadJob::Gen { number, checks })) => {
+            run_gen(rt, alloc, seed, number, checks, sink, gate)
+        }
         Ok(Command::Quota(job)) => run_quota(rt, alloc, job, files, sink),
         Ok(Command::Pool(job)) => run_pool(alloc, &seed, job, files, sink),
+        Ok(Command::Audit(job)) => audit_files(alloc, &job, files, source, sink),
         Ok(Command::Help) => write_text(alloc, HELP, sink),
         Ok(Command::Version) => write_text(alloc, VERSION, sink),
         Err(WordsFault::Usage) => Err(Exit::Usage),
@@ -241,10 +234,12 @@ where
 /// record per line of the script and then one total per counter whose window is open at its end; `lookup` reads
 /// configuration files and requests, and writes what each of their descriptors finds; `quota` reads a settings file and
 /// recorded streams, and writes what a lawful client would have done; `pool` reads pools and recorded reports, and writes the answers of
-/// a quota server; `serve` reads configuration files, accepts connections and
-/// answers their requests, and writes its port and how each connection ended; `--help` and `--version` write their text.
+/// a quota server; `audit` reads configuration files, a printed run and then its script from the source, and writes the verdict on the
+/// run; `serve` reads configuration files, accepts connections and answers their requests, and writes its port and how each
+/// connection ended; `gen` runs a made-up load and writes its summary; `--help` and `--version` write their text.
 ///
-/// The workers of `drive`, `quota` and `serve` are threads. Those of `drive` tell `gate` of each line. The hashes of names go by `seed`.
+/// The workers of `drive`, `quota`, `serve` and `gen` are threads. Those of `drive` and `gen` tell `gate` of each line. The hashes of names
+/// go by `seed`.
 ///
 /// The order of work is: the words, the files in order, the first refusal of a file, the input, the numbers of lines, the
 /// run or the look-ups, the output. Each exit comes where its cause is the first.

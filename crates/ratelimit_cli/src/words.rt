@@ -1,10 +1,13 @@
 // From the words of the program to its command.
 ghost use Rattle.std.specs.Prelude.{◌≡◌, ◌≤◌, IfOk, IfSome, Some, None, Err, option_map, true, codes};
 ghost use Rattle.std.specs.Str.{bytes_eq};
+ghost use Rattle.rate_types.specs.declared.limits.TheConstants.{LATEST_MOMENT, MOST_CELLS, MOST_WORKERS};
 ghost use Rattle.ratelimit_cli.specs.Words as spec;
 ghost use Rattle.ratelimit_cli.specs.declared.words.WordsFault.TheVariants.{Usage};
 
+use crate::audit_words::read_audit;
 use crate::command::{Command, QuotaJob, ThreadJob};
+use crate::gen_words::read_gen;
 use crate::number::{count_in, number_in};
 use crate::parsers::{all_in, drive_parser, first_in, lookup_parser, parse, quota_parser};
 use crate::pool_words::read_pool;
@@ -67,7 +70,9 @@ fn job_of(
     start: Option<u64>,
     global_shadow: bool,
 ) -> Option<Command>
-    requires { IfSome start (λ n. n ≤ LATEST_MOMENT) }
+    requires workers { IfSome workers (λ n. (1 ≤ n) × (n ≤ MOST_WORKERS)) }
+    requires cells { IfSome cells (λ n. (1 ≤ n) × (n ≤ MOST_CELLS)) }
+    requires start { IfSome start (λ n. n ≤ LATEST_MOMENT) }
     ensures job { result ≡ spec.job_of configs workers cells start global_shadow }
     ensures range { IfSome result spec.AreInRange }
 {
@@ -197,8 +202,8 @@ fn alone(words: &[Word], command: Command) -> Result<Command, WordsFault>
     }
 }
 
-/// The command that the words name: the first is `drive`, `lookup`, `quota`, `pool`, `serve`, `--help` or `--version`, and the rest
-/// is read by that command.
+/// The command that the words name: the first is `drive`, `lookup`, `quota`, `pool`, `audit`, `serve`, `gen`, `--help` or `--version`,
+/// and the rest is read by that command.
 pub fn read_words(alloc: Global, words: &Names) -> Result<Command, WordsFault>
     ensures command { IfOk result (λ c. spec.command_of words.now ≡ Some c) }
     ensures range { IfOk result spec.AreInRange }
@@ -221,8 +226,14 @@ pub fn read_words(alloc: Global, words: &Names) -> Result<Command, WordsFault>
     if first == "pool" {
         return read_pool(alloc, words);
     }
+    if first == "audit" {
+        return read_audit(alloc, words);
+    }
     if first == "serve" {
         return read_serve(alloc, words);
+    }
+    if first == "gen" {
+        return read_gen(alloc, words);
     }
     if first == "--help" {
         return alone(words, Command::Help);

@@ -14,7 +14,8 @@ pub returns : goal.returns
 returns g c =
     let script : script_view c.in-Ok.script ≡ script_of c.args.bytes.now = c.in-Ok.ensures.script in
     let config : config_view (arc_value c.in_ok-config.config) ≡ config_view c.args.config = ap config_view c.in_ok-config.ensures.ok in
-    let by_script : IsRun (config_view (arc_value c.in_ok-config.config)) c.args.setup.workers c.args.setup.cells c.args.setup.start c.args.setup.global_shadow (script_of c.args.bytes.now)
+    let by_script : IsRun (config_view (arc_value c.in_ok-config.config)) c.args.setup.workers c.args.setup.cells c.args.setup.start c.args.setup.global_shadow
+    (script_of c.args.bytes.now)
     c.in_ok-driven.driven.records =
     subst (λ (ls : List ScriptLine). IsRun (config_view (arc_value c.in_ok-config.config)) c.args.setup.workers c.args.setup.cells c.args.setup.start c.args.setup.global_shadow ls
     c.in_ok-driven.driven.records) script c.in_ok-driven.ensures.run in

@@ -1,6 +1,7 @@
-use Rattle.std.proofs.Common.{◌≡◌, ℕ, List, [], ◌∷◌, map, string_bytes, refl, sym, subst, ◌∙◌}
+use Rattle.std.proofs.Common.{◌≡◌, ℕ, List, [], ◌∷◌, map, string_bytes, refl, sym, ap, subst, ◌∙◌}
+use Rattle.rate_types.specs.declared.limits.TheConstants.{MOST_BYTES}
 use Rattle.rate_io.specs.Events.{since}
-use Rattle.ratelimit_cli.specs.Jobs.{files_of}
+use Rattle.ratelimit_cli.specs.Jobs.{AskedFile, asked, files_of}
 use Rattle.ratelimit_cli.specs.World.{World, AreFilesOf, exit_of}
 use Rattle.ratelimit_cli.specs.Parts.{IsOfOutput, Answers}
 use Rattle.ratelimit_cli.specs.Pooled.{IsPooled}
@@ -27,12 +28,13 @@ returns-in-Err-answered-clause-exit g c = λ words source_faults left is.
       written = g.K.Sink.written c.args.sink.now;
       after = g.K.Sink.written c.args.sink.now;
     } in
-    let names : c.items.result.now ≡ files_of (Pool c.args.job) = c.items.ensures ∙ c.in-Ok.ensures in
+    let names : map (asked MOST_BYTES) c.items.result.now ≡ files_of (Pool c.args.job) =
+    ap (map (asked MOST_BYTES)) (c.items.ensures ∙ c.in-Ok.ensures) in
     let contents : AreFilesOf w.content (files_of (Pool c.args.job)) w.files (c.both_of-file.result.0 ∷ c.both_of-file.result.1 ∷ []) =
-    subst (λ (ns : List (List ℕ)). AreFilesOf w.content ns w.files (c.both_of-file.result.0 ∷ c.both_of-file.result.1 ∷ [])) names
-    (subst (AreFilesOf w.content c.items.result.now w.files) c.both_of-file.ensures
+    subst (λ (ns : List AskedFile). AreFilesOf w.content ns w.files (c.both_of-file.result.0 ∷ c.both_of-file.result.1 ∷ [])) names
+    (subst (AreFilesOf w.content (map (asked MOST_BYTES) c.items.result.now) w.files) c.both_of-file.ensures
     (grew_since (g.F.Files.history c.args.files.now) (g.F.Files.history c.read_files.new.files)
-    (λ calls. AreFilesOf (g.F.Files.content c.args.files.now) c.items.result.now calls c.in-Ok-read_files.blobs) c.in-Ok-read_files.ensures.contents)) in
+    (λ calls. AreFilesOf (g.F.Files.content c.args.files.now) (map (asked MOST_BYTES) c.items.result.now) calls c.in-Ok-read_files.blobs) c.in-Ok-read_files.ensures.contents)) in
     explain_sharing w c.args.job is c.both_of-file.result.0 c.both_of-file.result.1 contents (λ i. []) (none_since (g.K.Sink.history c.args.sink.now), refl)
     c.in-Err-answered.exit (rw (← c.bytes.ensures) (rw (← c.bytes-2.ensures) c.in-Err-answered.ensures.fault))
 
@@ -53,12 +55,13 @@ returns-clause-exit g c = λ words source_faults left is.
       written = g.K.Sink.written c.args.sink.now;
       after = g.K.Sink.written c.write_answers.new.sink;
     } in
-    let names : c.items.result.now ≡ files_of (Pool c.args.job) = c.items.ensures ∙ c.in-Ok.ensures in
+    let names : map (asked MOST_BYTES) c.items.result.now ≡ files_of (Pool c.args.job) =
+    ap (map (asked MOST_BYTES)) (c.items.ensures ∙ c.in-Ok.ensures) in
     let contents : AreFilesOf w.content (files_of (Pool c.args.job)) w.files (c.both_of-file.result.0 ∷ c.both_of-file.result.1 ∷ []) =
-    subst (λ (ns : List (List ℕ)). AreFilesOf w.content ns w.files (c.both_of-file.result.0 ∷ c.both_of-file.result.1 ∷ [])) names
-    (subst (AreFilesOf w.content c.items.result.now w.files) c.both_of-file.ensures
+    subst (λ (ns : List AskedFile). AreFilesOf w.content ns w.files (c.both_of-file.result.0 ∷ c.both_of-file.result.1 ∷ [])) names
+    (subst (AreFilesOf w.content (map (asked MOST_BYTES) c.items.result.now) w.files) c.both_of-file.ensures
     (grew_since (g.F.Files.history c.args.files.now) (g.F.Files.history c.read_files.new.files)
-    (λ calls. AreFilesOf (g.F.Files.content c.args.files.now) c.items.result.now calls c.in-Ok-read_files.blobs) c.in-Ok-read_files.ensures.contents)) in
+    (λ calls. AreFilesOf (g.F.Files.content c.args.files.now) (map (asked MOST_BYTES) c.items.result.now) calls c.in-Ok-read_files.blobs) c.in-Ok-read_files.ensures.contents)) in
     let pieces : List (List ℕ) = map (λ t. string_bytes t) c.deref.result.now in
     let answers : Answers c.both_of-file.result.0 c.both_of-file.result.1 (map (λ t. string_bytes t) c.deref.result.now) =
     rw c.deref.ensures.value (rw (← c.bytes.ensures) (rw (← c.bytes-2.ensures) c.in-Ok-answered.ensures.lines)) in

@@ -1,6 +1,7 @@
-use Rattle.std.proofs.Common.{◌≡◌, ℕ, List, [], ◌∷◌, refl, sym, subst, ◌∙◌}
+use Rattle.std.proofs.Common.{◌≡◌, ℕ, List, [], ◌∷◌, map, refl, sym, ap, subst, ◌∙◌}
+use Rattle.rate_types.specs.declared.limits.TheConstants.{MOST_BYTES}
 use Rattle.rate_io.specs.Events.{since}
-use Rattle.ratelimit_cli.specs.Jobs.{files_of}
+use Rattle.ratelimit_cli.specs.Jobs.{AskedFile, asked, files_of}
 use Rattle.ratelimit_cli.specs.World.{World, AreFilesOf, exit_of}
 use Rattle.ratelimit_cli.specs.Parts.{IsOfOutput, Replays}
 use Rattle.ratelimit_cli.specs.Replayed.{IsReplayed}
@@ -27,12 +28,13 @@ returns-in-Err-replayed-clause-exit g c = λ words source_faults left is.
       written = g.K.Sink.written c.args.sink.now;
       after = g.K.Sink.written c.args.sink.now;
     } in
-    let names : c.items.result.now ≡ files_of (Quota c.args.job) = c.items.ensures ∙ c.in-Ok.ensures in
+    let names : map (asked MOST_BYTES) c.items.result.now ≡ files_of (Quota c.args.job) =
+    ap (map (asked MOST_BYTES)) (c.items.ensures ∙ c.in-Ok.ensures) in
     let contents : AreFilesOf w.content (files_of (Quota c.args.job)) w.files (c.first_of-file.result.0 ∷ c.first_of-file.result.1) =
-    subst (λ (ns : List (List ℕ)). AreFilesOf w.content ns w.files (c.first_of-file.result.0 ∷ c.first_of-file.result.1)) names
-    (subst (AreFilesOf w.content c.items.result.now w.files) c.first_of-file.ensures
+    subst (λ (ns : List AskedFile). AreFilesOf w.content ns w.files (c.first_of-file.result.0 ∷ c.first_of-file.result.1)) names
+    (subst (AreFilesOf w.content (map (asked MOST_BYTES) c.items.result.now) w.files) c.first_of-file.ensures
     (grew_since (g.F.Files.history c.args.files.now) (g.F.Files.history c.read_files.new.files)
-    (λ calls. AreFilesOf (g.F.Files.content c.args.files.now) c.items.result.now calls c.in-Ok-read_files.blobs) c.in-Ok-read_files.ensures.contents)) in
+    (λ calls. AreFilesOf (g.F.Files.content c.args.files.now) (map (asked MOST_BYTES) c.items.result.now) calls c.in-Ok-read_files.blobs) c.in-Ok-read_files.ensures.contents)) in
     explain_replay w c.args.job is c.first_of-file.result.0 c.first_of-file.result.1 contents (λ i. []) (none_since (g.K.Sink.history c.args.sink.now), refl)
     c.in-Err-replayed.exit (rw (← c.bytes.ensures) c.in-Err-replayed.ensures.fault)
 
@@ -53,12 +55,13 @@ returns-clause-exit g c = λ words source_faults left is.
       written = g.K.Sink.written c.args.sink.now;
       after = g.K.Sink.written c.write_texts.new.sink;
     } in
-    let names : c.items.result.now ≡ files_of (Quota c.args.job) = c.items.ensures ∙ c.in-Ok.ensures in
+    let names : map (asked MOST_BYTES) c.items.result.now ≡ files_of (Quota c.args.job) =
+    ap (map (asked MOST_BYTES)) (c.items.ensures ∙ c.in-Ok.ensures) in
     let contents : AreFilesOf w.content (files_of (Quota c.args.job)) w.files (c.first_of-file.result.0 ∷ c.first_of-file.result.1) =
-    subst (λ (ns : List (List ℕ)). AreFilesOf w.content ns w.files (c.first_of-file.result.0 ∷ c.first_of-file.result.1)) names
-    (subst (AreFilesOf w.content c.items.result.now w.files) c.first_of-file.ensures
+    subst (λ (ns : List AskedFile). AreFilesOf w.content ns w.files (c.first_of-file.result.0 ∷ c.first_of-file.result.1)) names
+    (subst (AreFilesOf w.content (map (asked MOST_BYTES) c.items.result.now) w.files) c.first_of-file.ensures
     (grew_since (g.F.Files.history c.args.files.now) (g.F.Files.history c.read_files.new.files)
-    (λ calls. AreFilesOf (g.F.Files.content c.args.files.now) c.items.result.now calls c.in-Ok-read_files.blobs) c.in-Ok-read_files.ensures.contents)) in
+    (λ calls. AreFilesOf (g.F.Files.content c.args.files.now) (map (asked MOST_BYTES) c.items.result.now) calls c.in-Ok-read_files.blobs) c.in-Ok-read_files.ensures.contents)) in
     let texts = c.in-Ok-replayed.ensures.texts in
     let each : List (List (List ℕ)) = texts.0 in
     let replays : Replays c.first_of-file.result.0 c.first_of-file.result.1 (in_order each) = rw (← c.bytes.ensures) texts.3 in

@@ -1,8 +1,9 @@
-use Rattle.std.proofs.Common.{◌≡◌, ℕ, List, [], Ok, inl, inr, refl, subst, rules}
+use Rattle.std.proofs.Common.{◌≡◌, ℕ, List, [], map, Ok, inl, inr, refl, ap, subst, rules}
+use Rattle.rate_types.specs.declared.limits.TheConstants.{MOST_BYTES}
 use Rattle.rate_io.specs.Events.{since}
 use Rattle.descriptor_tree.specs.Views.{config_view}
 use Rattle.config_json.specs.Reading.{reading_of}
-use Rattle.ratelimit_cli.specs.Jobs.{files_of}
+use Rattle.ratelimit_cli.specs.Jobs.{AskedFile, asked, files_of}
 use Rattle.ratelimit_cli.specs.World.{World, AreFilesOf}
 use Rattle.ratelimit_cli.specs.Configured.{FilesSay}
 use Rattle.ratelimit_cli.specs.Parts.{IsOfFiles}
@@ -31,11 +32,13 @@ returns-in-Err-clause-exit g c = λ words source_faults left is.
       written = K.written c.args.sink.now;
       after = K.written c.args.sink.now;
     } in
-    let names : c.items.result.now ≡ files_of (Threads (Serve c.args.job)) = search rules in
+    let same : c.items.result.now ≡ c.args.job.configs = search rules in
+    let names : map (asked MOST_BYTES) c.items.result.now ≡ files_of (Threads (Serve c.args.job)) = ap (map (asked MOST_BYTES)) same in
     inl (
       explain_files w (Threads (Serve c.args.job)) is refl (none_since (K.history c.args.sink.now), refl) c.in-Err.exit
-          (subst (λ (ns : List (List ℕ)). IsOfFiles w.content ns w.file_faults c.in-Err.exit w.files) names
-          (grew_since (F.history c.args.files.now) (F.history c.read_files.new.files) (IsOfFiles w.content c.items.result.now w.file_faults c.in-Err.exit) c.in-Err.ensures.fault)),
+          (subst (λ (ns : List AskedFile). IsOfFiles w.content ns w.file_faults c.in-Err.exit w.files) names
+          (grew_since (F.history c.args.files.now) (F.history c.read_files.new.files)
+          (IsOfFiles w.content (map (asked MOST_BYTES) c.items.result.now) w.file_faults c.in-Err.exit) c.in-Err.ensures.fault)),
       none_since (g.L.Listen.history c.args.listen.now),
     )
 
@@ -57,13 +60,16 @@ returns-in-Err-configuration-clause-exit g c = λ words source_faults left is.
       written = K.written c.args.sink.now;
       after = K.written c.args.sink.now;
     } in
-    let names : c.items.result.now ≡ files_of (Threads (Serve c.args.job)) = search rules in
+    let same : c.items.result.now ≡ c.args.job.configs = search rules in
+    let names : map (asked MOST_BYTES) c.items.result.now ≡ files_of (Threads (Serve c.args.job)) = ap (map (asked MOST_BYTES)) same in
     let say : FilesSay w (Threads (Serve c.args.job)) (reading_of c.in-Ok.blobs) = record {
       named = is;
       kind = tt;
       files = c.in-Ok.blobs;
-      contents = subst (λ (ns : List (List ℕ)). AreFilesOf w.content ns w.files c.in-Ok.blobs) names
-          (grew_since (F.history c.args.files.now) (F.history c.read_files.new.files) (λ calls. AreFilesOf w.content c.items.result.now calls c.in-Ok.blobs) c.in-Ok.ensures.contents);
+      contents = subst (λ (ns : List AskedFile). AreFilesOf w.content ns w.files c.in-Ok.blobs) names
+          (grew_since (F.history c.args.files.now) (F.history c.read_files.new.files)
+          (λ calls. AreFilesOf w.content (map (asked MOST_BYTES) c.items.result.now) calls c.in-Ok.blobs)
+          c.in-Ok.ensures.contents);
       spells = refl;
     } in
     inl (
@@ -90,13 +96,16 @@ returns-clause-exit g c = λ words source_faults left is.
       written = K.written c.args.sink.now;
       after = K.written c.listen_and_serve.new.sink;
     } in
-    let names : c.items.result.now ≡ files_of (Threads (Serve c.args.job)) = search rules in
+    let same : c.items.result.now ≡ c.args.job.configs = search rules in
+    let names : map (asked MOST_BYTES) c.items.result.now ≡ files_of (Threads (Serve c.args.job)) = ap (map (asked MOST_BYTES)) same in
     let say : FilesSay w (Threads (Serve c.args.job)) (Ok (config_view c.in-Ok-configuration.config)) = record {
       named = is;
       kind = tt;
       files = c.in-Ok.blobs;
-      contents = subst (λ (ns : List (List ℕ)). AreFilesOf w.content ns w.files c.in-Ok.blobs) names
-          (grew_since (F.history c.args.files.now) (F.history c.read_files.new.files) (λ calls. AreFilesOf w.content c.items.result.now calls c.in-Ok.blobs) c.in-Ok.ensures.contents);
+      contents = subst (λ (ns : List AskedFile). AreFilesOf w.content ns w.files c.in-Ok.blobs) names
+          (grew_since (F.history c.args.files.now) (F.history c.read_files.new.files)
+          (λ calls. AreFilesOf w.content (map (asked MOST_BYTES) c.items.result.now) calls c.in-Ok.blobs)
+          c.in-Ok.ensures.contents);
       spells = c.in-Ok-configuration.ensures.spells;
     } in
     let f : Found = record {

@@ -1,13 +1,14 @@
-use Rattle.std.proofs.Common.{◌≡◌, ℕ, List, Ok, refl, subst, sym, ◌∙◌, rules}
+use Rattle.std.proofs.Common.{◌≡◌, ℕ, List, map, Ok, refl, subst, sym, ap, ◌∙◌}
+use Rattle.rate_types.specs.declared.limits.TheConstants.{MOST_BYTES}
 use Rattle.rate_io.specs.Events.{since, given}
 use Rattle.descriptor_tree.specs.Views.{config_view}
 use Rattle.config_json.specs.Reading.{reading_of}
-use Rattle.ratelimit_cli.specs.Jobs.{files_of, command_with}
+use Rattle.ratelimit_cli.specs.Jobs.{AskedFile, asked, files_of, command_with}
 use Rattle.ratelimit_cli.specs.World.{World, AreFilesOf, exit_of}
 use Rattle.ratelimit_cli.specs.Configured.{FilesSay, IsInput, HasRead}
 use Rattle.ratelimit_cli.specs.Parts.{IsOfFiles, IsOfInput, IsOfOutput, IsOfWork}
 use Rattle.ratelimit_cli.proofs.Histories.{none_since, grew_since}
-use Rattle.ratelimit_cli.proofs.Explaining.{explain_files, explain_config, explain_input, explain_output, made_output, reads_configs, sinks}
+use Rattle.ratelimit_cli.proofs.Explaining.{explain_files, explain_config, explain_input, explain_output, made_output, reads_configs, configs_same, configs_all, sinks}
 use Rattle.ratelimit_cli.proofs.top.run_work.Goals as goal
 
 pub returns-in-Err-clause-exit : goal.returns-in-Err-clause-exit
@@ -27,12 +28,13 @@ returns-in-Err-clause-exit g c = λ words is.
       written = g.K.Sink.written c.args.sink.now;
       after = g.K.Sink.written c.args.sink.now;
     } in
-    let names : c.items.result.now ≡ files_of (command_with c.args.configs.now c.args.work) = search rules in
+    let names : map (asked MOST_BYTES) c.items.result.now ≡ files_of (command_with c.args.configs.now c.args.work) =
+    ap (map (asked MOST_BYTES)) c.items.ensures ∙ configs_same c.args.configs.now c.args.work in
     explain_files w (command_with c.args.configs.now c.args.work) is (none_since (g.S.Source.history c.args.source.now))
     (none_since (g.K.Sink.history c.args.sink.now), refl) c.in-Err.exit
-    (subst (λ (ns : List (List ℕ)). IsOfFiles (g.F.Files.content c.args.files.now) ns faults c.in-Err.exit w.files) names
+    (subst (λ (ns : List AskedFile). IsOfFiles (g.F.Files.content c.args.files.now) ns faults c.in-Err.exit w.files) names
     (grew_since (g.F.Files.history c.args.files.now) (g.F.Files.history c.read_files.new.files)
-    (IsOfFiles (g.F.Files.content c.args.files.now) c.items.result.now faults c.in-Err.exit) c.in-Err.ensures.fault))
+    (IsOfFiles (g.F.Files.content c.args.files.now) (map (asked MOST_BYTES) c.items.result.now) faults c.in-Err.exit) c.in-Err.ensures.fault))
 
 pub returns-in-Err-configuration-clause-exit : goal.returns-in-Err-configuration-clause-exit
 returns-in-Err-configuration-clause-exit g c = λ words is.
@@ -50,15 +52,16 @@ returns-in-Err-configuration-clause-exit g c = λ words is.
       written = g.K.Sink.written c.args.sink.now;
       after = g.K.Sink.written c.args.sink.now;
     } in
-    let names : c.items.result.now ≡ files_of (command_with c.args.configs.now c.args.work) = search rules in
+    let names : map (asked MOST_BYTES) c.items.result.now ≡ files_of (command_with c.args.configs.now c.args.work) =
+    ap (map (asked MOST_BYTES)) c.items.ensures ∙ configs_same c.args.configs.now c.args.work in
     let say : FilesSay w (command_with c.args.configs.now c.args.work) (reading_of c.in-Ok.blobs) = record {
       named = is;
       kind = reads_configs c.args.configs.now c.args.work;
       files = c.in-Ok.blobs;
-      contents = subst (λ (ns : List (List ℕ)). AreFilesOf w.content ns w.files c.in-Ok.blobs) names
+      contents = subst (λ (ns : List AskedFile). AreFilesOf w.content ns w.files c.in-Ok.blobs) names
           (grew_since (g.F.Files.history c.args.files.now) (g.F.Files.history c.read_files.new.files)
-          (λ calls. AreFilesOf (g.F.Files.content c.args.files.now) c.items.result.now calls c.in-Ok.blobs) c.in-Ok.ensures.contents);
-      spells = refl;
+          (λ calls. AreFilesOf (g.F.Files.content c.args.files.now) (map (asked MOST_BYTES) c.items.result.now) calls c.in-Ok.blobs) c.in-Ok.ensures.contents);
+      spells = ap reading_of (configs_all c.args.configs.now c.args.work c.in-Ok.blobs);
     } in
     explain_config w (command_with c.args.configs.now c.args.work) (reading_of c.in-Ok.blobs) say (none_since (g.S.Source.history c.args.source.now))
     (none_since (g.K.Sink.history c.args.sink.now), refl) c.in-Err-configuration.exit c.in-Err-configuration.ensures.fault
@@ -80,15 +83,16 @@ returns-in-Err-read_input-clause-exit g c = λ words is.
       written = g.K.Sink.written c.args.sink.now;
       after = g.K.Sink.written c.args.sink.now;
     } in
-    let names : c.items.result.now ≡ files_of (command_with c.args.configs.now c.args.work) = search rules in
+    let names : map (asked MOST_BYTES) c.items.result.now ≡ files_of (command_with c.args.configs.now c.args.work) =
+    ap (map (asked MOST_BYTES)) c.items.ensures ∙ configs_same c.args.configs.now c.args.work in
     let say : FilesSay w (command_with c.args.configs.now c.args.work) (Ok (config_view c.in-Ok-configuration.config)) = record {
       named = is;
       kind = reads_configs c.args.configs.now c.args.work;
       files = c.in-Ok.blobs;
-      contents = subst (λ (ns : List (List ℕ)). AreFilesOf w.content ns w.files c.in-Ok.blobs) names
+      contents = subst (λ (ns : List AskedFile). AreFilesOf w.content ns w.files c.in-Ok.blobs) names
           (grew_since (g.F.Files.history c.args.files.now) (g.F.Files.history c.read_files.new.files)
-          (λ calls. AreFilesOf (g.F.Files.content c.args.files.now) c.items.result.now calls c.in-Ok.blobs) c.in-Ok.ensures.contents);
-      spells = c.in-Ok-configuration.ensures.spells;
+          (λ calls. AreFilesOf (g.F.Files.content c.args.files.now) (map (asked MOST_BYTES) c.items.result.now) calls c.in-Ok.blobs) c.in-Ok.ensures.contents);
+      spells = ap reading_of (configs_all c.args.configs.now c.args.work c.in-Ok.blobs) ∙ c.in-Ok-configuration.ensures.spells;
     } in
     explain_input w (command_with c.args.configs.now c.args.work) (config_view c.in-Ok-configuration.config) say
     (none_since (g.K.Sink.history c.args.sink.now), refl) c.in-Err-read_input.exit
@@ -111,15 +115,16 @@ returns-clause-exit g c = λ words is.
       written = g.K.Sink.written c.args.sink.now;
       after = g.K.Sink.written c.make_and_write.new.sink;
     } in
-    let names : c.items.result.now ≡ files_of (command_with c.args.configs.now c.args.work) = search rules in
+    let names : map (asked MOST_BYTES) c.items.result.now ≡ files_of (command_with c.args.configs.now c.args.work) =
+    ap (map (asked MOST_BYTES)) c.items.ensures ∙ configs_same c.args.configs.now c.args.work in
     let say : FilesSay w (command_with c.args.configs.now c.args.work) (Ok (config_view c.in-Ok-configuration.config)) = record {
       named = is;
       kind = reads_configs c.args.configs.now c.args.work;
       files = c.in-Ok.blobs;
-      contents = subst (λ (ns : List (List ℕ)). AreFilesOf w.content ns w.files c.in-Ok.blobs) names
+      contents = subst (λ (ns : List AskedFile). AreFilesOf w.content ns w.files c.in-Ok.blobs) names
           (grew_since (g.F.Files.history c.args.files.now) (g.F.Files.history c.read_files.new.files)
-          (λ calls. AreFilesOf (g.F.Files.content c.args.files.now) c.items.result.now calls c.in-Ok.blobs) c.in-Ok.ensures.contents);
-      spells = c.in-Ok-configuration.ensures.spells;
+          (λ calls. AreFilesOf (g.F.Files.content c.args.files.now) (map (asked MOST_BYTES) c.items.result.now) calls c.in-Ok.blobs) c.in-Ok.ensures.contents);
+      spells = ap reading_of (configs_all c.args.configs.now c.args.work c.in-Ok.blobs) ∙ c.in-Ok-configuration.ensures.spells;
     } in
     let input = grew_since (g.S.Source.history c.args.source.now) (g.S.Source.history c.read_input.new.source)
     (λ reads. IsInput (g.S.Source.left c.args.source.now) reads × (given reads ≡ c.in-Ok-read_input.bytes.items)) c.in-Ok-read_input.ensures.input in

@@ -1,0 +1,43 @@
+// `gen`: made-up loads and their summaries.
+use super::{Failing, NONE, said};
+use std::test::Fail;
+
+#[test]
+fn loads_have_their_summaries(rt: HostRuntime) -> Result<(), Fail> {
+    let alloc = rt.alloc();
+    let rows = [
+        ("1", "64000", 6_400, 57_600),
+        ("7", "6401", 6_400, 1),
+        ("18446744073709551615", "65", 65, 0),
+        ("0", "0", 0, 0),
+    ];
+    for (number, checks, admitted, denied) in rows {
+        let want = format!(in alloc;
+            "done\n{{\"admitted\":{admitted},\"checks\":{checks},\"denied\":{denied}}}\n"
+        )?;
+        assert_eq!(rt;
+            said(&rt, alloc, &["gen", number, checks], &[], "", NONE)?.as_str(),
+            want.as_str()
+        );
+    }
+    Ok(())
+}
+
+#[test]
+fn each_exit_of_gen_has_its_cause(rt: HostRuntime) -> Result<(), Fail> {
+    let alloc = rt.alloc();
+    let write = Failing { write: 1, ..NONE };
+    let rows: [(&[&str], Failing, &str); 7] = [
+        (&["gen"], NONE, "usage\n"),
+        (&["gen", "1"], NONE, "usage\n"),
+        (&["gen", "1", "2", "3"], NONE, "usage\n"),
+        (&["gen", "18446744073709551616", "1"], NONE, "usage\n"),
+        (&["gen", "1", "1048577"], NONE, "usage\n"),
+        (&["gen", "1", "two"], NONE, "usage\n"),
+        (&["gen", "1", "2"], write, "write fault\n"),
+    ];
+    for (words, failing, want) in rows {
+        assert_eq!(rt; said(&rt, alloc, words, &[], "", failing)?.as_str(), want);
+    }
+    Ok(())
+}
