@@ -139,6 +139,16 @@ judge quota-without-stream $? 1 "$none" 'ratelimit: usage'
 run quota --settings "$top/examples/quota.json" --workers 65 "$top/examples/quota.jsonl" </dev/null >"$out" 2>"$err"
 judge quota-of-too-many-workers $? 1 "$none" 'ratelimit: usage'
 
+printf '{"admitted":6400,"checks":64000,"denied":57600}\n' >"$work/summary"
+run gen 1 64000 <&- >"$out" 2>"$err"
+judge gen $? 0 "$work/summary"
+
+run gen 1 1048577 </dev/null >"$out" 2>"$err"
+judge gen-of-too-many-checks $? 1 "$none" 'ratelimit: usage'
+
+run gen 1 10 </dev/null 2>"$err" >/dev/full
+judge gen-output-full $? 5 -
+
 run pool --pools "$top/examples/pool.json" "$top/examples/reports.jsonl" <&- >"$out" 2>"$err"
 judge pool $? 0 "$here/pool.out"
 
@@ -147,6 +157,29 @@ judge pool-without-pools $? 1 "$none" 'ratelimit: usage'
 
 run pool --pools "$top/examples/quota.json" "$top/examples/reports.jsonl" </dev/null >"$out" 2>"$err"
 judge pool-of-other-settings $? 9 "$none" 'ratelimit: settings: refused 3 at '
+
+# What `drive` printed is lawful; with one count changed the reply of its line is another one's, and without its last line feed its last line
+# has no form.
+printf '{"lawful":true,"records":%s}\n' "$(wc -l <"$script")" >"$work/lawful"
+run audit --run "$minute" "$config" <"$script" >"$out" 2>"$err"
+judge audit $? 0 "$work/lawful"
+
+sed 's/"before":1/"before":2/' "$minute" >"$work/changed"
+printf '{"clause":3,"lawful":false}\n' >"$work/broken"
+run audit "$config" --run="$work/changed" <"$script" >"$out" 2>"$err"
+judge audit-of-a-changed-run $? 0 "$work/broken"
+
+head -c -1 "$minute" >"$work/changed"
+printf '{"lawful":false,"line":%s}\n' "$(wc -l <"$minute")" >"$work/broken"
+run audit --run "$work/changed" "$config" <"$script" >"$out" 2>"$err"
+judge audit-of-a-run-without-its-end $? 0 "$work/broken"
+
+# The run is the file behind the configuration files, and is read before they are parsed.
+run audit --run "$work/missing" /dev/null <"$script" >"$out" 2>"$err"
+judge audit-of-a-missing-run $? 6 "$none" 'file 1'
+
+run audit "$config" <"$script" >"$out" 2>"$err"
+judge audit-without-a-run $? 1 "$none" 'ratelimit: usage'
 
 run quota --settings "$config" "$top/examples/quota.jsonl" </dev/null >"$out" 2>"$err"
 judge quota-of-other-settings $? 9 "$none" 'ratelimit: settings: refused 3 at /descriptors'
@@ -280,6 +313,11 @@ judge too-large-file $? 3 "$none"
 
 run drive "$config" <"$work/large" >"$out" 2>"$err"
 judge too-large-script $? 3 "$none"
+
+# A run may have more bytes than any other file.
+printf '{"lawful":false,"line":1}\n' >"$work/broken"
+run audit --run "$work/large" "$config" <"$script" >"$out" 2>"$err"
+judge run-larger-than-a-script $? 0 "$work/broken"
 
 # Of the largest number of lines only the last record is compared: its number tells that all were written.
 yes '' | head -n 1048576 >"$work/lines"

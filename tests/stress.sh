@@ -1,6 +1,7 @@
 #!/usr/bin/env bash
 # Runs long made-up scripts through the real program by four workers over 64 cells, and reads with a plain program whether each run
 # is a lawful one with its totals (tests/run_check.py). Then it plants faults into what the last run printed, each of which has to be found.
+# A shorter run is judged by `ratelimit audit` too, whole and with one byte changed at each of 100 places.
 # Usage: tests/stress.sh [RUNS of 700,000 lines, 15 unless given: more than 10,000,000 checks]
 # It is outside of the gate, takes some minutes and needs python3. The last line of a run says how many checks it had.
 set -u
@@ -8,6 +9,8 @@ here=$(cd "$(dirname "${BASH_SOURCE[0]}")" && pwd)
 top=$(cd "$here/.." && pwd)
 runs=${1:-15}
 lines=${STRESS_LINES:-700000}
+# Most checks of these scripts are refused, and each refusal costs `audit` a pass over the whole run, so it judges runs of so many lines.
+audited=${STRESS_AUDITED:-10000}
 work=$(mktemp -d) || exit 1
 trap 'rm -rf "$work"' EXIT
 failed=0
@@ -47,4 +50,36 @@ for fault in $(python3 "$here/stress_fault.py" faults); do
         printf 'found %s: %s\n' "$fault" "$said"
     fi
 done
+
+# audit RUN: the verdict on a run of four workers over 64 cells
+audit() {
+    "$top/ratelimit" audit --run "$1" --workers 4 --cells 64 "$work/config.json" <"$work/script"
+}
+
+python3 "$here/stress_script.py" 2 "$audited" "$work/config.json" "$work/script" || exit 1
+printf 'to be audited: '
+drive 4 64 || failed=1
+said=$(audit "$work/out")
+printf 'audit: %s\n' "$said"
+[ "$said" = "{\"lawful\":true,\"records\":$(wc -l <"$work/script")}" ] || {
+    printf 'FAILED audit of %s lines\n' "$audited"
+    failed=1
+}
+# With another byte it may be lawful only where the plain reader finds no fault either, as where another worker may have had a line.
+lawful=0
+for place in $(seq 100); do
+    python3 "$here/stress_byte.py" "$place" "$work/out" "$work/changed" || exit 1
+    said=$(audit "$work/changed")
+    case $said in
+    '{"lawful":false,"line":'* | '{"clause":'*) ;;
+    *)
+        lawful=$((lawful + 1))
+        if ! python3 "$here/run_check.py" "$work/config.json" "$work/script" "$work/changed" --workers 4 --cells 64 >"$work/err" 2>&1; then
+            printf 'FAILED byte %s: audit said %s, the plain reader %s\n' "$place" "$said" "$(tail -n 1 "$work/err")"
+            failed=1
+        fi
+        ;;
+    esac
+done
+printf 'audit of 100 changed bytes: %s lawful, as the plain reader finds them\n' "$lawful"
 exit "$failed"
