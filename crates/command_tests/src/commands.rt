@@ -1,3 +1,4 @@
+mod audit;
 mod generated;
 mod limits;
 mod lines;
@@ -5,9 +6,13 @@ mod pool;
 mod quota;
 mod reports;
 mod rows;
+mod serve;
+mod side_by_side;
 mod workers;
 
-use rate_io::{FixedClock, MemFile, MemFiles, MemListen, MemSink, MemSource};
+ghost use Rattle.std.specs.Prelude.{◌≡◌, []};
+
+use rate_io::{FixedClock, Listen, MemFile, MemFiles, MemListen, MemSink, MemSource};
 use rate_types::{Blob, Names, Word};
 use ratelimit_cli::{Exit, ratelimit};
 use std::alloc::Global;
@@ -131,6 +136,34 @@ fn said_to<R: Threads + Wait + RandomSource + Sync, G: Gate>(
     failing: Failing,
     gate: &G,
 ) -> Result<String, Fail> {
+    let mut listen = MemListen::new(alloc, Vec::new(alloc), Vec::new(alloc))?;
+    said_over(
+        rt,
+        alloc,
+        words,
+        contents,
+        script,
+        failing,
+        &mut listen,
+        gate,
+    )
+}
+
+// The same over a listener, where the clock says 65.
+fn said_over<R: Threads + Wait + RandomSource + Sync, L: Listen, G: Gate>(
+    rt: &R,
+    alloc: Global,
+    words: &[&str],
+    contents: &[&str],
+    script: &str,
+    failing: Failing,
+    listen: &mut L,
+    gate: &G,
+) -> Result<String, Fail>
+where
+    L::Link: Send,
+    requires { L.history listen.old ≡ [] }
+{
     let mut names = Vec::new(alloc);
     for text in words {
         names.push(word(alloc, text)?)?;
@@ -146,7 +179,6 @@ fn said_to<R: Threads + Wait + RandomSource + Sync, G: Gate>(
     let mut files = MemFiles::new(files, numbers(alloc, failing.file)?);
     let mut source = MemSource::new(bytes, numbers(alloc, failing.read)?);
     let mut sink = MemSink::new(alloc, numbers(alloc, failing.write)?);
-    let mut listen = MemListen::new(alloc, Vec::new(alloc), Vec::new(alloc))?;
     let exit = ratelimit(
         rt,
         alloc,
@@ -155,8 +187,8 @@ fn said_to<R: Threads + Wait + RandomSource + Sync, G: Gate>(
         &mut files,
         &mut source,
         &mut sink,
-        &mut listen,
-        &FixedClock { seconds: 0 },
+        listen,
+        &FixedClock { seconds: 65 },
         gate,
     );
     let mut text = exit_text(alloc, &exit)?;

@@ -33,6 +33,7 @@ fn each_exit_has_its_status_and_its_line(rt: HostRuntime) -> Result<(), Fail> {
         (Exit::WriteFault, "5 ratelimit: write failed"),
         (Exit::FileFault(2), "6 ratelimit: file 2: read failed"),
         (Exit::OutOfMemory, "7 ratelimit: out of memory"),
+        (Exit::ListenFault, "8 ratelimit: listen failed"),
         (
             Exit::SettingsRefused(Refused {
                 at: Place::empty(alloc).child("buckets")?,

@@ -10,8 +10,8 @@ use std::test::Fail;
 use std::thread;
 use worker_run::Gate;
 
-// How often line 1 asks whether line 2 is done, where other workers may do it.
-const TURNS: u32 = 1_000_000;
+/// How often one asks whether another is done, where other workers may do it.
+pub const TURNS: u32 = 1_000_000;
 
 // Holds line 1 until line 2 is done, and counts what it is told.
 #[derive(Drop)]

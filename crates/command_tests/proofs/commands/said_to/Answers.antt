@@ -2,5 +2,5 @@ use denote.Param.Send.{sendable}
 use Rattle.command_tests.proofs.Sent.{connection_send}
 use Rattle.command_tests.proofs.commands.said_to.Goals as goal
 
-pub ratelimit-exit-requires-send-L-Link : goal.ratelimit-exit-requires-send-L-Link
-ratelimit-exit-requires-send-L-Link g c κs within = search (sendable, connection_send)
+pub said_over-requires-send-L-Link : goal.said_over-requires-send-L-Link
+said_over-requires-send-L-Link g c κs within = search (sendable, connection_send)
