@@ -1,5 +1,6 @@
 -- Inside: the rows over a list of moments.
-use Rattle.std.specs.Prelude.{◌≡◌, ℕ, ◌+◌, ◌*◌, ◌/◌, ◌≤◌, List, [], ◌∷◌, ◌++◌, length, min, nat_le, slice_index_or, slice_set, if◌then◌else◌}
+use Rattle.std.specs.Prelude.{◌≡◌, ℕ, ◌+◌, ◌*◌, ◌/◌, ◌≤◌, List, [], ◌∷◌, ◌++◌, length, min, nat_le, slice_index_or, slice_set}
+use Rattle.std.specs.Prelude.{if◌then◌else◌}
 
 -- the least of every two
 abbrev pub halves : List ℕ → List ℕ

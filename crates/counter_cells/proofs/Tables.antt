@@ -94,7 +94,8 @@ module _ (key setup : Setup) (same : key ≡ setup) (slots id k index : ℕ) (me
       → Allows (AreLawful key) slots id me index (λ n. (n + hits) % 2 ^ 64)
       (λ n w. (w.0 ≡ charged (count_cell index) n hits me.0) × (w.1 ≡ me.1) × Capped (claim_on (count_cell index) me.0.good) n me.0 × (n + hits < 2 ^ 64))
   charge_asks hits small low =
-      indexed key slots id me (λ n. (n + hits) % 2 ^ 64) (λ x n w. (w.0 ≡ charged (count_cell x) n hits me.0) × (w.1 ≡ me.1) × Capped (claim_on (count_cell x) me.0.good) n me.0 × (n + hits < 2 ^ 64))
+      indexed key slots id me (λ n. (n + hits) % 2 ^ 64)
+      (λ x n w. (w.0 ≡ charged (count_cell x) n hits me.0) × (w.1 ≡ me.1) × Capped (claim_on (count_cell x) me.0.good) n me.0 × (n + hits < 2 ^ 64))
       (count_at k) index is (steps.charges key slots id k me count_within hits small low)
 
   pub reset_asks : me.0.claimer ≡ true → IsTaken (cell_or me.0.cells k)

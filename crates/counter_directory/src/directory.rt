@@ -37,7 +37,11 @@ impl<N: CellNaming> Model for Directory<N> {
 
     ghost Value = { DirectoryView };
 
-    ghost view = { λ d. record { list_id = list_id d.told; passes = tokens d.told; claims_max = (first_value d.told).table.value.pool.most } };
+    ghost view = { λ d. record {
+      list_id = list_id d.told;
+      passes = tokens d.told;
+      claims_max = (first_value d.told).table.value.pool.most;
+    } };
 
     ghost invariant = { λ d. (d.passes ≡ tokens d.told) × (1 ≤ d.passes) × (d.passes ≤ MOST_PASSES)
         × ((first_value d.told).table.value.pool.claims ≡ []) };

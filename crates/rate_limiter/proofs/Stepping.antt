@@ -53,16 +53,34 @@ pub still_then : (u v w : CellView) → Still u v → Still v w → Still u w
 still_then u v w a b = record { number = b.number ∙ a.number; pins = b.pins ∙ a.pins; others = b.others ∙ a.others; ticks = b.ticks ∙ a.ticks; moment = b.moment ∙ a.moment }
 
 same_still : (v w : CellView) → w ≡ v → Still v w
-same_still v w e = record { number = ap number_of e; pins = ap (λ (x : CellView). x.pairs) e; others = ap (λ (x : CellView). x.others) e; ticks = ap (λ (x : CellView). x.ticks) e; moment = ap (λ (x : CellView). x.moment) e }
+same_still v w e = record {
+  number = ap number_of e;
+  pins = ap (λ (x : CellView). x.pairs) e;
+  others = ap (λ (x : CellView). x.others) e;
+  ticks = ap (λ (x : CellView). x.ticks) e;
+  moment = ap (λ (x : CellView). x.moment) e;
+}
 
 counted_still : (spot : Spot) (limit hits : ℕ) (c : Count) (v w : CellView) → CountedAt spot limit hits c v w → Still v w
 counted_still spot limit hits (Seen seen) v w (b, inl l) =
     let e = l.1 in
-    record { number = ap number_of e; pins = ap (λ (x : CellView). x.pairs) e; others = ap (λ (x : CellView). x.others) e; ticks = ap (λ (x : CellView). x.ticks) e; moment = ap (λ (x : CellView). x.moment) e }
+    record {
+      number = ap number_of e;
+      pins = ap (λ (x : CellView). x.pairs) e;
+      others = ap (λ (x : CellView). x.others) e;
+      ticks = ap (λ (x : CellView). x.ticks) e;
+      moment = ap (λ (x : CellView). x.moment) e;
+    }
 counted_still spot limit hits (Seen seen) v w (b, inr k) = same_still v w k.1.2
 counted_still spot limit hits (Before before) v w h =
     let e = h.1.charge in
-    record { number = ap number_of e; pins = ap (λ (x : CellView). x.pairs) e; others = ap (λ (x : CellView). x.others) e; ticks = ap (λ (x : CellView). x.ticks) e; moment = ap (λ (x : CellView). x.moment) e }
+    record {
+      number = ap number_of e;
+      pins = ap (λ (x : CellView). x.pairs) e;
+      others = ap (λ (x : CellView). x.others) e;
+      ticks = ap (λ (x : CellView). x.ticks) e;
+      moment = ap (λ (x : CellView). x.moment) e;
+    }
 counted_still spot limit hits NoCount v w h = absurd h
 
 pub done_still : (f : Found) (hits : ℕ) (spot : Option Spot) (c : Count) (v w : CellView) → DoneAt f hits spot c v w → Still v w

@@ -17,5 +17,5 @@ KnewAll request moment p q = (i : ℕ) (d : Descriptor) → get_elem? request.de
 -- Where the pass knew all counters, in the windows of the moment of the check's first tick, and no pin of the check missed, it has had no
 -- more turns at the directory, and knows of the claims what it knew
 abbrev pub TakesNoTurn : RequestParts → PassView → PassView → Type 0
-TakesNoTurn request p q = (first : Tick) (rest : List Tick) → q.cells.ticks ≡ p.cells.ticks ++ first ∷ rest → KnewAll request first.moment p q
-    → q.cells.others ≡ p.cells.others → q.claims ≡ p.claims
+TakesNoTurn request p q = (first : Tick) (rest : List Tick) → q.cells.ticks ≡ p.cells.ticks ++ first ∷ rest
+    → KnewAll request first.moment p q → q.cells.others ≡ p.cells.others → q.claims ≡ p.claims

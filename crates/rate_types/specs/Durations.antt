@@ -1,6 +1,7 @@
 -- Durations as texts: digits of seconds, perhaps a point and decimals, then `s`.
 use Rattle.std.specs.Prelude.{ℕ, ◌+◌, ◌*◌, ◌-◌, ◌/◌, ◌%◌, ◌++◌, codes, decimal, ◌&&◌, ◌||◌, ◌==◌, not, List, [], ◌∷◌}
-use Rattle.std.specs.Prelude.{length, take, drop, slice_index, position, Bool, true, nat_lt, nat_le, if◌then◌else◌, Option, Some, None, option_map, Result, Ok, Err}
+use Rattle.std.specs.Prelude.{length, take, drop, slice_index, position, Bool, true, nat_lt, nat_le, if◌then◌else◌, Option, Some, None}
+use Rattle.std.specs.Prelude.{option_map, Result, Ok, Err}
 use Rattle.std.specs.Char.{is_ascii_digit}
 use Rattle.std.specs.List.{list_all, list_any}
 use Rattle.std.specs.Str.Parse.{digits_value}

@@ -79,7 +79,8 @@ module _ (nodes : List Node) (i : ℕ) (old_names names : List RuleNames) (old l
     length-append old_names (level_names (level_of nodes)),
   )
 
-  pub filled_more : (names_after : List RuleNames) (levels_after : List Level) (level_after : Level) → PutsNode levels_after (length names) (node_view node) (finding_of level) (finding_of level_after)
+  pub filled_more : (names_after : List RuleNames) (levels_after : List Level) (level_after : Level)
+      → PutsNode levels_after (length names) (node_view node) (finding_of level) (finding_of level_after)
       → Extends levels levels_after → names_after ≡ names ++ branch_names (node_view node) → Filled nodes (i + 1) old_names names_after old levels_after level_after
   filled_more names_after levels_after level_after puts more is = record {
     done = w.done ++ here ∷ [];
@@ -87,7 +88,8 @@ module _ (nodes : List Node) (i : ℕ) (old_names names : List RuleNames) (old l
         ∙ sym (append_assoc w.done (here ∷ []) (numbered (length names + size_of (node_view node)) rest))
         ∙ ap (λ n. (w.done ++ here ∷ []) ++ numbered n rest)
         (sym (ap length is ∙ length-append names (branch_names (node_view node)) ∙ ap (λ n. length names + n) (size_names (node_view node))));
-    holds = holds_more levels_after (finding_of level) (finding_of level_after) w.done here puts.reached puts.reaches puts.puts (holds_stays levels levels_after (finding_of level) w.done more w.holds);
+    holds = holds_more levels_after (finding_of level) (finding_of level_after) w.done here puts.reached puts.reaches puts.puts
+        (holds_stays levels levels_after (finding_of level) w.done more w.holds);
     grows = record { more = w.grows.more ++ more.more; is = more.is ∙ ap (λ ls. ls ++ more.more) w.grows.is ∙ append_assoc old w.grows.more more.more };
     names_are = ap (λ ns. ns ++ level_names rest) is ∙ append_assoc names (branch_names (node_view node)) (level_names rest) ∙ names_here;
     few = w.few;
@@ -103,7 +105,8 @@ module _ (nodes : List Node) (i : ℕ) (old_names names : List RuleNames) (old l
     (w : Filled nodes i old_names names old levels level) (all : length nodes ≤ i) where
   pub filled_level : (after : List Level) → after ≡ levels ++ level ∷ [] → IsLevel after (length levels) (length old_names) (level_of nodes)
   filled_level after is = rw is (level_added levels level (length old_names) (level_of nodes)
-      (subst (Holds levels (finding_of level)) (sym (w.split ∙ ap (λ (ns : List Node). w.done ++ numbered (length names) (level_of ns)) (drop_all i nodes all) ∙ append-nil w.done)) w.holds))
+      (subst (Holds levels (finding_of level)) (sym (w.split
+      ∙ ap (λ (ns : List Node). w.done ++ numbered (length names) (level_of ns)) (drop_all i nodes all) ∙ append-nil w.done)) w.holds))
 
   pub filled_grows : (after : List Level) → after ≡ levels ++ level ∷ [] → Extends old after
   filled_grows after is = record {

@@ -55,8 +55,8 @@ one_more levels p nodes n r old new is reaches agree =
     subst (λ (o : Option Reached). Agree levels o (find p (nodes ++ n ∷ []))) (sym is)
     (subst (λ (o : Option NumberedNode). Agree levels (option_or old (cond (p n) (Some r) None)) o) (sym (find-append p nodes (n ∷ []))) both)
 
-pub holds_more : (levels : List Level) (old new : Finding) (nodes : List NumberedNode) (n : NumberedNode) (r : Reached) → Reaches levels r n → Puts n.node.key n.node.value r old new
-    → Holds levels old nodes → Holds levels new (nodes ++ n ∷ [])
+pub holds_more : (levels : List Level) (old new : Finding) (nodes : List NumberedNode) (n : NumberedNode) (r : Reached) → Reaches levels r n
+    → Puts n.node.key n.node.value r old new → Holds levels old nodes → Holds levels new (nodes ++ n ∷ [])
 holds_more levels old new nodes n r reaches puts is = record {
   equal = λ e. one_more levels (λ m. has_value e m.node) nodes n r _ _ (puts.equal e) reaches (is.equal e);
   wildcard = λ e. one_more levels (λ m. has_wildcard e m.node) nodes n r _ _ (puts.wildcard e) reaches (is.wildcard e);
@@ -69,7 +69,8 @@ at_end : (levels : List Level) (level : Level) (more : List Level) → slice_get
 at_end [] level more = refl
 at_end (l ∷ levels) level more = at_end levels level more
 
-matches : (levels : List Level) (level : Level) (nodes : List NumberedNode) (e : Entry) → Holds levels (finding_of level) nodes → Agree levels (reached_in level e) (matching_node nodes e)
+matches : (levels : List Level) (level : Level) (nodes : List NumberedNode) (e : Entry) → Holds levels (finding_of level) nodes
+    → Agree levels (reached_in level e) (matching_node nodes e)
 matches levels level nodes e is = agree_or levels _ _ _ _ (is.equal e) (agree_or levels _ _ _ _ (is.wildcard e) (is.alone e))
 
 goes_on : (levels : List Level) (level : Level) (more : List Level) (entries : List Entry) (r : Option Reached) (n : Option NumberedNode) → Agree levels r n

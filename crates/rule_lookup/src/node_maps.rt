@@ -36,7 +36,8 @@ fn fits(wildcard: &Wildcard, entry: &Entry) -> bool
 impl NodeMaps {
     /// No node.
     pub fn new(alloc: Global) -> NodeMaps
-        ensures { (entry : Entry) → ((among result).equal entry ≡ None) × ((among result).wildcard entry ≡ None) × ((among result).alone entry ≡ None) }
+        ensures { (entry : Entry) → ((among result).equal entry ≡ None) × ((among result).wildcard entry ≡ None)
+            × ((among result).alone entry ≡ None) }
     {
         NodeMaps {
             valued: IndexMap::new(alloc),

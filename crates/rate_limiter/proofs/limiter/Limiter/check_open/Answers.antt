@@ -92,7 +92,8 @@ returns-in-Err-clause-step g c =
     let m = c.in-Err.missed in
     let kept = c.in-Err.ensures.kept in
     subst (λ (e : NotOpen). Opens limiter request c.args.now p (Err e) q) (sym c.of.ensures)
-    (opens_not c.args.now p p1 p2 loads offered ticks q refl refl refl (spots_same p2.known q.known c.pin_known.ensures.same) refl loaded newest request kept.0.moment rules rules_are limiter m kept.0 kept.1
+    (opens_not c.args.now p p1 p2 loads offered ticks q refl refl refl (spots_same p2.known q.known c.pin_known.ensures.same) refl loaded newest request
+    kept.0.moment rules rules_are limiter m kept.0 kept.1
     (subst (λ (ds : List Descriptor). HasMissCause request p2.cells.moment p2.known ds rules m p2.cells q.cells) all c.in-Err.ensures.missed))
 
 pub answer-requires-clause-under : goal.answer-requires-clause-under

@@ -44,13 +44,16 @@ pub add_node-returns-clause-puts : goal.add_node-returns-clause-puts
 add_node-returns-clause-puts t c =
     let level : IsLevel c.add_level.new.self.levels.items c.in_ok-below.below (length c.push.new.self.items) (below_of (node_view c.args.node.now)) =
     subst (λ (f : Branches). IsLevel c.add_level.new.self.levels.items c.in_ok-below.below (length c.push.new.self.items) f) c.below_of.ensures c.in_ok-below.ensures.level in
-    let value : Puts c.in_ok-key.key (fields_of (node_view c.args.node.now)).value (record { found = c.rule_at-found.result; below = c.in_ok-below.below }) (finding_of c.args.level.now)
+    let value : Puts c.in_ok-key.key (fields_of (node_view c.args.node.now)).value
+    (record { found = c.rule_at-found.result; below = c.in_ok-below.below }) (finding_of c.args.level.now)
     (finding_of c.put.new.self) =
     subst (λ (v : Option (List ℕ)). Puts c.in_ok-key.key v (record { found = c.rule_at-found.result; below = c.in_ok-below.below }) (finding_of c.args.level.now)
     (finding_of c.put.new.self))
     c.in_ok-value.ensures c.in_ok-put.ensures in
-    node_put (node_view c.args.node.now) c.args.self.now.names.items c.push.new.self.items c.add_level.new.self.levels.items (finding_of c.args.level.now) (finding_of c.put.new.self)
+    node_put (node_view c.args.node.now) c.args.self.now.names.items c.push.new.self.items c.add_level.new.self.levels.items
+    (finding_of c.args.level.now) (finding_of c.put.new.self)
     c.rule_at-found.result c.in_ok-below.below c.in_ok-of.field-0 (search rules) c.in_ok-push.ensures.items level
-    (subst (λ (k : List ℕ). Puts k (fields_of (node_view c.args.node.now)).value (record { found = c.rule_at-found.result; below = c.in_ok-below.below }) (finding_of c.args.level.now)
+    (subst (λ (k : List ℕ). Puts k (fields_of (node_view c.args.node.now)).value
+    (record { found = c.rule_at-found.result; below = c.in_ok-below.below }) (finding_of c.args.level.now)
     (finding_of c.put.new.self))
     c.in_ok-key.ensures value)
