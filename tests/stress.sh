@@ -1,7 +1,7 @@
 #!/usr/bin/env bash
 # Runs long made-up scripts through the real program by four workers over 64 cells, and reads with a plain program whether each run
 # is a lawful one with its totals (tests/run_check.py). Then it plants faults into what the last run printed, each of which has to be found.
-# A shorter run is judged by `ratelimit audit` too, whole and with one byte changed at each of 100 places.
+# A run of 1,000,000 checks is judged by `ratelimit audit`, and a shorter one too, whole and with one byte changed at each of 100 places.
 # Usage: tests/stress.sh [RUNS of 700,000 lines, 15 unless given: more than 10,000,000 checks]
 # It is outside of the gate, takes some minutes and needs python3. The last line of a run says how many checks it had.
 set -u
@@ -9,7 +9,8 @@ here=$(cd "$(dirname "${BASH_SOURCE[0]}")" && pwd)
 top=$(cd "$here/.." && pwd)
 runs=${1:-15}
 lines=${STRESS_LINES:-700000}
-# Most checks of these scripts are refused, and each refusal costs `audit` a pass over the whole run, so it judges runs of so many lines.
+# The checks of the long run that is audited, and the lines of the one whose bytes are changed.
+checks=${STRESS_CHECKS:-1000000}
 audited=${STRESS_AUDITED:-10000}
 work=$(mktemp -d) || exit 1
 trap 'rm -rf "$work"' EXIT
@@ -56,15 +57,24 @@ audit() {
     "$top/ratelimit" audit --run "$1" --workers 4 --cells 64 "$work/config.json" <"$work/script"
 }
 
-python3 "$here/stress_script.py" 2 "$audited" "$work/config.json" "$work/script" || exit 1
-printf 'to be audited: '
-drive 4 64 || failed=1
-said=$(audit "$work/out")
-printf 'audit: %s\n' "$said"
-[ "$said" = "{\"lawful\":true,\"records\":$(wc -l <"$work/script")}" ] || {
-    printf 'FAILED audit of %s lines\n' "$audited"
-    failed=1
+# run_and_audit: a run of the script, which has to be lawful
+run_and_audit() {
+    local lines said
+    lines=$(wc -l <"$work/script")
+    printf 'to be audited: '
+    drive 4 64 || failed=1
+    said=$(audit "$work/out")
+    printf 'audit of %s lines: %s\n' "$lines" "$said"
+    [ "$said" = "{\"lawful\":true,\"records\":$lines}" ] || {
+        printf 'FAILED audit of %s lines\n' "$lines"
+        failed=1
+    }
 }
+
+python3 "$here/stress_script.py" 3 "$checks" "$work/config.json" "$work/script" short || exit 1
+run_and_audit
+python3 "$here/stress_script.py" 2 "$audited" "$work/config.json" "$work/script" || exit 1
+run_and_audit
 # With another byte it may be lawful only where the plain reader finds no fault either, as where another worker may have had a line.
 lawful=0
 for place in $(seq 100); do
