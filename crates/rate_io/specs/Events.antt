@@ -18,6 +18,10 @@ pub data Event : Type 0 where
   wrote : List ℕ → Event
   -- the write of this piece failed; a first part of it may have been written
   write_failed : List ℕ → Event
+  -- what was written before has reached what stands behind the sink
+  flushed : Event
+  -- it was to, and some of it may not have
+  flush_failed : Event
 
 -- one call for a file: its name, and the reads of its content; a file that can't be opened has one read, which failed
 abbrev pub FileEvent : Type 0
@@ -50,9 +54,10 @@ has_failed = list_any is_read_failed
 
 abbrev pub is_write_failed : Event → Bool
 is_write_failed (write_failed piece) = true
+is_write_failed flush_failed = true
 is_write_failed other = false
 
--- a write failed
+-- a write or a flush failed
 abbrev pub has_write_failed : List Event → Bool
 has_write_failed = list_any is_write_failed
 
@@ -74,6 +79,11 @@ read_event (Err e) room = read_failed
 abbrev pub write_event : {T E : Type 0} → Result T E → List ℕ → Event
 write_event (Ok done) piece = wrote piece
 write_event (Err e) piece = write_failed piece
+
+-- the event of a flush that answered so
+abbrev pub flush_event : {T E : Type 0} → Result T E → Event
+flush_event (Ok done) = flushed
+flush_event (Err e) = flush_failed
 
 -- a history grew by these events, of which this holds
 pub record Grew {E : Type 0} (old new : List E) (P : List E → Type 0) : Type 0 where

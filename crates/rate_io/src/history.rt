@@ -29,6 +29,10 @@ pub enum Call<'a> {
     Wrote(&'a [u8]),
     /// The write of this piece failed.
     WriteFailed(&'a [u8]),
+    /// What was written before was flushed.
+    Flushed,
+    /// A flush failed.
+    FlushFailed,
 }
 
 impl<'a> Call<'a> {

@@ -4,8 +4,8 @@ ghost use Rattle.rate_io.specs.Events.{pieces_written, wrote};
 use crate::{Call, Failed, History, Sink};
 use std::alloc::Global;
 
-/// A sink in memory. Calls are counted from 1, and those with a number in `failing` fail and write nothing. A call
-/// that finds no memory fails likewise.
+/// A sink in memory, in which nothing waits. Its writes and flushes are counted together from 1, and those with a number in
+/// `failing` fail; such a write writes nothing. A write that finds no memory fails likewise.
 #[derive(Drop)]
 pub struct MemSink {
     alloc: Global,
@@ -84,6 +84,17 @@ impl Sink for MemSink {
             self.history = self.history.and(&Call::WriteFailed(piece));
             return Err(Failed);
         }
+        Ok(())
+    }
+
+    fn flush(&mut self) -> Result<(), Failed> {
+        self.calls = self.calls.saturating_add(1);
+        if self.failing.contains(&self.calls) {
+            self.faults = self.faults.saturating_add(1);
+            self.history = self.history.and(&Call::FlushFailed);
+            return Err(Failed);
+        }
+        self.history = self.history.and(&Call::Flushed);
         Ok(())
     }
 }

@@ -1,14 +1,15 @@
 // The adapters over the real input, output and files. They tell no content; what std answers is trusted.
 ghost use Rattle.std.specs.Prelude.{◌≡◌, ◌∷◌, [], ◌++◌, None, OnOk, OnErr};
+ghost use Rattle.std.specs.Io.Buffered.{writer_buffer, writer_contents};
 ghost use Rattle.std.specs.Io.KnownBytes as known;
 ghost use Rattle.rate_io.specs.Causes.{HasCause};
 ghost use Rattle.rate_io.specs.Content.{Appends, AppendsPart};
-ghost use Rattle.rate_io.specs.Events.{write_event};
+ghost use Rattle.rate_io.specs.Events.{write_event, flush_event};
 
 use crate::{Call, Failed, FileCall, FileFault, FileHistory, Files, History, Sink, Source};
 use std::alloc::Global;
 use std::fs;
-use std::io::{Read, Write};
+use std::io::{BufWriter, Read, Write};
 
 /// A reader of std.
 #[derive(Drop)]
@@ -55,17 +56,18 @@ impl<R: Read + Drop> Source for ReaderSource<R> {
     }
 }
 
-/// A writer of std. A write that takes nothing of a piece that isn't empty is a fault.
+/// A writer of std behind a buffer, in which what it took waits until that is full or flushed. A write that takes nothing of a piece
+/// that isn't empty is a fault.
 #[derive(Drop)]
 pub struct WriterSink<W: Write + Drop> {
-    inner: W,
+    pub(crate) inner: BufWriter<W>,
     history: History,
     faults: u64,
 }
 
 impl<W: Write + Drop> WriterSink<W> {
     /// The sink that this writer is.
-    pub fn new(inner: W) -> Self
+    pub fn new(inner: BufWriter<W>) -> Self
         ensures history { ⟦<WriterSink<W> as Sink>⟧.history result ≡ [] }
         ensures faults { ⟦<WriterSink<W> as Sink>⟧.faults result ≡ 0 }
     {
@@ -84,13 +86,13 @@ impl<W: Write + Drop> Sink for WriterSink<W> {
 
     ghost faults = { λ s. s.faults };
 
-    // Beside what each sink promises, the writer itself took the piece, where it tells what it holds.
+    // Beside what each sink promises, the writer and its buffer took the piece, where the writer tells what it holds.
     fn write(&mut self, piece: &[u8]) -> Result<(), Failed>
         ensures bytes { OnOk result (Appends None None piece.now) }
         ensures part { OnErr result (AppendsPart None None piece.now) }
         ensures event { self.new.history.events ≡ self.old.history.events ++ write_event result piece.now ∷ [] }
         ensures cause { HasCause self.old.faults self.new.faults result }
-        ensures inner { OnOk result (known.Appends (W.contents self.old.inner) (W.contents self.new.inner) piece.now) }
+        ensures inner { OnOk result (known.Appends (writer_contents W.contents self.old.inner) (writer_contents W.contents self.new.inner) piece.now) }
     {
         match self.inner.write_all(piece) {
             Ok(()) => {
@@ -100,6 +102,27 @@ impl<W: Write + Drop> Sink for WriterSink<W> {
             Err(_) => {
                 self.faults = self.faults.saturating_add(1);
                 self.history = self.history.and(&Call::WriteFailed(piece));
+                Err(Failed)
+            }
+        }
+    }
+
+    // Beside what each sink promises, with Ok nothing waits in the buffer, and it and the writer lose nothing and take nothing else.
+    fn flush(&mut self) -> Result<(), Failed>
+        ensures bytes { ⟦<WriterSink<W> as Sink>⟧.written self.new ≡ ⟦<WriterSink<W> as Sink>⟧.written self.old }
+        ensures event { self.new.history.events ≡ self.old.history.events ++ flush_event result ∷ [] }
+        ensures cause { HasCause self.old.faults self.new.faults result }
+        ensures empty { OnOk result (writer_buffer self.new.inner ≡ []) }
+        ensures inner { known.Keeps (writer_contents W.contents self.old.inner) (writer_contents W.contents self.new.inner) }
+    {
+        match self.inner.flush() {
+            Ok(()) => {
+                self.history = self.history.and(&Call::Flushed);
+                Ok(())
+            }
+            Err(_) => {
+                self.faults = self.faults.saturating_add(1);
+                self.history = self.history.and(&Call::FlushFailed);
                 Err(Failed)
             }
         }

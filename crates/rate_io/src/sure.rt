@@ -89,4 +89,9 @@ impl Sink for SureSink {
         self.history = self.history.and(&Call::Wrote(piece));
         Ok(())
     }
+
+    fn flush(&mut self) -> Result<(), Failed> {
+        self.history = self.history.and(&Call::Flushed);
+        Ok(())
+    }
 }

@@ -7,7 +7,7 @@ use crate::{
 };
 use rate_types::{Blob, Word};
 use std::alloc::Global;
-use std::io::{Cursor, Read, Write};
+use std::io::{BufWriter, Cursor, Read, Write};
 use std::net::{Ipv4Addr, TcpStream};
 use std::test::Fail;
 
@@ -46,9 +46,10 @@ fn a_failed_write_keeps_what_was_written(rt: HostRuntime) -> Result<(), Fail> {
         sink.write(b"ab"),
         sink.write(b"cd"),
         sink.write(b"ef"),
-        sink.write(b"gh"),
+        sink.flush(),
+        sink.flush(),
     ];
-    assert_eq!(rt; answers, [Ok(()), Err(Failed), Ok(()), Err(Failed)]);
+    assert_eq!(rt; answers, [Ok(()), Err(Failed), Ok(()), Err(Failed), Ok(())]);
     assert_eq!(rt; sink.bytes(), b"abef".as_slice());
     assert_eq!(rt; sink.pieces().len(), 2);
     assert_eq!(rt; sink.pieces()[1].as_slice(), b"ef".as_slice());
@@ -130,9 +131,21 @@ fn sure_objects_and_adapters_pass_the_bytes_on(rt: HostRuntime) -> Result<(), Fa
     let mut sink = SureSink::new(alloc);
     assert_eq!(rt; sink.write(b"ab"), Ok(()));
     assert_eq!(rt; sink.write(b"cd"), Ok(()));
+    assert_eq!(rt; sink.flush(), Ok(()));
     assert_eq!(rt; sink.into_bytes()?.as_slice(), b"abcd".as_slice());
-    let mut writer = WriterSink::new(Vec::new(alloc));
+    let mut writer = WriterSink::new(BufWriter::new(alloc, Vec::new(alloc))?);
     assert_eq!(rt; writer.write(b"ab"), Ok(()));
+    Ok(())
+}
+
+#[test]
+fn what_a_writer_keeps_is_flushed(rt: HostRuntime) -> Result<(), Fail> {
+    let alloc = rt.alloc();
+    let mut sink = WriterSink::new(BufWriter::new(alloc, Vec::new(alloc))?);
+    assert_eq!(rt; sink.write(b"ab"), Ok(()));
+    assert_eq!(rt; sink.inner.get_ref().as_slice(), b"".as_slice());
+    assert_eq!(rt; sink.flush(), Ok(()));
+    assert_eq!(rt; sink.inner.get_ref().as_slice(), b"ab".as_slice());
     Ok(())
 }
 
