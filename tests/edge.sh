@@ -271,8 +271,27 @@ judge input-is-a-folder $? 4 "$none"
 run drive "$config" <"$script" 2>"$err" >&-
 judge output-closed $? 5 -
 
+# A small output waits in the buffer, so that it is the flush at the end that fails; a large one fails in a write.
 run drive "$config" <"$script" 2>"$err" >/dev/full
-judge output-full $? 5 -
+judge output-full $? 5 - 'ratelimit: write failed'
+
+run --version </dev/null 2>"$err" >/dev/full
+judge version-output-full $? 5 - 'ratelimit: write failed'
+
+run lookup "$config" <"$top/examples/requests.jsonl" 2>"$err" >/dev/full
+judge lookup-output-full $? 5 - 'ratelimit: write failed'
+
+run pool --pools "$top/examples/pool.json" "$top/examples/reports.jsonl" </dev/null 2>"$err" >/dev/full
+judge pool-output-full $? 5 - 'ratelimit: write failed'
+
+run audit --run "$none" "$config" </dev/null 2>"$err" >/dev/full
+judge audit-output-full $? 5 - 'ratelimit: write failed'
+
+run serve --port 0 --connections 0 "$config" </dev/null 2>"$err" >/dev/full
+judge serve-output-full $? 5 - 'ratelimit: write failed'
+
+yes '' | head -n 10000 | run drive "$config" 2>"$err" >/dev/full
+judge large-output-full "${PIPESTATUS[2]}" 5 - 'ratelimit: write failed'
 
 # With nothing to write, the closed output isn't noticed.
 run drive "$config" </dev/null 2>"$err" >&-

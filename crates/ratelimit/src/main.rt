@@ -1,4 +1,5 @@
-//! The program: the real files, input, output, sockets and clock, the text of the exit on standard error, and the exit status.
+//! The program: the real files, input, output behind a buffer, sockets and clock, the text of the exit on standard error, and the exit
+//! status.
 #![tactic(auto)]
 
 ghost use Rattle.std.specs.Prelude.{◌≡◌};
@@ -10,11 +11,15 @@ use rate_types::{Names, Word};
 use ratelimit_cli::{Exit, ratelimit};
 use std::alloc::Global;
 use std::hash::RandomState;
+use std::io::BufWriter;
 use std::process::ExitCode;
 use std::sync::Wait;
 use std::thread::Threads;
 use std::{env, io};
 use worker_run::Open;
+
+// How many bytes of the output wait at most before they are handed to the system.
+const MOST_WAITING: usize = 65_536;
 
 fn words_of(rt: &HostRuntime, alloc: Global) -> io::Result<Names> {
     let mut words = Vec::new(alloc);
@@ -34,7 +39,8 @@ fn run<R: Threads + Wait + Sync>(
     let words = words_of(rt, alloc)?;
     let mut files = HostFiles::new(rt.clone()?);
     let mut source = ReaderSource::new(rt.stdin());
-    let mut sink = WriterSink::new(rt.stdout());
+    let stdout = BufWriter::with_capacity(alloc, MOST_WAITING, rt.stdout())?;
+    let mut sink = WriterSink::new(stdout);
     let mut listen = StreamListen::new(rt.clone()?);
     let clock = HostClock::new(rt.clone()?);
     Ok(ratelimit(

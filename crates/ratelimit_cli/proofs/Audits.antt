@@ -17,7 +17,7 @@ use Rattle.ratelimit_cli.specs.Jobs.{AskedFile, asked, files_of}
 use Rattle.ratelimit_cli.specs.World.{World, AreFilesOf, StopsAt}
 use Rattle.ratelimit_cli.specs.Configured.{FilesSay, IsInput}
 use Rattle.ratelimit_cli.specs.Audited.{setup_of}
-use Rattle.ratelimit_cli.specs.Parts.{IsOfFiles, IsOfVerdict}
+use Rattle.ratelimit_cli.specs.Parts.{IsOfFiles, IsOfOutput, IsOfVerdict, Sinks}
 use Rattle.ratelimit_cli.specs.Exits.{IsOutput}
 use Rattle.ratelimit_cli.specs.declared.command.Command.TheVariants.{Audit}
 use Rattle.ratelimit_cli.specs.declared.command.AuditJob.{AuditJob}
@@ -82,6 +82,20 @@ stops_behind content first file calls all files reads P read last stops = record
   last = last;
   stops = stops;
 }
+
+-- how writing ended, where pieces of which this holds are pieces of which that holds
+module _ (This That : List (List ℕ) → Type 0) (means : (pieces : List (List ℕ)) → This pieces → That pieces) (s : Sinks) (writes : List Event) where
+  pub output_means : (e : Exit) → IsOfOutput This s e writes → IsOfOutput That s e writes
+  output_means Done h = record { pieces = h.pieces; are = means h.pieces h.are; each = h.each; bytes = h.bytes }
+  output_means WriteFault h = (record { pieces = h.0.pieces; are = means h.0.pieces h.0.are; each = h.0.each; bytes = h.0.bytes }, h.1)
+  output_means OutOfMemory h = h
+  output_means Usage h = absurd h
+  output_means (ConfigRefused at) h = absurd h
+  output_means TooLong h = absurd h
+  output_means ReadFault h = absurd h
+  output_means ListenFault h = absurd h
+  output_means (SettingsRefused refused) h = absurd h
+  output_means (FileFault index) h = absurd h
 
 -- a job has as many configuration files as names of them, and the run stands behind them
 module _ (content : List ℕ → Option (List ℕ)) (job : AuditJob) (calls : List FileEvent) (configs : List (List ℕ)) (run : List ℕ)

@@ -7,13 +7,14 @@ use Rattle.std.proofs.lemmas.List.Folds.{list_any-append}
 use Rattle.rate_types.specs.declared.limits.TheConstants.{MOST_LINES}
 use Rattle.rate_types.specs.declared.refused.At.{At}
 use Rattle.rate_types.specs.declared.refused.Refused.{Refused}
-use Rattle.rate_io.specs.Events.{Event, wrote, write_failed, FileEvent, given, has_failed, has_write_failed, is_write_failed}
+use Rattle.rate_io.specs.Events.{Event, wrote, write_failed, flush_failed, FileEvent, Grew, given, has_failed, has_write_failed, is_write_failed}
 use Rattle.text_lines.specs.Lines.{cut}
 use Rattle.config_json.specs.Reading.{reading_of}
 use Rattle.quota_settings.specs.Covering.{AllSettings}
 use Rattle.quota_stream.specs.Tasks.{IsShort}
 use Rattle.quota_stream.specs.Runs.{HasTooLong}
 use Rattle.quota_pools.specs.Pools.{AllPools}
+use Rattle.http_serve.specs.Links.{ends_of}
 use Rattle.ratelimit_cli.specs.Words.{command_of}
 use Rattle.ratelimit_cli.specs.Jobs.{AskedFile, files_of, configs_among, ReadsConfigs}
 use Rattle.ratelimit_cli.specs.declared.command.Command.{Command}
@@ -21,10 +22,10 @@ use Rattle.ratelimit_cli.specs.declared.command.Command.TheVariants.{Plain, Quot
 use Rattle.ratelimit_cli.specs.declared.command.ThreadJob.TheVariants.{Drive, Serve, Gen}
 use Rattle.ratelimit_cli.specs.declared.command.QuotaJob.{QuotaJob}
 use Rattle.ratelimit_cli.specs.declared.command.PoolJob.{PoolJob}
-use Rattle.ratelimit_cli.specs.World.{World, AreFilesOf, AreWithin, StopsAt, IsLong, IsUnread, WroteUpTo}
+use Rattle.ratelimit_cli.specs.World.{World, AreFilesOf, AreWithin, StopsAt, IsLong, IsUnread, all_written, WroteUpTo}
 use Rattle.ratelimit_cli.specs.Configured.{FilesSay}
 use Rattle.ratelimit_cli.specs.Exits.{HasNoCause, Explains, ExplainsCall, IsExitOf, AreLawful}
-use Rattle.ratelimit_cli.specs.Served.{Listening, has_listen_failed, ExplainsServe}
+use Rattle.ratelimit_cli.specs.Served.{Listening, has_listen_failed, port_line, end_lines, ExplainsServe}
 use Rattle.ratelimit_cli.specs.declared.command.ServeJob.{ServeJob}
 use Rattle.ratelimit_cli.specs.Replayed.{QuotaSays, AreReplayable}
 use Rattle.ratelimit_cli.specs.Pooled.{PoolSays, ArePoolable}
@@ -69,9 +70,17 @@ or_true true = refl
 or_true false = refl
 
 write_fails : (pieces : List (List ℕ)) (writes : List Event) → WroteUpTo pieces writes → has_write_failed writes ≡ true
-write_fails pieces writes h =
+write_fails pieces writes (inl h) =
     ap has_write_failed h.each ∙ list_any-append is_write_failed (map wrote (take h.count pieces)) (write_failed h.piece ∷ [])
     ∙ or_true (has_write_failed (map wrote (take h.count pieces)))
+write_fails pieces writes (inr h) =
+    ap has_write_failed h ∙ list_any-append is_write_failed (map wrote pieces) (flush_failed ∷ []) ∙ or_true (has_write_failed (map wrote pieces))
+
+-- and so where other pieces were written before
+later_fails : (before pieces : List (List ℕ)) (writes : List Event) → Grew (all_written before) writes (WroteUpTo pieces) → has_write_failed writes ≡ true
+later_fails before pieces writes h =
+    ap has_write_failed h.grew ∙ list_any-append is_write_failed (all_written before) h.events
+    ∙ ap (λ (b : Bool). has_write_failed (all_written before) || b) (write_fails pieces h.events h.are) ∙ or_true (has_write_failed (all_written before))
 
 -- files that are no configuration's are those of another command
 lawful_at : (command : Command) (files : List (List ℕ)) → ReadsConfigs command → AreLawful command files → (at : At)
@@ -162,7 +171,8 @@ module _ (w : World) (no : HasNoCause w) where
   complete_serve : (l : Listening) (job : ServeJob) → has_listen_failed l.listens ≡ false → (e : Exit) → ExplainsServe e w l job → (e ≡ Done) ⊎ (e ≡ OutOfMemory)
   complete_serve l job heard Done h = inl (λ i. Done)
   complete_serve l job heard OutOfMemory h = inr (λ i. OutOfMemory)
-  complete_serve l job heard WriteFault (inl front, rose) = absurd (true≢false (sym (write_fails _ w.writes front.each) ∙ no.written))
+  complete_serve l job heard WriteFault (inl front, rose) =
+      absurd (true≢false (sym (later_fails (port_line front.port ∷ []) (end_lines 0 (ends_of front.services)) w.writes front.each) ∙ no.written))
   complete_serve l job heard WriteFault (inr port, rose) = absurd (port_fails _ port.each)
   complete_serve l job heard ListenFault h = absurd (true≢false (sym h.1 ∙ heard))
   complete_serve l job heard Usage h = absurd h

@@ -1,4 +1,5 @@
 pub mod Pieces
+pub mod Flushing
 pub mod Told
 pub mod Explaining
 pub mod Pooling

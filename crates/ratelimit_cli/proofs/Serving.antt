@@ -1,15 +1,15 @@
 -- From what the parts of `serve` answer to what its exit says.
-use Rattle.std.proofs.Common.{◌≡◌, ℕ, zero, suc, ◌+◌, ◌≤◌, ◌<◌, ◌||◌, List, [], ◌∷◌, ◌++◌, length, map, take, replicate, Bool, true, false, Option, Some, inl, inr}
+use Rattle.std.proofs.Common.{◌≡◌, ℕ, zero, suc, ◌+◌, ◌≤◌, ◌<◌, ◌||◌, List, [], ◌∷◌, ◌++◌, length, take, replicate, Bool, true, false, Option, Some, inl, inr}
 use Rattle.std.proofs.Common.{refl, sym, ap, ◌∙◌, subst, arith, append_assoc}
-use Rattle.std.specs.Prelude.{slice_get, cond}
+use Rattle.std.specs.Prelude.{cond}
 use Rattle.std.specs.List.{concat, filter_map, count_by, list_any}
-use Rattle.std.proofs.lemmas.List.{append-nil, map-append}
+use Rattle.std.proofs.lemmas.List.{append-nil}
 use Rattle.std.proofs.lemmas.List.Elements.{filter_map-append}
 use Rattle.std.proofs.lemmas.List.Sums.{sum_by-append, sum_by-cons}
 use Rattle.std.proofs.lemmas.List.Folds.{list_any-append}
 use Rattle.rate_io.specs.Causes.{Rose}
 use Rattle.rate_io.specs.Content.{Appends}
-use Rattle.rate_io.specs.Events.{Event, wrote, write_failed, since}
+use Rattle.rate_io.specs.Events.{Event, since}
 use Rattle.rate_io.specs.Listeners.{ListenEvent, bound, accepted, accept_failed, is_accepted, accepted_count, number_back}
 use Rattle.descriptor_tree.specs.Trees.{DomainTree}
 use Rattle.http_endpoint.specs.declared.link_end.LinkEnd.{LinkEnd}
@@ -19,9 +19,9 @@ use Rattle.http_serve.specs.Links.{IsUnused, accepts, given_back, ends_of}
 use Rattle.http_limiter.specs.Limited.{ServedByLimiter}
 use Rattle.http_limiter.specs.declared.limited.Setup.{Setup}
 use Rattle.ratelimit_cli.specs.Output.{AppendsFront, with_line_feed}
-use Rattle.ratelimit_cli.specs.World.{World, WroteUpTo}
+use Rattle.ratelimit_cli.specs.World.{World, all_written, WroteUpTo}
 use Rattle.ratelimit_cli.specs.Exits.{Explains, ExplainsCall}
-use Rattle.ratelimit_cli.specs.Served.{Listening, is_listen_failed, has_listen_failed, port_line, end_lines, serve_lines, HasBegun, ExplainsServe, PortWritten}
+use Rattle.ratelimit_cli.specs.Served.{Listening, is_listen_failed, has_listen_failed, port_line, end_lines, port_line_written, HasBegun, ExplainsServe, PortWritten}
 use Rattle.ratelimit_cli.specs.Serving.{Found, world_of, EndsServing}
 use Rattle.ratelimit_cli.specs.Parts.{Sinks, Wrote, WroteFront, IsOfOutput}
 use Rattle.ratelimit_cli.specs.declared.command.ServeJob.{ServeJob}
@@ -120,14 +120,6 @@ front_both first pieces a b c p q = (
   appends_more a b c first q.0 p q.3,
 )
 
-pub up_to_both : (first : List ℕ) (pieces : List (List ℕ)) (writes : List Event) → WroteUpTo pieces writes → WroteUpTo (first ∷ pieces) (wrote first ∷ writes)
-up_to_both first pieces writes h = record {
-  count = suc h.count;
-  piece = h.piece;
-  next = h.next;
-  each = ap (λ (l : List Event). wrote first ∷ l) h.each;
-}
-
 pub length_front : {A : Type 0} (k : ℕ) (xs : List A) → k ≤ length xs → length (take k xs) ≡ k
 length_front zero xs h = refl
 length_front (suc k) [] h = absurd (omega arith)
@@ -135,7 +127,7 @@ length_front (suc k) (x ∷ xs) h = ap suc (length_front k xs (omega arith))
 
 pub port_written : (f : Found) (s : Sinks) (writes : List Event) (port : ℕ) → Wrote (λ pieces. pieces ≡ port_line port ∷ []) s writes → PortWritten (world_of f s writes) port
 port_written f s writes port h = record {
-  each = h.each ∙ ap (map wrote) h.are;
+  each = h.each ∙ ap all_written h.are;
   bytes = subst (λ (ps : List (List ℕ)). Appends s.written s.after (concat ps)) h.are h.bytes;
 }
 
@@ -147,8 +139,8 @@ module _ (f : Found) (job : ServeJob) (config : List DomainTree) (l : Listening)
   abbrev W : World
   W = world_of f (record { written = a; after = c; faults = (first_faults.0, faults.1) }) (first ++ writes)
 
-  firsts : first ≡ wrote (port_line port) ∷ []
-  firsts = h.each ∙ ap (map wrote) h.are
+  firsts : first ≡ port_line_written port
+  firsts = h.each ∙ ap all_written h.are
 
   first_bytes : Appends a b (port_line port)
   first_bytes = subst (λ (bs : List ℕ). Appends a b bs) (append-nil (port_line port)) (subst (λ (ps : List (List ℕ)). Appends a b (concat ps)) h.are h.bytes)
@@ -173,7 +165,7 @@ module _ (f : Found) (job : ServeJob) (config : List DomainTree) (l : Listening)
     services = services;
     count = count;
     listened = record { more = more; events = events; served = served };
-    each = ap (λ (x : List Event). x ++ writes) firsts ∙ ap (λ (y : List Event). wrote (port_line port) ∷ y) (w.each ∙ ap (map wrote) w.are);
+    each = ap (λ (x : List Event). x ++ writes) firsts ∙ ap (λ (y : List Event). port_line_written port ++ y) (w.each ∙ ap all_written w.are);
     bytes = wrote_both (port_line port) (end_lines 0 (ends_of services)) a b c first_bytes (subst (λ (ps : List (List ℕ)). Appends b c (concat ps)) w.are w.bytes);
   }
   serve_exit WriteFault (services, count, served, w, rose) = (
@@ -184,8 +176,11 @@ module _ (f : Found) (job : ServeJob) (config : List DomainTree) (l : Listening)
       services = services;
       count = count;
       listened = record { more = more; events = events; served = served };
-      each = subst (λ (x : List Event). WroteUpTo (serve_lines port (ends_of services)) (x ++ writes)) (sym firsts)
-          (up_to_both (port_line port) (end_lines 0 (ends_of services)) writes (subst (λ (ps : List (List ℕ)). WroteUpTo ps writes) w.are w.each));
+      each = record {
+        events = writes;
+        grew = ap (λ (x : List Event). x ++ writes) firsts;
+        are = subst (λ (ps : List (List ℕ)). WroteUpTo ps writes) w.are w.each;
+      };
       bytes = front_both (port_line port) (end_lines 0 (ends_of services)) a b c first_bytes (subst (λ (ps : List (List ℕ)). AppendsFront b c (concat ps)) w.are w.bytes);
     }),
     rises rose,

@@ -4,7 +4,7 @@ use Rattle.std.specs.List.{concat}
 use Rattle.rate_types.specs.declared.refused.At.{At}
 use Rattle.rate_io.specs.Causes.{Rose}
 use Rattle.rate_io.specs.Content.{Told, Appends}
-use Rattle.rate_io.specs.Events.{wrote, given, has_failed, has_write_failed}
+use Rattle.rate_io.specs.Events.{given, has_failed, has_write_failed}
 use Rattle.config_json.specs.Reading.{reading_of}
 use Rattle.ratelimit_cli.specs.Output.{AppendsFront}
 use Rattle.ratelimit_cli.specs.Words.{command_of}
@@ -18,7 +18,7 @@ use Rattle.ratelimit_cli.specs.declared.exit.Exit.{Exit}
 use Rattle.ratelimit_cli.specs.declared.exit.Exit.TheVariants.{Done, Usage, ConfigRefused, TooLong, ReadFault, WriteFault, FileFault}
 use Rattle.ratelimit_cli.specs.declared.exit.Exit.TheVariants.{OutOfMemory, ListenFault, SettingsRefused}
 use Rattle.ratelimit_cli.specs.World.{World, IsTooLong, HasLongFile, FileFails, AreWithin}
-use Rattle.ratelimit_cli.specs.World.{NoFileAsked, NothingRead, NothingWritten, IsCommand, WroteUpTo}
+use Rattle.ratelimit_cli.specs.World.{NoFileAsked, NothingRead, NothingWritten, IsCommand, all_written, WroteUpTo}
 use Rattle.ratelimit_cli.specs.Configured.{AreRefused, IsConfigured, IsMade}
 use Rattle.ratelimit_cli.specs.Served.{Listening, NothingListened, has_listen_failed, ExplainsServe}
 use Rattle.ratelimit_cli.specs.Replayed.{IsSettingsRefused, HasLongStream, IsReplayed, AreReplayable}
@@ -44,15 +44,15 @@ IsOutput w (Audit job) pieces = IsAudited w job pieces
 IsOutput w (Threads (Gen number checks)) pieces = IsFixed w (Threads (Gen number checks)) (load_text number checks) pieces
 IsOutput w command pieces = IsMade w command pieces
 
--- The output of a command was written, each piece by one call, and nothing else.
+-- The output of a command was written, each piece by one call, and then flushed once, and nothing else.
 pub record Writes (w : World) : Type 0 where
   pub command : Command
   pub pieces : List (List ℕ)
   pub output : IsOutput w command pieces
-  pub each : w.writes ≡ map wrote pieces
+  pub each : w.writes ≡ all_written pieces
   pub bytes : Appends w.written w.after (concat pieces)
 
--- only the first pieces of the output of a command were written
+-- only the first pieces of the output of a command were written, or all of them and the flush failed
 pub record WritesFront (w : World) : Type 0 where
   pub command : Command
   pub pieces : List (List ℕ)
@@ -66,7 +66,7 @@ AreLawful (Quota job) files = AreReplayable files
 AreLawful (Pool job) files = ArePoolable files
 AreLawful command files = (at : At) → reading_of (configs_among command files) ≡ Err at → ⊥
 
--- The words are a command; no read and no write failed; files and input are within the limits; and the bytes that came of the
+-- The words are a command; no read, no write and no flush failed; files and input are within the limits; and the bytes that came of the
 -- files have no refusal.
 pub record HasNoCause (w : World) : Type 0 where
   pub command : Command

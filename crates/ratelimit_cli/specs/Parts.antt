@@ -1,12 +1,12 @@
 -- Inside: what the parts of the top call answer: reading the files, the configuration and the input, and writing the output.
-use Rattle.std.specs.Prelude.{◌≡◌, ℕ, ◌<◌, ◌≤◌, List, [], ◌∷◌, length, map, true, Option, Some, Result, Ok, Err, All, ⊤}
+use Rattle.std.specs.Prelude.{◌≡◌, ℕ, ◌<◌, ◌≤◌, List, [], ◌∷◌, length, true, Option, Some, Result, Ok, Err, All, ⊤}
 use Rattle.std.specs.List.{concat}
 use Rattle.rate_types.specs.declared.refused.At.{At}
 use Rattle.rate_types.specs.declared.refused.Refused.{Refused}
 use Rattle.rate_types.specs.declared.limits.TheConstants.{MOST_LINES}
 use Rattle.rate_io.specs.Causes.{Rose}
 use Rattle.rate_io.specs.Content.{Told, Appends}
-use Rattle.rate_io.specs.Events.{Event, wrote, FileEvent, given, has_failed}
+use Rattle.rate_io.specs.Events.{Event, FileEvent, given, has_failed}
 use Rattle.text_lines.specs.Lines.{cut}
 use Rattle.descriptor_tree.specs.Trees.{DomainTree}
 use Rattle.drive_run.specs.Script.{script_of}
@@ -25,7 +25,7 @@ use Rattle.ratelimit_cli.specs.Lookup.{lookup_output}
 use Rattle.ratelimit_cli.specs.Quota.{settings_of, streams_output}
 use Rattle.ratelimit_cli.specs.Pooled.{pools_of}
 use Rattle.ratelimit_cli.specs.Jobs.{AskedFile}
-use Rattle.ratelimit_cli.specs.World.{StopsAt, IsLong, IsUnread, IsTooLong, WroteUpTo}
+use Rattle.ratelimit_cli.specs.World.{StopsAt, IsLong, IsUnread, IsTooLong, all_written, WroteUpTo}
 use Rattle.ratelimit_cli.specs.Configured.{IsRunText}
 use Rattle.ratelimit_cli.specs.declared.work.Work.{Work}
 use Rattle.ratelimit_cli.specs.declared.work.Work.TheVariants.{Lookup, Drive}
@@ -70,14 +70,14 @@ pub record IsOfVerdict (config : List DomainTree) (setup : Setup) (bytes run : L
   pub judged : IsVerdict config setup (script_of bytes) run verdict
   pub line : pieces ≡ with_line_feed (verdict_text verdict) ∷ []
 
--- pieces of which this holds were written
+-- pieces of which this holds were written, and flushed
 pub record Wrote (Is : List (List ℕ) → Type 0) (s : Sinks) (writes : List Event) : Type 0 where
   pub pieces : List (List ℕ)
   pub are : Is pieces
-  pub each : writes ≡ map wrote pieces
+  pub each : writes ≡ all_written pieces
   pub bytes : Appends s.written s.after (concat pieces)
 
--- the first of them were written
+-- the first of them were written, or all and not flushed
 pub record WroteFront (Is : List (List ℕ) → Type 0) (s : Sinks) (writes : List Event) : Type 0 where
   pub pieces : List (List ℕ)
   pub are : Is pieces

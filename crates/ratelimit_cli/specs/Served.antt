@@ -1,9 +1,9 @@
 -- What the exits of `serve` say.
-use Rattle.std.specs.Prelude.{◌≡◌, ℕ, ◌+◌, ◌<◌, ◌⊎◌, List, [], ◌∷◌, length, map, Option, Some, Bool, true, false, Ok}
+use Rattle.std.specs.Prelude.{◌≡◌, ℕ, ◌+◌, ◌<◌, ◌⊎◌, List, [], ◌∷◌, ◌++◌, length, Option, Some, Bool, true, false, Ok}
 use Rattle.std.specs.List.{concat, list_any}
 use Rattle.rate_io.specs.Causes.{Rose}
 use Rattle.rate_io.specs.Content.{Appends}
-use Rattle.rate_io.specs.Events.{Event, wrote}
+use Rattle.rate_io.specs.Events.{Event, Grew}
 use Rattle.rate_io.specs.Listeners.{ListenEvent, bound, bind_failed, accepted, accept_failed, gave_back}
 use Rattle.descriptor_tree.specs.Trees.{DomainTree}
 use Rattle.http_endpoint.specs.ServeLines.{listening_line, link_end_line}
@@ -13,7 +13,7 @@ use Rattle.http_serve.specs.Links.{ends_of}
 use Rattle.http_limiter.specs.Limited.{ServedByLimiter}
 use Rattle.ratelimit_cli.specs.Output.{AppendsFront, with_line_feed}
 use Rattle.ratelimit_cli.specs.Words.{command_of}
-use Rattle.ratelimit_cli.specs.World.{World, NothingRead, NothingWritten, WroteUpTo}
+use Rattle.ratelimit_cli.specs.World.{World, NothingRead, NothingWritten, all_written, WroteUpTo}
 use Rattle.ratelimit_cli.specs.Configured.{FilesSay}
 use Rattle.ratelimit_cli.specs.declared.command.Command.TheVariants.{Threads}
 use Rattle.ratelimit_cli.specs.declared.command.ThreadJob.TheVariants.{Serve}
@@ -66,7 +66,12 @@ pub record HasListened (l : Listening) (job : ServeJob) (config : List DomainTre
   pub events : l.listens ≡ bound job.port port ∷ more
   pub served : ServedByLimiter config job.setup l.bounds [] more services is_all
 
--- all connections were served, and the output was written, each line by one call
+-- the line of the port, written and flushed at once
+abbrev pub port_line_written : ℕ → List Event
+port_line_written port = all_written (port_line port ∷ [])
+
+-- all connections were served, and the output was written, each line by one call, and flushed: the port at once, the other lines at
+-- the end
 pub record ServesAll (w : World) (l : Listening) (job : ServeJob) : Type 0 where
   pub config : List DomainTree
   pub begun : HasBegun w job config
@@ -74,10 +79,10 @@ pub record ServesAll (w : World) (l : Listening) (job : ServeJob) : Type 0 where
   pub services : List Service
   pub count : length services ≡ job.connections
   pub listened : HasListened l job config port services true
-  pub each : w.writes ≡ map wrote (serve_lines port (ends_of services))
+  pub each : w.writes ≡ port_line_written port ++ all_written (end_lines 0 (ends_of services))
   pub bytes : Appends w.written w.after (concat (serve_lines port (ends_of services)))
 
--- all connections were served, and only the first lines were written
+-- all connections were served, and only the first lines were written behind the port's, or all of them and the flush failed
 pub record ServesFront (w : World) (l : Listening) (job : ServeJob) : Type 0 where
   pub config : List DomainTree
   pub begun : HasBegun w job config
@@ -85,10 +90,10 @@ pub record ServesFront (w : World) (l : Listening) (job : ServeJob) : Type 0 whe
   pub services : List Service
   pub count : length services ≡ job.connections
   pub listened : HasListened l job config port services true
-  pub each : WroteUpTo (serve_lines port (ends_of services)) w.writes
+  pub each : Grew (port_line_written port) w.writes (WroteUpTo (end_lines 0 (ends_of services)))
   pub bytes : AppendsFront w.written w.after (concat (serve_lines port (ends_of services)))
 
--- the port was had, and its line wasn't written; no connection was accepted
+-- the port was had, and its line wasn't written, or not flushed; no connection was accepted
 pub record PortUnwritten (w : World) (l : Listening) (job : ServeJob) : Type 0 where
   pub config : List DomainTree
   pub begun : HasBegun w job config
@@ -97,9 +102,9 @@ pub record PortUnwritten (w : World) (l : Listening) (job : ServeJob) : Type 0 w
   pub each : WroteUpTo (port_line port ∷ []) w.writes
   pub bytes : AppendsFront w.written w.after (concat (port_line port ∷ []))
 
--- the line of this port was written, and nothing else
+-- the line of this port was written and flushed, and nothing else
 pub record PortWritten (w : World) (port : ℕ) : Type 0 where
-  pub each : w.writes ≡ wrote (port_line port) ∷ []
+  pub each : w.writes ≡ port_line_written port
   pub bytes : Appends w.written w.after (concat (port_line port ∷ []))
 
 -- the port wasn't had, and nothing was written

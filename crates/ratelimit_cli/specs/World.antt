@@ -3,7 +3,7 @@ use Rattle.std.specs.Prelude.{◌≡◌, ℕ, ◌<◌, ◌≤◌, ◌⊎◌, Lis
 use Rattle.std.specs.Prelude.{Result, Ok, Err, ⊤}
 use Rattle.rate_types.specs.declared.limits.TheConstants.{MOST_BYTES, MOST_LINES}
 use Rattle.rate_io.specs.Content.{Told}
-use Rattle.rate_io.specs.Events.{Event, wrote, write_failed, FileEvent, given, has_ended, has_failed}
+use Rattle.rate_io.specs.Events.{Event, wrote, write_failed, flushed, flush_failed, FileEvent, given, has_ended, has_failed}
 use Rattle.text_lines.specs.Lines.{cut}
 use Rattle.ratelimit_cli.specs.Words.{command_of}
 use Rattle.ratelimit_cli.specs.Jobs.{AskedFile, files_of}
@@ -11,7 +11,7 @@ use Rattle.ratelimit_cli.specs.declared.command.Command.{Command}
 use Rattle.ratelimit_cli.specs.declared.exit.Exit.{Exit}
 use Rattle.ratelimit_cli.specs.declared.exit.Exit.TheVariants.{Done}
 
--- What the call found and did: the words; its calls for files, its reads of the source and its writes to the sink, as their
+-- What the call found and did: the words; its calls for files, its reads of the source and its writes and flushes of the sink, as their
 -- histories have them, in order; the counts of faults before and after; and what versions in memory tell besides of files,
 -- source and sink, before and after.
 pub record World : Type 0 where
@@ -89,7 +89,7 @@ NoFileAsked w = w.files ≡ []
 abbrev pub NothingRead : World → Type 0
 NothingRead w = w.reads ≡ []
 
--- nothing was written
+-- nothing was written, and nothing flushed
 abbrev pub NothingWritten : World → Type 0
 NothingWritten w = (w.writes ≡ []) × (w.after ≡ w.written)
 
@@ -97,12 +97,20 @@ NothingWritten w = (w.writes ≡ []) × (w.after ≡ w.written)
 abbrev pub IsCommand : World → Type 0
 IsCommand w = (command : Command) × (command_of w.words ≡ Some command)
 
+-- the calls that write these pieces whole: each of them by one call, and then one flush, all of which were done
+abbrev pub all_written : List (List ℕ) → List Event
+all_written pieces = map wrote pieces ++ flushed ∷ []
+
 -- so many of these pieces were written, each by one call, and then the write of the next one failed
-pub record WroteUpTo (pieces : List (List ℕ)) (writes : List Event) : Type 0 where
+pub record WroteSome (pieces : List (List ℕ)) (writes : List Event) : Type 0 where
   pub count : ℕ
   pub piece : List ℕ
   pub next : slice_get pieces count ≡ Some piece
   pub each : writes ≡ map wrote (take count pieces) ++ write_failed piece ∷ []
+
+-- the write of one of these pieces failed, after those before it; or all were written, each by one call, and the flush failed
+abbrev pub WroteUpTo : List (List ℕ) → List Event → Type 0
+WroteUpTo pieces writes = WroteSome pieces writes ⊎ (writes ≡ map wrote pieces ++ flush_failed ∷ [])
 
 -- the exit of steps that all succeeded, or of the first that failed
 abbrev pub exit_of : Result ⊤ Exit → Exit

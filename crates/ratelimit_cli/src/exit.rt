@@ -6,7 +6,7 @@ use rate_types::{At, Refused};
 /// How the program ended.
 #[derive(Drop)]
 pub enum Exit {
-    /// The run was written whole.
+    /// The output was written whole and flushed.
     Done,
     /// The words aren't a command.
     Usage,
@@ -17,7 +17,7 @@ pub enum Exit {
     TooLong,
     /// The input couldn't be read.
     ReadFault,
-    /// The output couldn't be written.
+    /// The output couldn't be written, or not flushed.
     WriteFault,
     /// The file of this index, from 0, couldn't be read.
     FileFault(u64),

@@ -37,7 +37,7 @@ fn load_line<R: Threads + Wait + Sync, G: Gate>(
     Ok(text)
 }
 
-/// Runs the load of a number by four workers, and writes the line of its summary. It asks for no file and reads nothing.
+/// Runs the load of a number by four workers, writes the line of its summary, and flushes. It asks for no file and reads nothing.
 pub fn run_gen<R: Threads + Wait + Sync, K: Sink, G: Gate>(
     rt: &R,
     alloc: Global,

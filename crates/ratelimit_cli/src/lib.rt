@@ -5,8 +5,8 @@
 //! reads of the source handed out, by the configuration of the files that were read, and of its totals; or what each
 //! descriptor of the requests finds (`specs/Lookup.antt`); or the output of each recorded stream, in order (`specs/Quota.antt`);
 //! or the summary of a made-up load (`specs/Generated.antt`); or the verdict on a printed run (`specs/Audited.antt`); or the help or the
-//! version. Every other exit says what was asked for, read and written before its cause, and that nothing was after it.
-//! `specs/Reports.antt` says which status and which line an exit has.
+//! version. A flush that was done stands behind them. Every other exit says what was asked for, read and written before its cause, and
+//! that nothing was after it. `specs/Reports.antt` says which status and which line an exit has.
 #![tactic(auto)]
 
 mod audit_words;

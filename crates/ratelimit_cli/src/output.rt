@@ -5,7 +5,7 @@ ghost use Rattle.rate_io.specs.Causes.{HasCause};
 ghost use Rattle.rate_io.specs.Content.{Appends};
 ghost use Rattle.reply_text.specs.Texts.{record_text_of, total_text_of};
 ghost use Rattle.rate_io.specs.Events.{Grew, wrote};
-ghost use Rattle.ratelimit_cli.specs.World.{WroteUpTo, exit_of};
+ghost use Rattle.ratelimit_cli.specs.World.{all_written, WroteSome, WroteUpTo, exit_of};
 ghost use Rattle.ratelimit_cli.specs.Parts.{IsOfOutput};
 ghost use Rattle.ratelimit_cli.specs.Output.{AppendsFront, lines_of, with_line_feed};
 
@@ -54,11 +54,11 @@ pub fn all_lines(
     Ok(lines)
 }
 
-/// Writes each line by one call.
-pub fn write_lines<K: Sink>(sink: &mut K, lines: &[String]) -> Result<(), Failed>
+// Writes each line by one call.
+fn write_each<K: Sink>(sink: &mut K, lines: &[String]) -> Result<(), Failed>
     ensures bytes { OnOk result (Appends (K.written sink.old) (K.written sink.new) (concat (map (λ t. string_bytes t) lines.now))) }
     ensures each { OnOk result (K.history sink.new ≡ K.history sink.old ++ map wrote (map (λ t. string_bytes t) lines.now)) }
-    ensures up_to { OnErr result (Grew (K.history sink.old) (K.history sink.new) (WroteUpTo (map (λ t. string_bytes t) lines.now))) }
+    ensures up_to { OnErr result (Grew (K.history sink.old) (K.history sink.new) (WroteSome (map (λ t. string_bytes t) lines.now))) }
     ensures part { OnErr result (AppendsFront (K.written sink.old) (K.written sink.new) (concat (map (λ t. string_bytes t) lines.now))) }
     ensures cause { HasCause (K.faults sink.old) (K.faults sink.new) result }
 {
@@ -70,7 +70,21 @@ pub fn write_lines<K: Sink>(sink: &mut K, lines: &[String]) -> Result<(), Failed
     Ok(())
 }
 
-/// Writes a text by one call.
+/// Writes each line by one call, and flushes.
+pub fn write_lines<K: Sink>(sink: &mut K, lines: &[String]) -> Result<(), Failed>
+    ensures bytes { OnOk result (Appends (K.written sink.old) (K.written sink.new) (concat (map (λ t. string_bytes t) lines.now))) }
+    ensures each { OnOk result (K.history sink.new ≡ K.history sink.old ++ all_written (map (λ t. string_bytes t) lines.now)) }
+    ensures up_to { OnErr result (Grew (K.history sink.old) (K.history sink.new) (WroteUpTo (map (λ t. string_bytes t) lines.now))) }
+    ensures part { OnErr result (AppendsFront (K.written sink.old) (K.written sink.new) (concat (map (λ t. string_bytes t) lines.now))) }
+    ensures cause { HasCause (K.faults sink.old) (K.faults sink.new) result }
+{
+    let Ok(()) = write_each(sink, lines) else {
+        return Err(Failed);
+    };
+    sink.flush()
+}
+
+/// Writes a text by one call, and flushes.
 pub fn write_line<K: Sink>(alloc: Global, text: String, sink: &mut K) -> Result<(), Exit>
     ensures { Grew (K.history sink.old) (K.history sink.new) (IsOfOutput (λ pieces. pieces ≡ string_bytes text ∷ []) (record {
       written = K.written sink.old;

@@ -5,7 +5,7 @@ ghost use Rattle.rate_io.specs.Causes.{HasCause};
 ghost use Rattle.rate_io.specs.Content.{Appends};
 ghost use Rattle.rate_io.specs.Events.{Grew, wrote};
 ghost use Rattle.quota_stream.specs.Output.{IsLine, AreLines};
-ghost use Rattle.ratelimit_cli.specs.World.{WroteUpTo};
+ghost use Rattle.ratelimit_cli.specs.World.{all_written, WroteSome, WroteUpTo};
 ghost use Rattle.ratelimit_cli.specs.Output.{AppendsFront};
 ghost use Rattle.ratelimit_cli.specs.Quota.{in_order};
 
@@ -53,11 +53,11 @@ pub fn lines_of<'a>(alloc: Global, texts: &'a [Word]) -> Result<Vec<&'a [u8]>, O
     Ok(lines)
 }
 
-/// Writes each of these pieces by one call.
-pub fn write_pieces<K: Sink>(sink: &mut K, pieces: &[&[u8]]) -> Result<(), Failed>
+// Writes each of these pieces by one call.
+fn write_each<K: Sink>(sink: &mut K, pieces: &[&[u8]]) -> Result<(), Failed>
     ensures bytes { OnOk result (Appends (K.written sink.old) (K.written sink.new) (concat (map (λ p. p.now) pieces.now))) }
     ensures each { OnOk result (K.history sink.new ≡ K.history sink.old ++ map wrote (map (λ p. p.now) pieces.now)) }
-    ensures up_to { OnErr result (Grew (K.history sink.old) (K.history sink.new) (WroteUpTo (map (λ p. p.now) pieces.now))) }
+    ensures up_to { OnErr result (Grew (K.history sink.old) (K.history sink.new) (WroteSome (map (λ p. p.now) pieces.now))) }
     ensures part { OnErr result (AppendsFront (K.written sink.old) (K.written sink.new) (concat (map (λ p. p.now) pieces.now))) }
     ensures cause { HasCause (K.faults sink.old) (K.faults sink.new) result }
 {
@@ -67,4 +67,18 @@ pub fn write_pieces<K: Sink>(sink: &mut K, pieces: &[&[u8]]) -> Result<(), Faile
         };
     }
     Ok(())
+}
+
+/// Writes each of these pieces by one call, and flushes.
+pub fn write_pieces<K: Sink>(sink: &mut K, pieces: &[&[u8]]) -> Result<(), Failed>
+    ensures bytes { OnOk result (Appends (K.written sink.old) (K.written sink.new) (concat (map (λ p. p.now) pieces.now))) }
+    ensures each { OnOk result (K.history sink.new ≡ K.history sink.old ++ all_written (map (λ p. p.now) pieces.now)) }
+    ensures up_to { OnErr result (Grew (K.history sink.old) (K.history sink.new) (WroteUpTo (map (λ p. p.now) pieces.now))) }
+    ensures part { OnErr result (AppendsFront (K.written sink.old) (K.written sink.new) (concat (map (λ p. p.now) pieces.now))) }
+    ensures cause { HasCause (K.faults sink.old) (K.faults sink.new) result }
+{
+    let Ok(()) = write_each(sink, pieces) else {
+        return Err(Failed);
+    };
+    sink.flush()
 }

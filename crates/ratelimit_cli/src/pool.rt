@@ -78,7 +78,7 @@ fn answered(
     Ok(lines)
 }
 
-// Writes the lines of the answers, each by one call.
+// Writes the lines of the answers, each by one call, and flushes.
 fn write_answers<K: Sink>(lines: &[String], sink: &mut K) -> Result<(), Exit>
     ensures { Grew (K.history sink.old) (K.history sink.new)
         (IsOfOutput (λ pieces. pieces ≡ map (λ t. string_bytes t) lines.now) (record {
@@ -93,8 +93,8 @@ fn write_answers<K: Sink>(lines: &[String], sink: &mut K) -> Result<(), Exit>
     }
 }
 
-/// Answers the events of a job by its pools, and writes a line for each of their lines, each by one call. Both files are read and
-/// all answers made first.
+/// Answers the events of a job by its pools, writes a line for each of their lines, each by one call, and then flushes. Both files
+/// are read and all answers made first.
 pub fn run_pool<F: Files, K: Sink>(
     alloc: Global,
     seed: &RandomState,

@@ -97,7 +97,7 @@ fn replayed<R: Threads + Sync>(
     texts_of(rt, alloc, &settings, streams, workers)
 }
 
-// Writes the lines of texts, each by one call.
+// Writes the lines of texts, each by one call, and flushes.
 fn write_texts<K: Sink>(alloc: Global, texts: &Names, sink: &mut K) -> Result<(), Exit>
     ensures { (each : List (List (List ℕ))) → AllByRecursion AreLines each → texts.now ≡ map concat each
         → Grew (K.history sink.old) (K.history sink.new) (IsOfOutput (λ pieces. pieces ≡ in_order each) (record {
@@ -116,7 +116,7 @@ fn write_texts<K: Sink>(alloc: Global, texts: &Names, sink: &mut K) -> Result<()
 }
 
 /// Replays the streams of a job by its settings file, and writes the output of each in the order of the streams, line by
-/// line, each line by one call. All files are read first.
+/// line, each line by one call, and then flushes. All files are read first.
 pub fn run_quota<R: Threads + Sync, F: Files, K: Sink>(
     rt: &R,
     alloc: Global,

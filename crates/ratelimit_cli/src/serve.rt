@@ -40,7 +40,7 @@ fn port_text(alloc: Global, port: u16) -> Result<String, OutOfMemory>
     Ok(text)
 }
 
-/// What came of the line of the port.
+/// What came of the line of the port: it was written and flushed, or not, or there was no memory for it.
 #[derive(Clone, Copy, Debug, PartialEq, Eq)]
 pub enum PortLine {
     Written,
@@ -48,7 +48,7 @@ pub enum PortLine {
     NoMemory,
 }
 
-// Writes the line of the port.
+// Writes the line of the port, and flushes, since a caller waits for it.
 fn write_port<K: Sink>(alloc: Global, port: u16, sink: &mut K) -> PortLine
     ensures { Grew (K.history sink.old) (K.history sink.new) (IsOfPort port (record {
       written = K.written sink.old;
@@ -59,11 +59,11 @@ fn write_port<K: Sink>(alloc: Global, port: u16, sink: &mut K) -> PortLine
     let Ok(text) = port_text(alloc, port) else {
         return PortLine::NoMemory;
     };
-    let mut lines = Vec::new(alloc);
-    if lines.push(text).is_err() {
+    let mut port_lines = Vec::new(alloc);
+    if port_lines.push(text).is_err() {
         return PortLine::NoMemory;
     }
-    match write_lines(sink, &lines) {
+    match write_lines(sink, &port_lines) {
         Ok(()) => PortLine::Written,
         Err(_) => PortLine::Unwritten,
     }
@@ -93,7 +93,7 @@ fn end_texts(alloc: Global, ends: &[LinkEnd]) -> Result<Vec<String>, OutOfMemory
     Ok(lines)
 }
 
-// Writes how each connection ended, in order.
+// Writes how each connection ended, in order, and flushes.
 fn write_ends<K: Sink>(alloc: Global, ends: &[LinkEnd], sink: &mut K) -> Result<(), Exit>
     requires { length ends.now ≤ MOST_CONNECTIONS }
     ensures { Grew (K.history sink.old) (K.history sink.new) (IsOfOutput (λ pieces. pieces ≡ end_lines 0 ends.now) (record {
@@ -191,8 +191,8 @@ where
     }
 }
 
-/// Serves the connections of a job by the configuration of its files, all of which are read first: has the port, writes it, accepts
-/// the connections and serves each once, and writes how each ended, line by line, each line by one call.
+/// Serves the connections of a job by the configuration of its files, all of which are read first: has the port, writes it and flushes,
+/// accepts the connections and serves each once, writes how each ended, line by line, each line by one call, and flushes.
 pub fn run_serve<R: Threads + Wait + Sync, F: Files, K: Sink, L: Listen, C: Clock>(
     rt: &R,
     alloc: Global,

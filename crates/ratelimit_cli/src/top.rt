@@ -34,7 +34,7 @@ use std::sync::Wait;
 use std::thread::Threads;
 use worker_run::Gate;
 
-// Makes the lines of the output of this work, and writes them.
+// Makes the lines of the output of this work, writes them, and flushes.
 fn make_and_write<R: Threads + Wait + Sync, K: Sink, G: Gate>(
     rt: &R,
     alloc: Global,
@@ -60,7 +60,7 @@ fn make_and_write<R: Threads + Wait + Sync, K: Sink, G: Gate>(
     }
 }
 
-// Writes a text.
+// Writes a text, and flushes.
 fn write_text<K: Sink>(alloc: Global, text: &str, sink: &mut K) -> Result<(), Exit>
     ensures { Grew (K.history sink.old) (K.history sink.new) (IsOfOutput (λ pieces. pieces ≡ text.now ∷ []) (record {
       written = K.written sink.old;
@@ -236,7 +236,8 @@ where
 /// recorded streams, and writes what a lawful client would have done; `pool` reads pools and recorded reports, and writes the answers of
 /// a quota server; `audit` reads configuration files, a printed run and then its script from the source, and writes the verdict on the
 /// run; `serve` reads configuration files, accepts connections and answers their requests, and writes its port and how each
-/// connection ended; `gen` runs a made-up load and writes its summary; `--help` and `--version` write their text.
+/// connection ended; `gen` runs a made-up load and writes its summary; `--help` and `--version` write their text. Each flushes behind
+/// its last line, and `serve` behind the port too, so that with `Done` the whole output has reached what stands behind the sink.
 ///
 /// The workers of `drive`, `quota`, `serve` and `gen` are threads. Those of `drive` and `gen` tell `gate` of each line. The hashes of names
 /// go by `seed`.

@@ -1,51 +1,32 @@
-use Rattle.std.proofs.Common.{◌≡◌, ◌++◌, ◌∷◌, [], ℕ, ◌+◌, List, Bor, map, option_map, take, drop, get_or, sym, ap, ◌∙◌, append_assoc, arith}
-use Rattle.std.proofs.lemmas.List.{take_more, take-map, map-append}
-use Rattle.std.proofs.lemmas.Option.{slice_get-map, slice_get-get_or}
-use Rattle.rate_io.specs.Events.{wrote, write_failed}
-use Rattle.ratelimit_cli.proofs.Pieces.{appends_more, concat_push, front_of, cut_list, one_more}
+use Rattle.std.proofs.Common.{map}
+use Rattle.ratelimit_cli.proofs.Flushing.{stops_before, flush_each, flush_stops, flush_bytes, flush_part, flush_cause}
 use Rattle.ratelimit_cli.proofs.output_lines.write_pieces.Goals as goal
-
-abbrev bytes_of : List (Bor (List ℕ)) → List (List ℕ)
-bytes_of ps = map (λ p. p.now) ps
-
--- what stands at a place that isn't there
-abbrev nothing : Bor (List ℕ)
-nothing = record { ref_ptr = (0, 0); now = [] }
-
-pub pieces-preserved : goal.pieces-preserved
-pieces-preserved g c =
-    let inv = c.pieces.invariant in
-    let piece : Bor (List ℕ) = get_or c.args.pieces.now c.pieces.index nothing in
-    let list : bytes_of (take (c.pieces.index + 1) c.args.pieces.now) ≡ bytes_of (take c.pieces.index c.args.pieces.now) ++ piece.now ∷ [] =
-    ap bytes_of (take_more c.args.pieces.now c.pieces.index nothing (omega arith))
-    ∙ map-append (λ (p : Bor (List ℕ)). p.now) (take c.pieces.index c.args.pieces.now) (piece ∷ []) in
-    record {
-      bytes = rw (list, concat_push) (appends_more _ _ _ _ _ inv.bytes c.in-Ok.ensures.bytes);
-      each = rw list (one_more _ _ _ _ _ inv.each c.in-Ok.ensures.event);
-      later = omega (arith, inv.later, c.in-Ok.ensures.cause.later);
-    }
 
 pub returns-in_default-clause-up_to : goal.returns-in_default-clause-up_to
 returns-in_default-clause-up_to g c =
-    let piece : Bor (List ℕ) = get_or c.args.pieces.now c.pieces.index nothing in
-    record {
-      events = map wrote (bytes_of (take c.pieces.index c.args.pieces.now)) ++ write_failed piece.now ∷ [];
-      grew = c.in_default.ensures.event ∙ ap (λ l. l ++ write_failed piece.now ∷ []) c.pieces.invariant.each
-          ∙ append_assoc (g.K.Sink.history c.args.sink.now) (map wrote (bytes_of (take c.pieces.index c.args.pieces.now))) (write_failed piece.now ∷ []);
-      are = record {
-        count = c.pieces.index;
-        piece = piece.now;
-        next = slice_get-map (λ (p : Bor (List ℕ)). p.now) c.args.pieces.now c.pieces.index
-            ∙ ap (option_map (λ (p : Bor (List ℕ)). p.now)) (slice_get-get_or c.args.pieces.now c.pieces.index nothing (omega arith));
-        each = ap (λ l. map wrote l ++ write_failed piece.now ∷ []) (sym (take-map (λ (p : Bor (List ℕ)). p.now) c.pieces.index c.args.pieces.now));
-      };
-    }
+    stops_before (g.K.Sink.history c.args.sink.now) (g.K.Sink.history c.write_each.new.sink) (map (λ p. p.now) c.args.pieces.now) c.in_default.ensures.up_to
 
-pub returns-in_default-clause-part : goal.returns-in_default-clause-part
-returns-in_default-clause-part g c =
-    let piece : Bor (List ℕ) = get_or c.args.pieces.now c.pieces.index nothing in
-    let cut : bytes_of c.args.pieces.now ≡ bytes_of (take c.pieces.index c.args.pieces.now) ++ piece.now ∷ bytes_of (drop (c.pieces.index + 1) c.args.pieces.now) =
-    ap bytes_of (cut_list c.args.pieces.now c.pieces.index nothing (omega arith))
-    ∙ map-append (λ (p : Bor (List ℕ)). p.now) (take c.pieces.index c.args.pieces.now) (piece ∷ drop (c.pieces.index + 1) c.args.pieces.now) in
-    rw cut (front_of _ _ _ (bytes_of (take c.pieces.index c.args.pieces.now)) piece.now (bytes_of (drop (c.pieces.index + 1) c.args.pieces.now))
-    c.pieces.invariant.bytes c.in_default.ensures.part)
+pub returns-clause-bytes : goal.returns-clause-bytes
+returns-clause-bytes g c =
+    flush_bytes (g.K.Sink.written c.args.sink.now) (g.K.Sink.written c.write_each.new.sink) (g.K.Sink.written c.flush.new.self) _
+    c.in-Ok.ensures.bytes c.flush.ensures.bytes c.flush.result
+
+pub returns-clause-each : goal.returns-clause-each
+returns-clause-each g c =
+    flush_each (g.K.Sink.history c.args.sink.now) (g.K.Sink.history c.write_each.new.sink) (g.K.Sink.history c.flush.new.self)
+    (map (λ p. p.now) c.args.pieces.now) c.in-Ok.ensures.each c.flush.result c.flush.ensures.event
+
+pub returns-clause-up_to : goal.returns-clause-up_to
+returns-clause-up_to g c =
+    flush_stops (g.K.Sink.history c.args.sink.now) (g.K.Sink.history c.write_each.new.sink) (g.K.Sink.history c.flush.new.self)
+    (map (λ p. p.now) c.args.pieces.now) c.in-Ok.ensures.each c.flush.result c.flush.ensures.event
+
+pub returns-clause-part : goal.returns-clause-part
+returns-clause-part g c =
+    flush_part (g.K.Sink.written c.args.sink.now) (g.K.Sink.written c.write_each.new.sink) (g.K.Sink.written c.flush.new.self) _
+    c.in-Ok.ensures.bytes c.flush.ensures.bytes c.flush.result
+
+pub returns-clause-cause : goal.returns-clause-cause
+returns-clause-cause g c =
+    flush_cause (g.K.Sink.faults c.args.sink.now) (g.K.Sink.faults c.write_each.new.sink) (g.K.Sink.faults c.flush.new.self) c.flush.result
+    c.in-Ok.ensures.cause.later c.flush.ensures.cause

@@ -2,7 +2,7 @@ use Rattle.std.proofs.Common.{◌≡◌, ◌≤◌, ◌++◌, map, take, string_
 use Rattle.std.specs.List.{concat}
 use Rattle.rate_io.specs.Content.{Appends}
 use Rattle.rate_io.specs.Events.{wrote}
-use Rattle.ratelimit_cli.proofs.output.write_lines.Given as goal
+use Rattle.ratelimit_cli.proofs.output.write_each.Given as goal
 
 abbrev pub invariant-lines : goal.invariant-lines
 invariant-lines g l = record {

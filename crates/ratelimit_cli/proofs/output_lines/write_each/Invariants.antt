@@ -2,7 +2,7 @@ use Rattle.std.proofs.Common.{◌≡◌, ◌≤◌, ◌++◌, map, take}
 use Rattle.std.specs.List.{concat}
 use Rattle.rate_io.specs.Content.{Appends}
 use Rattle.rate_io.specs.Events.{wrote}
-use Rattle.ratelimit_cli.proofs.output_lines.write_pieces.Given as goal
+use Rattle.ratelimit_cli.proofs.output_lines.write_each.Given as goal
 
 abbrev pub invariant-pieces : goal.invariant-pieces
 invariant-pieces g l = record {
