@@ -1,4 +1,5 @@
 mod audit;
+mod flushes;
 mod generated;
 mod limits;
 mod lines;

@@ -106,7 +106,7 @@ fn each_read_of_a_file_can_fail(rt: HostRuntime) -> Result<(), Fail> {
     Ok(())
 }
 
-// Two checks make three lines: two records and a total.
+// Two checks make three lines: two records and a total. The fourth call is the flush.
 #[test]
 fn a_failed_write_leaves_the_lines_before_it(rt: HostRuntime) -> Result<(), Fail> {
     let alloc = rt.alloc();
@@ -116,14 +116,14 @@ fn a_failed_write_leaves_the_lines_before_it(rt: HostRuntime) -> Result<(), Fail
         r#"{"charged":2,"counter":{"domain":"d","entries":[{"key":"k","value":"a"}],"start":0,"unit":"MINUTE"}}"#,
     ];
     let script = joined(alloc, &[CHECK_A, CHECK_A])?;
-    for number in 1..=4u64 {
+    for number in 1..=5u64 {
         let failing = Failing {
             write: number,
             ..NONE
         };
         let mut want = String::from_str(
             alloc,
-            if number == 4 {
+            if number == 5 {
                 "done\n"
             } else {
                 "write fault\n"

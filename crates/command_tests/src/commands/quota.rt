@@ -257,11 +257,11 @@ fn a_stream_of_too_many_lines_stops_all(rt: HostRuntime) -> Result<(), Fail> {
 }
 
 #[test]
-fn each_write_of_an_output_can_fail(rt: HostRuntime) -> Result<(), Fail> {
+fn each_write_of_an_output_and_its_flush_can_fail(rt: HostRuntime) -> Result<(), Fail> {
     let alloc = rt.alloc();
     let stream = lost(alloc)?;
     let files = [SETTINGS, stream.as_str()];
-    for number in 1..=10 {
+    for number in 1..=11 {
         let failing = Failing {
             write: number as u64,
             ..NONE
