@@ -1,6 +1,5 @@
 -- Counters that are in a list and pass a test.
-use Rattle.std.proofs.Common.{◌≡◌, ◌||◌, ◌&&◌, not, List, [], ◌∷◌, ◌++◌, filter, Bool, true, false, cond, refl, sym, ap, ap₂, ◌∙◌}
-use Rattle.std.proofs.lemmas.List.Folds.{list_any-append}
+use Rattle.std.proofs.Common.{◌≡◌, ◌||◌, ◌&&◌, not, List, [], ◌∷◌, filter, Bool, true, false, cond, refl, sym, ap, ◌∙◌}
 use Rattle.rate_types.specs.Counters.{same_counter}
 use Rattle.rate_types.specs.declared.counter_key.CounterKey.{CounterKey}
 use Rattle.window_keys.proofs.Counters.{same_is}
@@ -40,16 +39,10 @@ among_filter t (x ∷ xs) c = among_cond (t x) x (filter t xs) c ∙ by (same_co
     by true e more = among_first (t x) (same_counter c x) (t c) true (is_among (filter t xs) c) (is_among xs c) (ap t (sym (same_is c x e))) e more
     by false e more = among_later (t x) (same_counter c x) (t c) (is_among (filter t xs) c) (is_among xs c) e more
 
-either_open : (o a b : Bool) → ((o && a) || (o && b)) ≡ (o && (a || b))
+-- two tests with one that both share
+pub either_open : (o a b : Bool) → ((o && a) || (o && b)) ≡ (o && (a || b))
 either_open true a b = refl
 either_open false a b = refl
-
--- those of two lists that pass a test
-pub among_both : (t : CounterKey → Bool) (xs ys : List CounterKey) (c : CounterKey)
-    → is_among (filter t xs ++ filter t ys) c ≡ (t c && (is_among xs c || is_among ys c))
-among_both t xs ys c =
-    list_any-append (λ k. same_counter c k) (filter t xs) (filter t ys)
-    ∙ ap₂ (λ a b. a || b) (among_filter t xs c) (among_filter t ys c) ∙ either_open (t c) (is_among xs c) (is_among ys c)
 
 and_back : (a b : Bool) → (a && b) ≡ (b && a)
 and_back true true = refl

@@ -1,6 +1,7 @@
 -- The causes of refusals, by tests.
-use Rattle.std.proofs.Common.{◌≡◌, ℕ, ◌+◌, ◌*◌, ◌-◌, ◌≤◌, ◌<◌, ◌||◌, ◌&&◌, not, List, ◌++◌, filter, Bool, true, false, refl, sym, ap, ap₂, ◌∙◌, subst}
+use Rattle.std.proofs.Common.{◌≡◌, ℕ, ◌+◌, ◌*◌, ◌-◌, ◌≤◌, ◌<◌, ◌||◌, ◌&&◌, not, List, length, take, drop, map, filter, Bool, true, false, refl, sym, ap, ap₂, ◌∙◌, subst}
 use Rattle.std.specs.Bool.{Decides}
+use Rattle.std.proofs.lemmas.List.{length-map, take-map, drop-map}
 use Rattle.rate_types.specs.Requests.{RequestParts}
 use Rattle.rate_types.specs.declared.counter_key.CounterKey.{CounterKey}
 use Rattle.rate_types.specs.declared.limits.TheConstants.{MOST_PINS}
@@ -14,11 +15,15 @@ use Rattle.script_run.specs.ScriptLine.{ScriptLine, check, reload, tick, bad}
 use Rattle.script_run.specs.Named.{AreThere, all_tried, bound_by, is_among, is_open_at}
 use Rattle.script_run.specs.Refusals.{HasRefusalCause, IsFull, is_named_at, may_be_bound}
 use Rattle.script_run.specs.Sequential.{IsInTurn, is_bound}
+use Rattle.script_run.specs.Views.{line_view}
+use Rattle.script_run.specs.declared.line.Line.{Line}
 use Rattle.run_audit.specs.Causes.{IsCaused, is_refusal}
 use Rattle.run_audit.specs.Whose.{is_of}
 use Rattle.run_audit.specs.declared.offers.Whose.TheVariants.{Own, Others, All}
+use Rattle.run_audit.specs.declared.search.Sought.TheVariants.{Named}
 use mathlib.Core.Path.{fun_ext}
-use Rattle.run_audit.proofs.Among.{among_filter, among_both, among_without}
+use Rattle.run_audit.proofs.Among.{among_filter, among_without, either_open}
+use Rattle.run_audit.proofs.Near.{parts}
 use Rattle.run_audit.proofs.Tests.{both, false_true}
 
 pub full_by : (configs : ℕ → List DomainTree) (workers cells : ℕ) (lines : List ScriptLine) (records : List Record)
@@ -118,21 +123,37 @@ same_test {k = k} b s t same d = subst (λ (p : CounterKey → Bool). Decides b 
 same_number : {k : ℕ} (b : Bool) (s t : CounterKey → Bool) → ((c : CounterKey) → s c ≡ t c) → Decides b (IsNumberOf s k) → Decides b (IsNumberOf t k)
 same_number {k = k} b s t same d = subst (λ (p : CounterKey → Bool). Decides b (IsNumberOf p k)) (fun_ext same) d
 
-module _ (configs : ℕ → List DomainTree) (lines : List ScriptLine) (records : List Record) (before : List ScriptLine) (earlier : List Record) where
-  pub live_by : (r : Record) (w m : ℕ) (bound : List CounterKey) (live : ℕ) (b : Bool) → w ≡ r.worker → m ≡ r.moment
-      → bound ≡ filter (is_open_at m) (bound_by (is_of Others w) configs lines records) ++ filter (is_open_at m) (bound_by (is_of Own w) configs before earlier)
-      → Decides b (AreThere (is_among bound) live) → Decides b (AreThere (may_be_bound configs lines records before earlier r) live)
-  live_by r w m bound live b ew em is d =
-      same_test b (is_among bound) (may_be_bound configs lines records before earlier r)
-      (λ c. ap (λ (l : List CounterKey). is_among l c) is
-      ∙ among_both (is_open_at m) (bound_by (is_of Others w) configs lines records) (bound_by (is_of Own w) configs before earlier) c
-      ∙ ap₂ (λ (v n : ℕ). is_open_at n c && (is_among (bound_by (is_of Others v) configs lines records) c || is_among (bound_by (is_of Own v) configs before earlier) c)) ew em) d
+pub live_by : (configs : ℕ → List DomainTree) (lines : List ScriptLine) (records : List Record) (before : List ScriptLine) (earlier : List Record)
+    (r : Record) (w m live : ℕ) (b : Bool) → w ≡ r.worker → m ≡ r.moment
+    → Decides b (AreThere (λ c. (is_open_at m c && is_among (bound_by (is_of Others w) configs lines records) c)
+    || (is_open_at m c && is_among (bound_by (is_of Own w) configs before earlier) c)) live)
+    → Decides b (AreThere (may_be_bound configs lines records before earlier r) live)
+live_by configs lines records before earlier r w m live b ew em d =
+    same_test b (λ c. (is_open_at m c && is_among (bound_by (is_of Others w) configs lines records) c)
+    || (is_open_at m c && is_among (bound_by (is_of Own w) configs before earlier) c)) (may_be_bound configs lines records before earlier r)
+    (λ c. either_open (is_open_at m c) (is_among (bound_by (is_of Others w) configs lines records) c)
+    (is_among (bound_by (is_of Own w) configs before earlier) c)
+    ∙ ap₂ (λ (v n : ℕ). is_open_at n c && (is_among (bound_by (is_of Others v) configs lines records) c || is_among (bound_by (is_of Own v) configs before earlier) c)) ew em) d
 
-  pub named_by : (m : ℕ) (named : List CounterKey) (number : ℕ) (b : Bool) → named ≡ filter (is_open_at m) (all_tried configs lines records)
-      → Decides b (AreThere (is_among named) number) → Decides b (AreThere (is_named_at configs lines records m) number)
-  named_by m named number b is d =
-      same_test b (is_among named) (is_named_at configs lines records m)
-      (λ c. ap (λ (l : List CounterKey). is_among l c) is ∙ among_filter (is_open_at m) (all_tried configs lines records) c) d
+-- checks of the first lines and of the lines behind those are the checks of the run
+pub named_by : (configs : ℕ → List DomainTree) (n m number : ℕ) (lines : List Line) (records : List Record) (behind : List Line)
+    (later : List Record) (b : Bool) → length records ≡ length lines → behind ≡ drop n lines → later ≡ drop n records
+    → Decides b (AreThere (λ c. (is_open_at m c && is_among (all_tried configs (map line_view (take n lines)) (take n records)) c)
+    || (is_open_at m c && is_among (all_tried configs (map line_view behind) later) c)) number)
+    → Decides b (AreThere (is_named_at configs (map line_view lines) records m) number)
+named_by configs n m number lines records behind later b same is_l is_r d =
+    same_test b (λ c. (is_open_at m c && is_among (all_tried configs (map line_view (take n lines)) (take n records)) c)
+    || (is_open_at m c && is_among (all_tried configs (map line_view behind) later) c))
+    (is_named_at configs (map line_view lines) records m)
+    (λ c. ap₂ (λ (x y : List ScriptLine). (is_open_at m c && is_among (all_tried configs x (take n records)) c)
+    || (is_open_at m c && is_among (all_tried configs y later) c)) (sym (take-map line_view n lines))
+    (ap (map line_view) is_l ∙ sym (drop-map line_view n lines))
+    ∙ ap (λ (x : List Record). (is_open_at m c && is_among (all_tried configs (take n (map line_view lines)) (take n records)) c)
+    || (is_open_at m c && is_among (all_tried configs (drop n (map line_view lines)) x) c)) is_r
+    ∙ either_open (is_open_at m c) (is_among (all_tried configs (take n (map line_view lines)) (take n records)) c)
+    (is_among (all_tried configs (drop n (map line_view lines)) (drop n records)) c)
+    ∙ ap (λ (x : Bool). is_open_at m c && x)
+    (parts Named configs n (map line_view lines) records c (length-map lines line_view ∙ sym same))) d
 
 -- the test of the counters that have cells, and those that are wanted
 bound_test : (configs : ℕ → List DomainTree) (before : List ScriptLine) (earlier : List Record) (m : ℕ) (bound : List CounterKey)

@@ -12,6 +12,7 @@ pub mod StatusesBy
 pub mod Numbers
 pub mod Among
 pub mod BoundBy
+pub mod Near
 pub mod VersionsBy
 pub mod CausesBy
 pub mod Verdicts

@@ -184,12 +184,18 @@ has_more : (b : Bool) (n : ℕ) (o : Option ℕ) → is_some (cond b (Some n) o)
 has_more true n o = refl
 has_more false n o = refl
 
+pub has_put : (old new : Sums) (counter c : CounterKey)
+    → lookup (is_at (key_cmp c)) new ≡ cond (same_counter counter c) (Some 0) (lookup (is_at (key_cmp c)) old)
+    → has_sum new c ≡ (same_counter c counter || has_sum old c)
+has_put old new counter c found =
+    ap is_some found ∙ has_more (same_counter counter c) 0 (lookup (is_at (key_cmp c)) old)
+    ∙ ap (λ b. b || has_sum old c) (same_either counter c)
+
 pub one_more_sum : (old new : Sums) (counter c : CounterKey) (rest : List CounterKey)
     → lookup (is_at (key_cmp c)) new ≡ cond (same_counter counter c) (Some 0) (lookup (is_at (key_cmp c)) old)
     → (has_sum new c || is_among rest c) ≡ (has_sum old c || is_among (counter ∷ rest) c)
 one_more_sum old new counter c rest found =
-    ap (λ b. b || is_among rest c) (ap is_some found ∙ has_more (same_counter counter c) 0 (lookup (is_at (key_cmp c)) old)
-    ∙ ap (λ b. b || has_sum old c) (same_either counter c))
+    ap (λ b. b || is_among rest c) (has_put old new counter c found)
     ∙ either (same_counter c counter) (has_sum old c) (is_among rest c)
   where
     either : (a b d : Bool) → ((a || b) || d) ≡ (b || (a || d))

@@ -11,3 +11,4 @@ pub mod Known
 pub mod Greatest
 pub mod Ticks
 pub mod Judged
+pub mod Search

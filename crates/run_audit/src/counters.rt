@@ -2,8 +2,9 @@
 ghost use Rattle.std.specs.Prelude.{◌≡◌, ◌++◌, [], IfOk, OnOk, filter, length, map, if◌then◌else◌};
 ghost use Rattle.rls_core.specs.Reply.{counter_under, counters_named};
 ghost use Rattle.rls_core.specs.Sequential.{IsNumberOf};
-ghost use Rattle.script_run.specs.Named.{all_tried, bound_by, counters_bound, counters_tried, is_among, is_open_at};
+ghost use Rattle.script_run.specs.Named.{bound_by, counters_bound, counters_tried, is_among, is_open_at};
 ghost use Rattle.script_run.specs.Views.{line_view};
+ghost use Rattle.run_audit.specs.Search.{sought_at};
 ghost use Rattle.run_audit.specs.VersionAt.{config_at};
 ghost use Rattle.run_audit.specs.Whose.{is_of};
 
@@ -11,6 +12,7 @@ use crate::Configs;
 use crate::configs::index_of;
 use crate::of_record::{moment_of, worker_of};
 use crate::offers::{Whose, is_of};
+use crate::search::Sought;
 use rate_types::{CounterKey, Descriptor, OutOfMemory, Request, Seconds};
 use reply_text::{Outcome, Record};
 use rls_core::CounterSums;
@@ -133,6 +135,22 @@ fn bound_at(
     }
 }
 
+/// The counters that are sought in a line.
+pub fn sought_at(
+    alloc: Global,
+    configs: &Configs,
+    sought: Sought,
+    line: &Line,
+    rec: &Record,
+) -> Result<Vec<CounterKey>, OutOfMemory>
+    ensures { IfOk result (λ v. v.items ≡ sought_at sought (config_at configs.now) (line_view line.now) rec.now) }
+{
+    match sought {
+        Sought::Named => tried_at(alloc, configs, line, rec),
+        Sought::Bound { whose, worker } => bound_at(alloc, configs, whose, worker, line, rec),
+    }
+}
+
 // Adds the counters whose windows end after a moment.
 fn add_open(
     counters: &mut Vec<CounterKey>,
@@ -166,25 +184,6 @@ pub fn bound_by(
     let mut counters = Vec::new(alloc);
     'lines: for i in 0..records.len() {
         let more = bound_at(alloc, configs, whose, worker, &lines[i], &records[i])?;
-        add_open(&mut counters, more, at)?;
-    }
-    Ok(counters)
-}
-
-/// The counters that checks name, those whose windows end after a moment.
-pub fn all_tried(
-    alloc: Global,
-    configs: &Configs,
-    at: Seconds,
-    lines: &[Line],
-    records: &[Record],
-) -> Result<Vec<CounterKey>, OutOfMemory>
-    requires { length records.now ≡ length lines.now }
-    ensures { IfOk result (λ v. v.items ≡ filter (is_open_at at) (all_tried (config_at configs.now) (map line_view lines.now) records.now)) }
-{
-    let mut counters = Vec::new(alloc);
-    'lines: for i in 0..records.len() {
-        let more = tried_at(alloc, configs, &lines[i], &records[i])?;
         add_open(&mut counters, more, at)?;
     }
     Ok(counters)

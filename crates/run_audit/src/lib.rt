@@ -10,8 +10,11 @@
 //! counted, a clause about charges sorts copies of them, one about values keeps the last value of each counter, one about refusals counts
 //! the counters that checks name: such calls take memory, and answer where there is none.
 //!
-//! Limits: each refusal looks at all counters of the run, so the time grows with the refusals times the lines. A run without refusals
-//! takes n log n in its lines.
+//! A refusal shows how many counters there are at least. They are sought line by line, from its own in both directions, until so many
+//! different ones are found: most often they are near, and only a refusal without a cause goes through the whole run.
+//!
+//! Limits: with one worker each refusal counts the counters of all earlier lines, so the time grows with the refusals times the lines.
+//! A run without refusals takes n log n in its lines.
 #![tactic(auto)]
 
 mod at_least;
@@ -24,6 +27,7 @@ mod counters;
 mod earlier;
 mod equal;
 mod fact;
+mod found;
 mod gathering;
 mod installs;
 mod judging;
@@ -36,6 +40,7 @@ mod offers;
 mod records;
 mod refusals;
 mod replies;
+mod search;
 mod setup;
 mod sights;
 mod ticks;

@@ -1,25 +1,25 @@
 // Whether refusals have their causes.
-ghost use Rattle.std.specs.Prelude.{◌≡◌, ◌↔◌, ◌≤◌, ◌+◌, ◌*◌, ◌-◌, ◌<◌, ◌++◌, not, true, IsTrue, IfOk, filter, length, map};
+ghost use Rattle.std.specs.Prelude.{◌≡◌, ◌↔◌, ◌≤◌, ◌+◌, ◌*◌, ◌-◌, ◌<◌, not, true, IsTrue, IfOk, filter, length, map};
 ghost use Rattle.rate_types.specs.declared.limits.TheConstants.{MOST_PINS, MOST_VERSIONS};
 ghost use Rattle.rls_core.specs.Reply.{counters_named};
 ghost use Rattle.rls_core.specs.Sequential.{IsNumberOf, LacksRoom};
-ghost use Rattle.script_run.specs.Named.{AreThere, bound_by, is_among, is_open_at};
+ghost use Rattle.script_run.specs.Named.{AreThere, is_among};
 ghost use Rattle.script_run.specs.Refusals.{HasRefusalCause, IsFull, is_named_at, may_be_bound};
 ghost use Rattle.script_run.specs.Sequential.{IsInTurn, is_bound};
 ghost use Rattle.script_run.specs.Versions.{installs};
 ghost use Rattle.script_run.specs.Views.{line_view};
 ghost use Rattle.run_audit.specs.Causes.{IsCaused, RefusalsCaused, is_refusal};
 ghost use Rattle.run_audit.specs.VersionAt.{config_at};
-ghost use Rattle.run_audit.specs.Whose.{is_of};
-ghost use Rattle.run_audit.specs.declared.offers.Whose.TheVariants.{Own, Others};
 
 use crate::Configs;
 use crate::configs::index_of;
 use crate::connectives::both;
-use crate::counters::{all_tried, bound_by, counters_named, distinct};
+use crate::counters::{bound_by, counters_named, distinct};
+use crate::found::are_found;
 use crate::installs::installs;
 use crate::of_record::{moment_of, worker_of};
 use crate::offers::Whose;
+use crate::search::{Search, Sought};
 use rate_types::limits::{MOST_PINS, MOST_VERSIONS};
 use rate_types::{CounterKey, OutOfMemory, Request, Seconds};
 use reply_text::{Outcome, Record};
@@ -69,44 +69,6 @@ fn may_want(
     Ok(there)
 }
 
-// The counters that may have cells when a worker's line is run.
-fn bound_before(
-    alloc: Global,
-    run: &RunParts,
-    before: &[Line],
-    earlier: &[Record],
-    worker: u32,
-    moment: Seconds,
-) -> Result<Vec<CounterKey>, OutOfMemory>
-    requires { length earlier.now ≡ length before.now }
-    ensures { IfOk result (λ v. v.items ≡ filter (is_open_at moment)
-        (bound_by (is_of Others worker) (config_at run.now.configs.now) (map line_view run.now.lines.now) run.now.records.now)
-        ++ filter (is_open_at moment) (bound_by (is_of Own worker) (config_at run.now.configs.now) (map line_view before.now) earlier.now)) }
-{
-    let mut others = bound_by(
-        alloc,
-        run.configs,
-        Whose::Others,
-        worker,
-        moment,
-        run.lines,
-        run.records,
-    )?;
-    let own = bound_by(
-        alloc,
-        run.configs,
-        Whose::Own,
-        worker,
-        moment,
-        before,
-        earlier,
-    )?;
-    for counter in own {
-        others.push(counter)?;
-    }
-    Ok(others)
-}
-
 // Whether so many counters may have cells when a record's line is run.
 fn may_live(
     alloc: Global,
@@ -122,8 +84,29 @@ fn may_live(
 {
     let worker = worker_of(rec);
     let moment = moment_of(rec);
-    let bound = bound_before(alloc, run, before, earlier, worker, moment)?;
-    let there = are_there(alloc, bound, live as u64)?;
+    let others = Search {
+        configs: run.configs,
+        sought: Sought::Bound {
+            whose: Whose::Others,
+            worker,
+        },
+        moment,
+        lines: run.lines,
+        records: run.records,
+        from: before.len().min(run.lines.len()),
+    };
+    let own = Search {
+        configs: run.configs,
+        sought: Sought::Bound {
+            whose: Whose::Own,
+            worker,
+        },
+        moment,
+        lines: before,
+        records: earlier,
+        from: before.len(),
+    };
+    let there = are_found(alloc, &others, &own, live as u64)?;
     Ok(there)
 }
 
@@ -131,14 +114,31 @@ fn may_live(
 fn may_be_named(
     alloc: Global,
     run: &RunParts,
+    near: usize,
     moment: Seconds,
     number: u64,
 ) -> Result<bool, OutOfMemory>
+    requires { near ≤ length run.now.lines.now }
     ensures { IfOk result (λ b. IsTrue b ↔ AreThere (is_named_at (config_at run.now.configs.now) (map line_view run.now.lines.now)
         run.now.records.now moment) number) }
 {
-    let named = all_tried(alloc, run.configs, moment, run.lines, run.records)?;
-    let there = are_there(alloc, named, number)?;
+    let before = Search {
+        configs: run.configs,
+        sought: Sought::Named,
+        moment,
+        lines: &run.lines[..near],
+        records: &run.records[..near],
+        from: near,
+    };
+    let after = Search {
+        configs: run.configs,
+        sought: Sought::Named,
+        moment,
+        lines: &run.lines[near..],
+        records: &run.records[near..],
+        from: 0,
+    };
+    let there = are_found(alloc, &before, &after, number)?;
     Ok(there)
 }
 
@@ -183,7 +183,8 @@ fn is_full(
     let number = numbers.live as u64 + numbers.wanted as u64;
     let wants = may_want(alloc, index, request, moment, numbers.wanted)?;
     let lives = may_live(alloc, run, before, earlier, rec, numbers.live)?;
-    let names = may_be_named(alloc, run, moment, number)?;
+    let near = before.len().min(run.lines.len());
+    let names = may_be_named(alloc, run, near, moment, number)?;
     let first = both(many, wants);
     let second = both(lives, names);
     let stands = both(first, second);

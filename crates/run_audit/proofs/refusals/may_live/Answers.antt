@@ -8,5 +8,5 @@ pub returns : goal.returns
 returns c =
     let run = c.args.run.now in
     live_by (config_at run.configs.now) (map line_view run.lines.now) run.records.now (map line_view c.args.before.now) c.args.earlier.now
-    c.args.rec.now c.worker_of-worker.result c.moment_of-moment.result c.in_ok-bound.bound.items c.args.live c.in_ok-there.there
-    c.worker_of-worker.ensures c.moment_of-moment.ensures c.in_ok-bound.ensures c.in_ok-there.ensures
+    c.args.rec.now c.worker_of-worker.result c.moment_of-moment.result c.args.live c.in_ok-there.there c.worker_of-worker.ensures
+    c.moment_of-moment.ensures c.in_ok-there.ensures
