@@ -1,6 +1,6 @@
 -- The counters that checks name, line after line.
-use Rattle.std.proofs.Common.{◌≡◌, ℕ, suc, ◌+◌, ◌≤◌, ◌<◌, List, [], ◌∷◌, ◌++◌, length, drop, get_or, map, filter, Bool, true, false, cond, refl, sym, ap, ap₂, ◌∙◌}
-use Rattle.std.proofs.Common.{arith, add-one, drop-cons, append_assoc}
+use Rattle.std.proofs.Common.{◌≡◌, ℕ, suc, ◌+◌, ◌≤◌, ◌<◌, List, [], ◌++◌, length, drop, get_or, map, Bool, cond, sym, ap, ap₂, ◌∙◌}
+use Rattle.std.proofs.Common.{arith, add-one, drop-cons}
 use Rattle.std.proofs.lemmas.List.{length-map, drop_all}
 use Rattle.std.proofs.Math.ListN.{get_or-map}
 use Rattle.rate_types.specs.declared.counter_key.CounterKey.{CounterKey}
@@ -10,22 +10,6 @@ use Rattle.script_run.specs.ScriptLine.{ScriptLine}
 use Rattle.script_run.specs.Named.{all_tried, bound_by, counters_bound, counters_tried}
 use Rattle.script_run.specs.Views.{line_view}
 use Rattle.script_run.specs.declared.line.Line.{Line}
-
-filter_append : (p : CounterKey → Bool) (xs ys : List CounterKey) → filter p (xs ++ ys) ≡ filter p xs ++ filter p ys
-filter_append p [] ys = refl
-filter_append p (x ∷ xs) ys = by (p x) (filter_append p xs ys)
-  where
-    by : (b : Bool) → filter p (xs ++ ys) ≡ filter p xs ++ filter p ys
-        → cond b (x ∷ filter p (xs ++ ys)) (filter p (xs ++ ys)) ≡ cond b (x ∷ filter p xs) (filter p xs) ++ filter p ys
-    by true more = ap (λ (l : List CounterKey). x ∷ l) more
-    by false more = more
-
--- counters of one line more
-pub one_more_line : (p : CounterKey → Bool) (now new more rest left all : List CounterKey) → new ≡ now ++ filter p more → left ≡ more ++ rest
-    → now ++ filter p left ≡ all → new ++ filter p rest ≡ all
-one_more_line p now new more rest left all added next same =
-    ap (λ (l : List CounterKey). l ++ filter p rest) added ∙ append_assoc now (filter p more) (filter p rest)
-    ∙ ap (λ (l : List CounterKey). now ++ l) (sym (filter_append p more rest) ∙ ap (filter p) (sym next)) ∙ same
 
 module _ (configs : ℕ → List DomainTree) (i : ℕ) (lines : List Line) (rs : List Record) (x : Line) (r : Record) (within_l : i < length lines)
     (within_r : i < length rs) (is_x : x ≡ get_or lines i x) (is_r : r ≡ get_or rs i r) where

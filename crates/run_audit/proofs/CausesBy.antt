@@ -17,12 +17,13 @@ use Rattle.script_run.specs.Refusals.{HasRefusalCause, IsFull, is_named_at, may_
 use Rattle.script_run.specs.Sequential.{IsInTurn, is_bound}
 use Rattle.script_run.specs.Views.{line_view}
 use Rattle.script_run.specs.declared.line.Line.{Line}
+use Rattle.run_audit.specs.Bound.{AreBound}
 use Rattle.run_audit.specs.Causes.{IsCaused, is_refusal}
 use Rattle.run_audit.specs.Whose.{is_of}
-use Rattle.run_audit.specs.declared.offers.Whose.TheVariants.{Own, Others, All}
+use Rattle.run_audit.specs.declared.offers.Whose.TheVariants.{Own, Others}
 use Rattle.run_audit.specs.declared.search.Sought.TheVariants.{Named}
 use mathlib.Core.Path.{fun_ext}
-use Rattle.run_audit.proofs.Among.{among_filter, among_without, either_open}
+use Rattle.run_audit.proofs.Among.{among_without, either_open}
 use Rattle.run_audit.proofs.Near.{parts}
 use Rattle.run_audit.proofs.Tests.{both, false_true}
 
@@ -155,26 +156,22 @@ named_by configs n m number lines records behind later b same is_l is_r d =
     ∙ ap (λ (x : Bool). is_open_at m c && x)
     (parts Named configs n (map line_view lines) records c (length-map lines line_view ∙ sym same))) d
 
--- the test of the counters that have cells, and those that are wanted
-bound_test : (configs : ℕ → List DomainTree) (before : List ScriptLine) (earlier : List Record) (m : ℕ) (bound : List CounterKey)
-    → bound ≡ filter (is_open_at m) (bound_by (is_of All 0) configs before earlier) → (c : CounterKey) → is_among bound c ≡ is_bound configs before earlier m c
-bound_test configs before earlier m bound is c =
-    ap (λ (l : List CounterKey). is_among l c) is ∙ among_filter (is_open_at m) (bound_by (is_of All 0) configs before earlier) c
-
+-- the counters that have cells, and those that are wanted
 pub room_from : (configs : ℕ → List DomainTree) (cells : ℕ) (before : List ScriptLine) (earlier : List Record) (request : RequestParts) (r : Record)
     (m : ℕ) (config : List DomainTree) (bound named missing : List CounterKey) (live wanted : ℕ) (a b d : Bool) → m ≡ r.moment → config ≡ configs r.version
-    → bound ≡ filter (is_open_at m) (bound_by (is_of All 0) configs before earlier) → named ≡ counters_named config request m
+    → AreBound configs before earlier r.moment bound → named ≡ counters_named config request m
     → missing ≡ filter (λ c. not (is_among bound c)) named → Decides a (IsNumberOf (is_among bound) live)
     → Decides b (IsNumberOf (is_among missing) wanted) → Decides d (cells < live + wanted)
     → Decides ((a && b) && d) (LacksRoom (configs r.version) cells request r.moment (is_bound configs before earlier r.moment) live wanted)
 room_from configs cells before earlier request r m config bound named missing live wanted a b d em ec eb en es da db dd =
-    let cells_for = same_number a (is_among bound) (is_bound configs before earlier m) (bound_test configs before earlier m bound eb) da in
-    let wants = same_number b (is_among missing) (λ c. is_among (counters_named config request m) c && not (is_bound configs before earlier m c))
+    let cells_for = same_number a (is_among bound) (is_bound configs before earlier r.moment) eb da in
+    let named_is : named ≡ counters_named (configs r.version) request r.moment
+    = en ∙ ap₂ (λ (t : List DomainTree) (n : ℕ). counters_named t request n) ec em in
+    let wants = same_number b (is_among missing) (λ c. is_among (counters_named (configs r.version) request r.moment) c
+    && not (is_bound configs before earlier r.moment c))
     (λ c. ap (λ (l : List CounterKey). is_among l c) es ∙ among_without (is_among bound) named c
-    ∙ ap₂ (λ (l : List CounterKey) (t : Bool). is_among l c && not t) en (bound_test configs before earlier m bound eb c)) db in
-    subst (λ (n : ℕ). Decides ((a && b) && d) (LacksRoom (configs r.version) cells request n (is_bound configs before earlier n) live wanted)) em
-    (subst (λ (t : List DomainTree). Decides ((a && b) && d) (LacksRoom t cells request m (is_bound configs before earlier m) live wanted)) ec
-    (room_by config cells request m (is_bound configs before earlier m) live wanted a b d cells_for wants dd))
+    ∙ ap₂ (λ (l : List CounterKey) (t : Bool). is_among l c && not t) named_is (eb c)) db in
+    room_by (configs r.version) cells request r.moment (is_bound configs before earlier r.moment) live wanted a b d cells_for wants dd
 
 pub full_from : (configs : ℕ → List DomainTree) (workers cells : ℕ) (lines : List ScriptLine) (records : List Record)
     (before : List ScriptLine) (earlier : List Record) (request : RequestParts) (r : Record) (m : ℕ) (config : List DomainTree) (live held wanted : ℕ)

@@ -13,6 +13,7 @@ pub mod Numbers
 pub mod Among
 pub mod BoundBy
 pub mod Near
+pub mod Room
 pub mod VersionsBy
 pub mod CausesBy
 pub mod Verdicts

@@ -160,7 +160,7 @@ module _ (sought : Sought) (configs : ℕ → List DomainTree) (i : ℕ) (lines 
   lengths : length (take i (map line_view lines)) ≡ length (take i rs)
   lengths = omega (arith, length-take i (map line_view lines), length-take i rs, within, within_r)
 
-  one_more_first : sought_in sought configs (take (i + 1) (map line_view lines)) (take (i + 1) rs)
+  pub one_more_first : sought_in sought configs (take (i + 1) (map line_view lines)) (take (i + 1) rs)
       ≡ sought_in sought configs (take i (map line_view lines)) (take i rs) ++ sought_at sought configs (line_view x) r
   one_more_first =
       ap₂ (sought_in sought configs)

@@ -156,14 +156,14 @@ module _ (test : CounterKey → Bool) (n : ℕ) (is : IsNumberOf test n) where
 
 -- ---- the sums of counters
 
+pub among_keys : (ks : List CounterKey) (c : CounterKey) → list_any (is_at (key_cmp c)) ks ≡ is_among ks c
+among_keys [] c = refl
+among_keys (k ∷ ks) c =
+    ap (λ b. b || list_any (is_at (key_cmp c)) ks) (sym (matches_eq-law c k)) ∙ ap (λ b. same_counter c k || b) (among_keys ks c)
+
 pub keyed : (sums : Sums) (c : CounterKey) → has_sum sums c ≡ is_among (keys_of sums) c
 keyed [] c = refl
-keyed (e ∷ sums) c = is_some-lookup (is_at (key_cmp c)) (e ∷ sums) ∙ also (e ∷ sums)
-  where
-    also : (es : Sums) → list_any (is_at (key_cmp c)) (keys_of es) ≡ is_among (keys_of es) c
-    also [] = refl
-    also (d ∷ es) = ap (λ b. b || list_any (is_at (key_cmp c)) (keys_of es)) (sym (matches_eq-law c d.0))
-        ∙ ap (λ b. same_counter c d.0 || b) (also es)
+keyed (e ∷ sums) c = is_some-lookup (is_at (key_cmp c)) (e ∷ sums) ∙ among_keys (keys_of (e ∷ sums)) c
 
 pub number_of : (sums : Sums) (counters : List CounterKey) (n : ℕ) → n ≡ length sums → IsStrictlySortedBy key_cmp (keys_of sums)
     → ((c : CounterKey) → has_sum sums c ≡ is_among counters c) → IsNumberOf (is_among counters) n

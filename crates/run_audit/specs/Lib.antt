@@ -12,3 +12,4 @@ pub mod Greatest
 pub mod Ticks
 pub mod Judged
 pub mod Search
+pub mod Bound

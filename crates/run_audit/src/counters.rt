@@ -1,8 +1,8 @@
 // The counters that the checks of a run name.
-ghost use Rattle.std.specs.Prelude.{◌≡◌, ◌++◌, [], IfOk, OnOk, filter, length, map, if◌then◌else◌};
+ghost use Rattle.std.specs.Prelude.{◌≡◌, ◌++◌, [], IfOk, OnOk, if◌then◌else◌};
 ghost use Rattle.rls_core.specs.Reply.{counter_under, counters_named};
 ghost use Rattle.rls_core.specs.Sequential.{IsNumberOf};
-ghost use Rattle.script_run.specs.Named.{bound_by, counters_bound, counters_tried, is_among, is_open_at};
+ghost use Rattle.script_run.specs.Named.{counters_bound, counters_tried, is_among};
 ghost use Rattle.script_run.specs.Views.{line_view};
 ghost use Rattle.run_audit.specs.Search.{sought_at};
 ghost use Rattle.run_audit.specs.VersionAt.{config_at};
@@ -19,7 +19,7 @@ use rls_core::CounterSums;
 use rule_lookup::{Found, Index, find_rules};
 use script_run::Line;
 use std::alloc::Global;
-use window_keys::{counter_at, end_of};
+use window_keys::counter_at;
 
 // Adds the counter of a descriptor, where it has a limit.
 fn add_counter(
@@ -110,8 +110,8 @@ fn tried_at(
     counters_tried(alloc, index_of(configs, rec), line, moment_of(rec))
 }
 
-// Those of a record of such a worker, where its check was answered.
-fn bound_at(
+/// Those of a record of such a worker, where its check was answered.
+pub fn bound_at(
     alloc: Global,
     configs: &Configs,
     whose: Whose,
@@ -149,44 +149,6 @@ pub fn sought_at(
         Sought::Named => tried_at(alloc, configs, line, rec),
         Sought::Bound { whose, worker } => bound_at(alloc, configs, whose, worker, line, rec),
     }
-}
-
-// Adds the counters whose windows end after a moment.
-fn add_open(
-    counters: &mut Vec<CounterKey>,
-    more: Vec<CounterKey>,
-    at: Seconds,
-) -> Result<(), OutOfMemory>
-    ensures { OnOk result (counters.new.items ≡ counters.old.items ++ filter (is_open_at at) more.items) }
-{
-    'more: for counter in more {
-        if end_of(&counter) > at.get() {
-            counters.push(counter)?;
-        }
-    }
-    Ok(())
-}
-
-/// The counters that answered checks of such workers bound, those whose windows end after a moment.
-pub fn bound_by(
-    alloc: Global,
-    configs: &Configs,
-    whose: Whose,
-    worker: u32,
-    at: Seconds,
-    lines: &[Line],
-    records: &[Record],
-) -> Result<Vec<CounterKey>, OutOfMemory>
-    requires { length records.now ≡ length lines.now }
-    ensures { IfOk result (λ v. v.items
-        ≡ filter (is_open_at at) (bound_by (is_of whose worker) (config_at configs.now) (map line_view lines.now) records.now)) }
-{
-    let mut counters = Vec::new(alloc);
-    'lines: for i in 0..records.len() {
-        let more = bound_at(alloc, configs, whose, worker, &lines[i], &records[i])?;
-        add_open(&mut counters, more, at)?;
-    }
-    Ok(counters)
 }
 
 /// How many different counters these are.

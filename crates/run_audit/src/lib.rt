@@ -19,6 +19,7 @@
 
 mod at_least;
 mod auditing;
+mod bound;
 mod chain;
 mod charge;
 mod configs;

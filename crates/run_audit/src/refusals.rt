@@ -8,13 +8,15 @@ ghost use Rattle.script_run.specs.Refusals.{HasRefusalCause, IsFull, is_named_at
 ghost use Rattle.script_run.specs.Sequential.{IsInTurn, is_bound};
 ghost use Rattle.script_run.specs.Versions.{installs};
 ghost use Rattle.script_run.specs.Views.{line_view};
+ghost use Rattle.run_audit.specs.Bound.{AreBound, lacks_cells};
 ghost use Rattle.run_audit.specs.Causes.{IsCaused, RefusalsCaused, is_refusal};
 ghost use Rattle.run_audit.specs.VersionAt.{config_at};
 
 use crate::Configs;
+use crate::bound::{follow, has_counter, none_bound};
 use crate::configs::index_of;
 use crate::connectives::both;
-use crate::counters::{bound_by, counters_named, distinct};
+use crate::counters::{counters_named, distinct};
 use crate::found::are_found;
 use crate::installs::installs;
 use crate::of_record::{moment_of, worker_of};
@@ -26,6 +28,7 @@ use reply_text::{Outcome, Record};
 use rule_lookup::Index;
 use script_run::Line;
 use std::alloc::Global;
+use std::collections::BTreeSet;
 
 /// A run, as the causes of its refusals see it.
 #[derive(Clone, Copy)]
@@ -191,50 +194,52 @@ fn is_full(
     Ok(stands)
 }
 
-fn is_among(counters: &[CounterKey], counter: &CounterKey) -> bool
-    ensures { result ≡ is_among counters.now counter.now }
-{
-    counters.iter().any(|k| counter == k)
-}
-
 // The counters that aren't among the bound ones.
 fn without(
     alloc: Global,
     counters: Vec<CounterKey>,
-    bound: &[CounterKey],
+    bound: &BTreeSet<CounterKey>,
 ) -> Result<Vec<CounterKey>, OutOfMemory>
-    ensures { IfOk result (λ v. v.items ≡ filter (λ c. not (is_among bound.now c)) counters.items) }
+    ensures { IfOk result (λ v. v.items ≡ filter (λ c. not (is_among bound.now.keys c)) counters.items) }
 {
     let mut left = Vec::new(alloc);
     'counters: for counter in counters {
-        if !is_among(bound, &counter) {
+        if !has_counter(bound, &counter) {
             left.push(counter)?;
         }
     }
     Ok(left)
 }
 
+// Whether these are so many different counters.
+fn are_just(counters: &BTreeSet<CounterKey>, number: u32) -> bool
+    ensures { IsTrue result ↔ IsNumberOf (is_among counters.now.keys) number }
+{
+    let there = counters.len();
+    number as u64 == there as u64
+}
+
 // Whether, with one worker, the cells didn't suffice in these numbers.
 fn lacks_room(
     alloc: Global,
     run: &RunParts,
+    bound: &BTreeSet<CounterKey>,
     before: &[Line],
     earlier: &[Record],
     request: &Request,
     rec: &Record,
     numbers: Numbers,
 ) -> Result<bool, OutOfMemory>
-    requires { length earlier.now ≡ length before.now }
+    requires { AreBound (config_at run.now.configs.now) (map line_view before.now) earlier.now rec.now.moment bound.now.keys }
     ensures { IfOk result (λ b. IsTrue b ↔ LacksRoom (config_at run.now.configs.now rec.now.version) run.now.cells request.now
         rec.now.moment
         (is_bound (config_at run.now.configs.now) (map line_view before.now) earlier.now rec.now.moment) numbers.live numbers.wanted) }
 {
     let moment = moment_of(rec);
     let index = index_of(run.configs, rec);
-    let bound = bound_by(alloc, run.configs, Whose::All, 0, moment, before, earlier)?;
     let named = counters_named(alloc, index, request, moment)?;
-    let missing = without(alloc, named, bound.as_slice())?;
-    let lives = are_so_many(alloc, bound, numbers.live as u64)?;
+    let missing = without(alloc, named, bound)?;
+    let lives = are_just(bound, numbers.live);
     let wants = are_so_many(alloc, missing, numbers.wanted as u64)?;
     let above = (run.cells as u64) < numbers.live as u64 + numbers.wanted as u64;
     let needs = both(lives, wants);
@@ -246,13 +251,16 @@ fn lacks_room(
 fn is_full_caused(
     alloc: Global,
     run: &RunParts,
+    bound: &BTreeSet<CounterKey>,
     before: &[Line],
     earlier: &[Record],
     request: &Request,
     rec: &Record,
     numbers: Numbers,
 ) -> Result<bool, OutOfMemory>
-    requires { length earlier.now ≡ length before.now }
+    requires as_many { length earlier.now ≡ length before.now }
+    requires bound { run.now.workers ≡ 1
+        → AreBound (config_at run.now.configs.now) (map line_view before.now) earlier.now rec.now.moment bound.now.keys }
     ensures { IfOk result (λ b. IsTrue b ↔ (IsFull (config_at run.now.configs.now) run.now.workers run.now.cells
         (map line_view run.now.lines.now) run.now.records.now (map line_view before.now) earlier.now request.now rec.now
         numbers.live numbers.held numbers.wanted
@@ -264,7 +272,7 @@ fn is_full_caused(
     if run.workers != 1 {
         return Ok(full);
     }
-    let room = lacks_room(alloc, run, before, earlier, request, rec, numbers)?;
+    let room = lacks_room(alloc, run, bound, before, earlier, request, rec, numbers)?;
     let exact = both(numbers.held == 0, room);
     let stands = both(full, exact);
     Ok(stands)
@@ -285,13 +293,16 @@ fn is_reload_caused(run: &RunParts, earlier: &[Record], versions: u32) -> bool
 fn is_outcome_caused(
     alloc: Global,
     run: &RunParts,
+    bound: &BTreeSet<CounterKey>,
     before: &[Line],
     earlier: &[Record],
     line: &Line,
     rec: &Record,
     outcome: &Outcome,
 ) -> Result<bool, OutOfMemory>
-    requires { length earlier.now ≡ length before.now }
+    requires as_many { length earlier.now ≡ length before.now }
+    requires bound { run.now.workers ≡ 1 → lacks_cells outcome.now ≡ true
+        → AreBound (config_at run.now.configs.now) (map line_view before.now) earlier.now rec.now.moment bound.now.keys }
     ensures { IfOk result (λ b. IsTrue b ↔ (HasRefusalCause (config_at run.now.configs.now) run.now.workers run.now.cells
         (map line_view run.now.lines.now) run.now.records.now (map line_view before.now) earlier.now (line_view line.now) rec.now
         outcome.now
@@ -306,7 +317,7 @@ fn is_outcome_caused(
                     held: *held,
                     wanted: *wanted,
                 };
-                is_full_caused(alloc, run, before, earlier, request, rec, numbers)
+                is_full_caused(alloc, run, bound, before, earlier, request, rec, numbers)
             }
             Line::Reload(_) => Ok(true),
             Line::Tick(_) => Ok(true),
@@ -330,16 +341,19 @@ fn is_outcome_caused(
 fn is_caused(
     alloc: Global,
     run: &RunParts,
+    bound: &BTreeSet<CounterKey>,
     before: &[Line],
     earlier: &[Record],
     line: &Line,
     rec: &Record,
 ) -> Result<bool, OutOfMemory>
-    requires { length earlier.now ≡ length before.now }
+    requires as_many { length earlier.now ≡ length before.now }
+    requires bound { run.now.workers ≡ 1 → lacks_cells rec.now.outcome ≡ true
+        → AreBound (config_at run.now.configs.now) (map line_view before.now) earlier.now rec.now.moment bound.now.keys }
     ensures { IfOk result (λ b. IsTrue b ↔ IsCaused (config_at run.now.configs.now) run.now.workers run.now.cells
         (map line_view run.now.lines.now) run.now.records.now (map line_view before.now) earlier.now (line_view line.now) rec.now) }
 {
-    let caused = is_outcome_caused(alloc, run, before, earlier, line, rec, &rec.outcome)?;
+    let caused = is_outcome_caused(alloc, run, bound, before, earlier, line, rec, &rec.outcome)?;
     Ok(caused)
 }
 
@@ -350,15 +364,21 @@ pub fn refusals_have_causes(alloc: Global, run: &RunParts) -> Result<bool, OutOf
 {
     let lines = run.lines;
     let records = run.records;
+    let mut bound = none_bound(alloc);
     'lines: for i in 0..records.len() {
-        let caused = is_caused(
+        let before = &lines[..i];
+        let earlier = &records[..i];
+        let rec = &records[i];
+        follow(
             alloc,
-            run,
-            &lines[..i],
-            &records[..i],
-            &lines[i],
-            &records[i],
+            run.configs,
+            run.workers,
+            &mut bound,
+            before,
+            earlier,
+            rec,
         )?;
+        let caused = is_caused(alloc, run, &bound.counters, before, earlier, &lines[i], rec)?;
         if !caused {
             return Ok(false);
         }
