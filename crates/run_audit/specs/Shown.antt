@@ -1,5 +1,6 @@
 -- Inside: the charges of a run, and its sights as charges of 0 hits.
 use Rattle.std.specs.Prelude.{ℕ, List, [], ◌∷◌, ◌++◌, map, Option}
+use Rattle.std.specs.List.Sorted.{IsPermutation, IsSorted}
 use Rattle.rate_types.specs.Ledger.{Charge, Sight}
 use Rattle.rate_types.specs.Requests.{RequestParts}
 use Rattle.rate_types.specs.declared.counter_key.CounterKey.{CounterKey}
@@ -11,7 +12,9 @@ use Rattle.rls_core.specs.declared.status.Status.{Status}
 use Rattle.reply_text.specs.declared.record.Record.{Record}
 use Rattle.reply_text.specs.declared.record.Outcome.{Outcome}
 use Rattle.reply_text.specs.declared.record.Outcome.TheVariants as outcome
+use Rattle.script_run.specs.Charges.{ledger_of}
 use Rattle.script_run.specs.ScriptLine.{ScriptLine, check}
+use Rattle.run_audit.specs.Chain.{charge_cmp}
 use Rattle.run_audit.specs.declared.gathering.Shown.{Shown}
 use Rattle.run_audit.specs.declared.gathering.Shown.TheVariants.{Charges, Sights}
 
@@ -38,3 +41,8 @@ shown_at kind line moment other = []
 abbrev pub shown_of : Shown → List ScriptLine → List Record → List (Charge CounterKey)
 shown_of kind (l ∷ ls) (r ∷ rs) = shown_at kind l r.moment r.outcome ++ shown_of kind ls rs
 shown_of kind lines records = []
+
+-- the charges of a run, by their counters, by the counts before them and by their hits
+pub record AreInOrder (lines : List ScriptLine) (records : List Record) (charges : List (Charge CounterKey)) : Type 0 where
+  pub same : IsPermutation (ledger_of lines records) charges
+  pub sorted : IsSorted charge_cmp charges

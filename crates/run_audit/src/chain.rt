@@ -33,7 +33,8 @@ fn follow(charges: &[ShownCharge]) -> bool
     true
 }
 
-fn is_chain(charges: &[ShownCharge]) -> bool
+/// Whether the first has nothing before it, and each other what is due after the one before it.
+pub fn is_chain(charges: &[ShownCharge]) -> bool
     ensures { result ≡ is_chain same_counter charges.now }
 {
     match charges.first() {

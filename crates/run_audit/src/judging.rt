@@ -5,11 +5,13 @@ ghost use Rattle.descriptor_tree.specs.Views.{config_view};
 ghost use Rattle.script_run.specs.Views.{line_view};
 ghost use Rattle.run_audit.specs.Judged.{AnswersFirst};
 
+use crate::ledger::{are_ledger, sorted_charges};
 use crate::refusals::{RunParts, refusals_have_causes};
 use crate::replies::replies_by_rule;
+use crate::totals::are_totals_of;
 use crate::{
-    Clause, Configs, Setup, are_totals, charges_form_ledger, moments_never_fall,
-    one_record_per_line, sights_lawful, values_never_fall, versions_never_fall, versions_numbered,
+    Clause, Configs, Setup, moments_never_fall, one_record_per_line, sights_lawful,
+    values_never_fall, versions_never_fall, versions_numbered,
 };
 use descriptor_tree::Config;
 use rate_types::OutOfMemory;
@@ -57,7 +59,8 @@ pub fn first_broken(
     if !timely {
         return Ok(Some(Clause::MomentsNeverFall));
     }
-    let ledger = charges_form_ledger(alloc, lines, records)?;
+    let charges = sorted_charges(alloc, lines, records)?;
+    let ledger = are_ledger(&charges);
     if !ledger {
         return Ok(Some(Clause::ChargesFormLedger));
     }
@@ -80,7 +83,7 @@ pub fn first_broken(
     if !caused {
         return Ok(Some(Clause::RefusalsHaveCauses));
     }
-    let summed = are_totals(alloc, setup.start, lines, records, totals)?;
+    let summed = are_totals_of(&charges, setup.start, lines, totals);
     if !summed {
         return Ok(Some(Clause::TotalsOfCharges));
     }

@@ -1,10 +1,13 @@
-ghost use Rattle.std.specs.Prelude.{◌≡◌, ◌↔◌, IsTrue, IfOk, length, map, nat_lt};
+ghost use Rattle.std.specs.Prelude.{◌≡◌, ◌↔◌, List, IsTrue, IfOk, length, map, nat_lt};
 ghost use Rattle.std.specs.List.{list_all};
+ghost use Rattle.reply_text.specs.declared.record.Record.{Record};
 ghost use Rattle.script_run.specs.Charges.{ChargesFormLedger, ledger_of};
+ghost use Rattle.script_run.specs.ScriptLine.{ScriptLine};
 ghost use Rattle.script_run.specs.Views.{line_view};
+ghost use Rattle.run_audit.specs.Shown.{AreInOrder};
 
 use crate::ShownCharge;
-use crate::chain::are_chain;
+use crate::chain::{is_chain, sorted};
 use crate::connectives::both;
 use crate::gathering::{Shown, add_shown};
 use rate_types::OutOfMemory;
@@ -32,6 +35,31 @@ fn all_hit(charges: &[ShownCharge]) -> bool
     charges.iter().all(|x| x.hits() > 0)
 }
 
+/// The charges of all answered checks, in their order.
+pub fn sorted_charges(
+    alloc: Global,
+    lines: &[Line],
+    records: &[Record],
+) -> Result<Vec<ShownCharge>, OutOfMemory>
+    requires { length records.now ≡ length lines.now }
+    ensures { IfOk result (λ v. AreInOrder (map line_view lines.now) records.now v.items) }
+{
+    let charges = charges_of(alloc, lines, records)?;
+    let charges = sorted(charges);
+    Ok(charges)
+}
+
+/// Whether the charges of a run, which stand in their order, form one lawful ledger.
+pub fn are_ledger(charges: &[ShownCharge]) -> bool
+    ensures { (lines : List ScriptLine) (records : List Record) → AreInOrder lines records charges.now
+        → (IsTrue result ↔ ChargesFormLedger lines records) }
+{
+    let hits = all_hit(charges);
+    let chain = is_chain(charges);
+    let lawful = both(hits, chain);
+    lawful
+}
+
 /// Whether the charges of all answered checks form one lawful ledger.
 pub fn charges_form_ledger(
     alloc: Global,
@@ -41,9 +69,7 @@ pub fn charges_form_ledger(
     requires { length records.now ≡ length lines.now }
     ensures { IfOk result (λ b. IsTrue b ↔ ChargesFormLedger (map line_view lines.now) records.now) }
 {
-    let charges = charges_of(alloc, lines, records)?;
-    let hits = all_hit(&charges);
-    let chain = are_chain(charges);
-    let lawful = both(hits, chain);
+    let charges = sorted_charges(alloc, lines, records)?;
+    let lawful = are_ledger(&charges);
     Ok(lawful)
 }

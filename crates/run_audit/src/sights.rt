@@ -16,6 +16,11 @@ pub fn sights_lawful(alloc: Global, lines: &[Line], records: &[Record]) -> Resul
     requires ledger { ChargesFormLedger (map line_view lines.now) records.now }
     ensures { IfOk result (λ b. IsTrue b ↔ SightsLawful (map line_view lines.now) records.now) }
 {
+    let mut sights = Vec::new(alloc);
+    add_shown(&mut sights, Shown::Sights, lines, records)?;
+    if sights.is_empty() {
+        return Ok(true);
+    }
     let mut charges = charges_of(alloc, lines, records)?;
     add_shown(&mut charges, Shown::Sights, lines, records)?;
     let lawful = are_chain(charges);

@@ -1,13 +1,15 @@
-ghost use Rattle.std.specs.Prelude.{◌≡◌, ◌↔◌, IsTrue, IfOk, length, map};
+ghost use Rattle.std.specs.Prelude.{◌≡◌, ◌↔◌, List, IsTrue, IfOk, length, map};
+ghost use Rattle.reply_text.specs.declared.record.Record.{Record};
 ghost use Rattle.script_run.specs.Charges.{ChargesFormLedger};
 ghost use Rattle.script_run.specs.Moments.{moment_after};
 ghost use Rattle.script_run.specs.Totals.{AreTotalsOf};
 ghost use Rattle.script_run.specs.Views.{line_view};
 ghost use Rattle.run_audit.specs.Closing.{give_totals, gives_total, is_last, is_total_of};
+ghost use Rattle.run_audit.specs.Shown.{AreInOrder};
 
-use crate::chain::sorted;
+use crate::ShownCharge;
+use crate::ledger::sorted_charges;
 use crate::offers::tick_of;
-use crate::{ShownCharge, charges_of};
 use rate_types::{OutOfMemory, Seconds};
 use reply_text::Record;
 use rls_core::Total;
@@ -66,6 +68,22 @@ fn give_totals(charges: &[ShownCharge], moment: u64, totals: &[Total]) -> bool
     rest.is_empty()
 }
 
+/// Whether these are the totals of the windows that are open at the end, where the charges of a run, which stand in their order, form a
+/// lawful ledger.
+pub fn are_totals_of(
+    charges: &[ShownCharge],
+    start: Seconds,
+    lines: &[Line],
+    totals: &[Total],
+) -> bool
+    ensures { (records : List Record) → AreInOrder (map line_view lines.now) records charges.now
+        → ChargesFormLedger (map line_view lines.now) records
+        → (IsTrue result ↔ AreTotalsOf start (map line_view lines.now) records totals.now) }
+{
+    let moment = moment_after(start, lines);
+    give_totals(charges, moment, totals)
+}
+
 /// Whether these are the totals of the windows that are open at the end, where the charges form a lawful ledger.
 pub fn are_totals(
     alloc: Global,
@@ -78,9 +96,7 @@ pub fn are_totals(
     requires ledger { ChargesFormLedger (map line_view lines.now) records.now }
     ensures { IfOk result (λ b. IsTrue b ↔ AreTotalsOf start (map line_view lines.now) records.now totals.now) }
 {
-    let charges = charges_of(alloc, lines, records)?;
-    let charges = sorted(charges);
-    let moment = moment_after(start, lines);
-    let given = give_totals(&charges, moment, totals);
+    let charges = sorted_charges(alloc, lines, records)?;
+    let given = are_totals_of(&charges, start, lines, totals);
     Ok(given)
 }

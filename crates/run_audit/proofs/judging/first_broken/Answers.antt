@@ -1,8 +1,11 @@
-use Rattle.std.proofs.Common.{map}
+use Rattle.std.proofs.Common.{List, map, sym, subst}
 use Rattle.std.specs.Arc.{arc_value}
+use Rattle.rate_types.specs.Ledger.{Charge}
+use Rattle.rate_types.specs.declared.counter_key.CounterKey.{CounterKey}
 use Rattle.descriptor_tree.specs.Views.{config_view}
 use Rattle.script_run.specs.Versions.{version_in}
 use Rattle.script_run.specs.Views.{line_view}
+use Rattle.run_audit.specs.Shown.{AreInOrder}
 use Rattle.run_audit.specs.Verdict.{PrintedRun}
 use Rattle.run_audit.specs.VersionAt.{config_at}
 use Rattle.run_audit.proofs.Verdicts.{First, lawful, first_1, first_2, first_3, first_4, first_5, first_6, first_7, first_8, first_14, fails, ruled_in, caused_in}
@@ -62,11 +65,13 @@ returns-then-not-ledger c =
     let records = c.args.records.now in
     let first = config_view (arc_value c.args.first.now) in
     let run : PrintedRun = record { first = first; setup = c.args.setup; lines = lines; records = records; totals = c.args.totals.now } in
+    let order = subst (λ (xs : List (Charge CounterKey)). AreInOrder lines records xs) (sym c.deref.ensures.value) c.in_ok-charges.ensures in
+    let ledger = c.are_ledger-ledger.ensures lines records order in
     let ruled = ruled_in (config_at c.in_ok-configs.configs) (version_in first lines records) c.args.setup.global_shadow lines records
     c.replies_by_rule-ruled.result c.in_ok-configs.ensures c.replies_by_rule-ruled.ensures in
     first_6 run (c.one_record_per_line-one.ensures.0 c.if-not-one.false) (c.in_ok-numbered.ensures.0 c.if-not-numbered.false) (ruled.0 c.if-not-ruled.false)
     (c.in_ok-rising.ensures.0 c.if-not-rising.false) (c.in_ok-timely.ensures.0 c.if-not-timely.false)
-    (fails _ c.in_ok-ledger.ensures c.if-not-ledger.true)
+    (fails _ ledger c.if-not-ledger.true)
 
 pub returns-then-not-seen : goal.returns-then-not-seen
 returns-then-not-seen c =
@@ -74,6 +79,8 @@ returns-then-not-seen c =
     let records = c.args.records.now in
     let first = config_view (arc_value c.args.first.now) in
     let run : PrintedRun = record { first = first; setup = c.args.setup; lines = lines; records = records; totals = c.args.totals.now } in
+    let order = subst (λ (xs : List (Charge CounterKey)). AreInOrder lines records xs) (sym c.deref.ensures.value) c.in_ok-charges.ensures in
+    let ledger = c.are_ledger-ledger.ensures lines records order in
     let ruled = ruled_in (config_at c.in_ok-configs.configs) (version_in first lines records) c.args.setup.global_shadow lines records
     c.replies_by_rule-ruled.result c.in_ok-configs.ensures c.replies_by_rule-ruled.ensures in
     let six : First run = record {
@@ -82,7 +89,7 @@ returns-then-not-seen c =
       three = ruled.0 c.if-not-ruled.false;
       four = c.in_ok-rising.ensures.0 c.if-not-rising.false;
       five = c.in_ok-timely.ensures.0 c.if-not-timely.false;
-      six = c.in_ok-ledger.ensures.0 c.if-not-ledger.false;
+      six = ledger.0 c.if-not-ledger.false;
     } in
     first_7 run six (λ h. fails _ c.in_ok-seen.ensures c.if-not-seen.true h.0)
 
@@ -92,6 +99,8 @@ returns-then-not-fair c =
     let records = c.args.records.now in
     let first = config_view (arc_value c.args.first.now) in
     let run : PrintedRun = record { first = first; setup = c.args.setup; lines = lines; records = records; totals = c.args.totals.now } in
+    let order = subst (λ (xs : List (Charge CounterKey)). AreInOrder lines records xs) (sym c.deref.ensures.value) c.in_ok-charges.ensures in
+    let ledger = c.are_ledger-ledger.ensures lines records order in
     let ruled = ruled_in (config_at c.in_ok-configs.configs) (version_in first lines records) c.args.setup.global_shadow lines records
     c.replies_by_rule-ruled.result c.in_ok-configs.ensures c.replies_by_rule-ruled.ensures in
     let six : First run = record {
@@ -100,7 +109,7 @@ returns-then-not-fair c =
       three = ruled.0 c.if-not-ruled.false;
       four = c.in_ok-rising.ensures.0 c.if-not-rising.false;
       five = c.in_ok-timely.ensures.0 c.if-not-timely.false;
-      six = c.in_ok-ledger.ensures.0 c.if-not-ledger.false;
+      six = ledger.0 c.if-not-ledger.false;
     } in
     first_7 run six (λ h. fails _ c.in_ok-fair.ensures c.if-not-fair.true h.1)
 
@@ -110,6 +119,8 @@ returns-then-not-caused c =
     let records = c.args.records.now in
     let first = config_view (arc_value c.args.first.now) in
     let run : PrintedRun = record { first = first; setup = c.args.setup; lines = lines; records = records; totals = c.args.totals.now } in
+    let order = subst (λ (xs : List (Charge CounterKey)). AreInOrder lines records xs) (sym c.deref.ensures.value) c.in_ok-charges.ensures in
+    let ledger = c.are_ledger-ledger.ensures lines records order in
     let ruled = ruled_in (config_at c.in_ok-configs.configs) (version_in first lines records) c.args.setup.global_shadow lines records
     c.replies_by_rule-ruled.result c.in_ok-configs.ensures c.replies_by_rule-ruled.ensures in
     let six : First run = record {
@@ -118,7 +129,7 @@ returns-then-not-caused c =
       three = ruled.0 c.if-not-ruled.false;
       four = c.in_ok-rising.ensures.0 c.if-not-rising.false;
       five = c.in_ok-timely.ensures.0 c.if-not-timely.false;
-      six = c.in_ok-ledger.ensures.0 c.if-not-ledger.false;
+      six = ledger.0 c.if-not-ledger.false;
     } in
     let caused = caused_in (config_at c.in_ok-configs.configs) (version_in first lines records) c.args.setup.workers c.args.setup.cells lines records
     c.in_ok-caused.caused c.in_ok-configs.ensures c.in_ok-caused.ensures in
@@ -130,6 +141,8 @@ returns-then-not-summed c =
     let records = c.args.records.now in
     let first = config_view (arc_value c.args.first.now) in
     let run : PrintedRun = record { first = first; setup = c.args.setup; lines = lines; records = records; totals = c.args.totals.now } in
+    let order = subst (λ (xs : List (Charge CounterKey)). AreInOrder lines records xs) (sym c.deref.ensures.value) c.in_ok-charges.ensures in
+    let ledger = c.are_ledger-ledger.ensures lines records order in
     let ruled = ruled_in (config_at c.in_ok-configs.configs) (version_in first lines records) c.args.setup.global_shadow lines records
     c.replies_by_rule-ruled.result c.in_ok-configs.ensures c.replies_by_rule-ruled.ensures in
     let six : First run = record {
@@ -138,12 +151,14 @@ returns-then-not-summed c =
       three = ruled.0 c.if-not-ruled.false;
       four = c.in_ok-rising.ensures.0 c.if-not-rising.false;
       five = c.in_ok-timely.ensures.0 c.if-not-timely.false;
-      six = c.in_ok-ledger.ensures.0 c.if-not-ledger.false;
+      six = ledger.0 c.if-not-ledger.false;
     } in
+    let last = subst (λ (xs : List (Charge CounterKey)). AreInOrder lines records xs) (sym c.deref-2.ensures.value) c.in_ok-charges.ensures in
+    let summed = c.are_totals_of-summed.ensures records last (ledger.0 c.if-not-ledger.false) in
     let caused = caused_in (config_at c.in_ok-configs.configs) (version_in first lines records) c.args.setup.workers c.args.setup.cells lines records
     c.in_ok-caused.caused c.in_ok-configs.ensures c.in_ok-caused.ensures in
     first_14 run six (c.in_ok-seen.ensures.0 c.if-not-seen.false, c.in_ok-fair.ensures.0 c.if-not-fair.false) (caused.0 c.if-not-caused.false)
-    (fails _ c.in_ok-summed.ensures c.if-not-summed.true)
+    (fails _ summed c.if-not-summed.true)
 
 pub returns : goal.returns
 returns c =
@@ -151,6 +166,8 @@ returns c =
     let records = c.args.records.now in
     let first = config_view (arc_value c.args.first.now) in
     let run : PrintedRun = record { first = first; setup = c.args.setup; lines = lines; records = records; totals = c.args.totals.now } in
+    let order = subst (λ (xs : List (Charge CounterKey)). AreInOrder lines records xs) (sym c.deref.ensures.value) c.in_ok-charges.ensures in
+    let ledger = c.are_ledger-ledger.ensures lines records order in
     let ruled = ruled_in (config_at c.in_ok-configs.configs) (version_in first lines records) c.args.setup.global_shadow lines records
     c.replies_by_rule-ruled.result c.in_ok-configs.ensures c.replies_by_rule-ruled.ensures in
     let six : First run = record {
@@ -159,9 +176,18 @@ returns c =
       three = ruled.0 c.if-not-ruled.false;
       four = c.in_ok-rising.ensures.0 c.if-not-rising.false;
       five = c.in_ok-timely.ensures.0 c.if-not-timely.false;
-      six = c.in_ok-ledger.ensures.0 c.if-not-ledger.false;
+      six = ledger.0 c.if-not-ledger.false;
     } in
+    let last = subst (λ (xs : List (Charge CounterKey)). AreInOrder lines records xs) (sym c.deref-2.ensures.value) c.in_ok-charges.ensures in
+    let summed = c.are_totals_of-summed.ensures records last (ledger.0 c.if-not-ledger.false) in
     let caused = caused_in (config_at c.in_ok-configs.configs) (version_in first lines records) c.args.setup.workers c.args.setup.cells lines records
     c.in_ok-caused.caused c.in_ok-configs.ensures c.in_ok-caused.ensures in
     lawful run six (c.in_ok-seen.ensures.0 c.if-not-seen.false, c.in_ok-fair.ensures.0 c.if-not-fair.false) (caused.0 c.if-not-caused.false)
-    (c.in_ok-summed.ensures.0 c.if-not-summed.false)
+    (summed.0 c.if-not-summed.false)
+
+pub sights_lawful-requires-clause-ledger : goal.sights_lawful-requires-clause-ledger
+sights_lawful-requires-clause-ledger c =
+    let lines = map line_view c.args.lines.now in
+    let records = c.args.records.now in
+    let order = subst (λ (xs : List (Charge CounterKey)). AreInOrder lines records xs) (sym c.deref.ensures.value) c.in_ok-charges.ensures in
+    (c.are_ledger-ledger.ensures lines records order).0 c.if-not-ledger.false
