@@ -45,11 +45,32 @@ highest_push (y ∷ known) x c = omega (arith, highest_push known x c)
 
 -- ---- keys of the map
 
-same_worker : (w : ℕ) (a c : CounterKey) → is_eq (ordering_then (nat_cmp w w) (key_cmp a c)) ≡ same_counter a c
-same_worker w a c = by (nat_cmp w w) (grind (arith, nat_tests))
+last_differs : (o p : Ordering) → is_eq p ≡ false → is_eq (ordering_then o p) ≡ false
+last_differs Less p e = refl
+last_differs Equal p e = e
+last_differs Greater p e = refl
+
+after_equal : (o p : Ordering) → o ≡ Equal → is_eq (ordering_then o p) ≡ is_eq p
+after_equal o p e = ap (λ (x : Ordering). is_eq (ordering_then x p)) e
+
+same_number : (n : ℕ) → nat_cmp n n ≡ Equal
+same_number n = grind (arith, nat_tests)
+
+-- equal counters have equal starts
+abbrev by_start : CounterKey → CounterKey → Ordering
+by_start a c = ordering_then (nat_cmp a.start c.start) (key_cmp a c)
+
+started : (a c : CounterKey) → is_eq (by_start a c) ≡ same_counter a c
+started a c = by (same_counter a c) refl
   where
-    by : (o : Ordering) → o ≡ Equal → is_eq (ordering_then o (key_cmp a c)) ≡ same_counter a c
-    by o e = ap (λ o. is_eq (ordering_then o (key_cmp a c))) e ∙ sym (matches_eq-law a c)
+    by : (b : Bool) → same_counter a c ≡ b → is_eq (by_start a c) ≡ same_counter a c
+    by true e =
+        after_equal (nat_cmp a.start c.start) (key_cmp a c)
+        (subst (λ (k : CounterKey). nat_cmp a.start k.start ≡ Equal) (same_is a c e) (same_number a.start)) ∙ sym (matches_eq-law a c)
+    by false e = last_differs (nat_cmp a.start c.start) (key_cmp a c) (sym (matches_eq-law a c) ∙ e) ∙ sym e
+
+same_worker : (w : ℕ) (a c : CounterKey) → is_eq (ordering_then (nat_cmp w w) (by_start a c)) ≡ same_counter a c
+same_worker w a c = after_equal (nat_cmp w w) (by_start a c) (same_number w) ∙ started a c
 
 first_differs : (o p : Ordering) → is_eq o ≡ false → is_eq (ordering_then o p) ≡ false
 first_differs Less p e = refl
@@ -123,11 +144,11 @@ one_learnt old new w c most value greater least kept = record {
   yes = λ known knows e. at_most known c most (omega (arith, least, knows c));
   only = λ known knows h. refl;
   learnt = λ known knows e k. one known k knows (same_counter c k) refl (kept w k);
-  others = λ v k differ. kept v k ∙ ap (λ b. cond b value (value_in old v k)) (other_worker w v (key_cmp c k) differ);
+  others = λ v k differ. kept v k ∙ ap (λ b. cond b value (value_in old v k)) (other_worker w v (by_start c k) differ);
 }
   where
     one : (known : Seens) (k : CounterKey) → Knows old w known → (b : Bool) → same_counter c k ≡ b
-        → value_in new w k ≡ cond (is_eq (ordering_then (nat_cmp w w) (key_cmp c k))) value (value_in old w k)
+        → value_in new w k ≡ cond (is_eq (ordering_then (nat_cmp w w) (by_start c k))) value (value_in old w k)
         → value_in new w k ≡ highest (known ++ record { counter = c; seen = value } ∷ []) k
     one known k knows true e is =
         let put = is ∙ ap (λ b. cond b value (value_in old w k)) (same_worker w c k ∙ e) in

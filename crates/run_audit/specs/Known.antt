@@ -3,7 +3,7 @@ use Rattle.std.specs.Prelude.{◌≡◌, ℕ, ◌==◌, List, [], ◌∷◌, ◌
 use Rattle.std.specs.declared.cmp.Ordering.{Ordering}
 use Rattle.std.specs.BTreeMap.{is_at}
 use Rattle.std.specs.Map.{lookup}
-use Rattle.std.specs.Ordering.{nat_cmp, on, then_cmp}
+use Rattle.std.specs.Ordering.{nat_cmp, on, then_cmp, eq_of_both}
 use Rattle.rate_types.specs.Counters.{key_cmp, same_counter}
 use Rattle.rate_types.specs.Ledger.{Sight}
 use Rattle.rate_types.specs.declared.counter_key.CounterKey.{CounterKey}
@@ -13,9 +13,13 @@ use Rattle.run_audit.specs.declared.known.KnownCounter.{KnownCounter}
 abbrev pub Values : Type 0
 Values = List (KnownCounter × ℕ)
 
--- by the worker, then by the counter
+-- by the worker, then by the start of the window, then by the counter
 abbrev pub known_cmp : KnownCounter → KnownCounter → Ordering
-known_cmp = then_cmp (on (λ k. k.worker) nat_cmp) (on (λ k. k.counter) key_cmp)
+known_cmp = then_cmp (on (λ k. k.worker) nat_cmp) (then_cmp (on (λ k. k.counter.start) nat_cmp) (on (λ k. k.counter) key_cmp))
+
+-- the same worker and the same counter
+abbrev pub same_known : KnownCounter → KnownCounter → Bool
+same_known = eq_of_both (on (λ k. k.worker) ◌==◌) (eq_of_both (on (λ k. k.counter.start) ◌==◌) (on (λ k. k.counter) same_counter))
 
 -- what a worker knows of a counter, 0 where it knows nothing
 abbrev pub value_in : Values → ℕ → CounterKey → ℕ

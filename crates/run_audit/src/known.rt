@@ -1,19 +1,71 @@
 // What workers know of counters.
+ghost use Rattle.std.proofs.Common.{rules};
 ghost use Rattle.std.specs.Prelude.{◌≡◌, ℕ, ◌≤◌, ◌∷◌, [], IfOk, if◌then◌else◌};
-ghost use Rattle.std.specs.Ordering.{is_eq};
+ghost use Rattle.std.specs.Cmp.{partial_order_from_own_ties};
+ghost use Rattle.std.specs.Cmp.Rules.{comparing};
+ghost use Rattle.std.specs.Ordering.{as_partial_cmp, is_eq};
+ghost use Rattle.rate_types.specs.contracts.counter_key.CounterKeyOrd.TheImpl.Laws.{matches_eq-law as counter_ties};
 ghost use Rattle.rate_types.specs.declared.counter_key.CounterKey.{CounterKey};
 ghost use Rattle.script_run.specs.Values.{KnownAtMost};
-ghost use Rattle.run_audit.specs.Known.{Learns, known_cmp, value_in};
+ghost use Rattle.run_audit.specs.Known.{Learns, known_cmp, same_known, value_in};
 
 use rate_types::{CounterKey, OutOfMemory};
 use std::alloc::Global;
+use std::cmp::Ordering;
 use std::collections::BTreeMap;
 
-/// A counter that a worker knows.
-#[derive(PartialEq, Eq, PartialOrd, Ord, Drop)]
+/// A counter that a worker knows. They are ordered by their workers and by the starts of their windows, since a worker's windows come one
+/// after the other, then by their counters.
+#[derive(Drop)]
 pub struct KnownCounter {
     pub worker: u32,
     pub counter: CounterKey,
+}
+
+impl PartialEq for KnownCounter {
+    ghost eq = { same_known };
+
+    ghost laws = { Prim.search (comparing, rules) depth 20 };
+
+    fn eq(&self, other: &KnownCounter) -> bool {
+        self.worker == other.worker
+            && (self.counter.start == other.counter.start && self.counter == other.counter)
+    }
+}
+
+impl Eq for KnownCounter {
+    ghost laws = { Prim.search (comparing, rules) depth 20 };
+}
+
+impl Ord for KnownCounter {
+    ghost cmp = { known_cmp };
+
+    ghost total = { Prim.search (comparing, rules) depth 20 };
+
+    ghost matches_partial_cmp = { Prim.search (comparing, rules) depth 20 };
+
+    ghost matches_eq = { Prim.search (comparing, counter_ties, rules) depth 20 };
+
+    fn cmp(&self, other: &KnownCounter) -> Ordering {
+        self.worker.cmp(&other.worker).then(
+            self.counter
+                .start
+                .cmp(&other.counter.start)
+                .then(self.counter.cmp(&other.counter)),
+        )
+    }
+}
+
+impl PartialOrd for KnownCounter {
+    ghost partial_cmp = { as_partial_cmp known_cmp };
+
+    ghost laws = { partial_order_from_own_ties
+        (Prim.search (comparing, counter_ties, rules) depth 20)
+        (Prim.search (comparing, counter_ties, rules) depth 20) };
+
+    fn partial_cmp(&self, other: &KnownCounter) -> Option<Ordering> {
+        Some(self.cmp(other))
+    }
 }
 
 /// The greatest value that each worker knows of each counter.
