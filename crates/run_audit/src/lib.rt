@@ -11,10 +11,11 @@
 //! the counters that checks name: such calls take memory, and answer where there is none.
 //!
 //! A refusal shows how many counters there are at least. They are sought line by line, from its own in both directions, until so many
-//! different ones are found: most often they are near, and only a refusal without a cause goes through the whole run.
+//! different ones are found (`Search`): most often they are near, and only a refusal without a cause goes through the whole run. With one
+//! worker the numbers are exact: the counters that have cells are kept from refusal to refusal (`BoundCounters`).
 //!
-//! Limits: with one worker each refusal counts the counters of all earlier lines, so the time grows with the refusals times the lines.
-//! A run without refusals takes n log n in its lines.
+//! Limits: what a refusal counts may lie far from it, where few of many counters have cells for long. A run without refusals takes n log n
+//! in its lines.
 #![tactic(auto)]
 
 mod at_least;
