@@ -92,7 +92,8 @@ impl<W: Write + Drop> Sink for WriterSink<W> {
         ensures part { OnErr result (AppendsPart None None piece.now) }
         ensures event { self.new.history.events ≡ self.old.history.events ++ write_event result piece.now ∷ [] }
         ensures cause { HasCause self.old.faults self.new.faults result }
-        ensures inner { OnOk result (known.Appends (writer_contents W.contents self.old.inner) (writer_contents W.contents self.new.inner) piece.now) }
+        ensures inner { OnOk result (known.Appends (writer_contents W.contents self.old.inner)
+            (writer_contents W.contents self.new.inner) piece.now) }
     {
         match self.inner.write_all(piece) {
             Ok(()) => {
