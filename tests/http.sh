@@ -73,7 +73,7 @@ status() {
 
 ask='{"domain":"d","descriptors":[{"entries":[{"key":"k","value":"a"}]}]}'
 
-start 14
+start 15
 same "the health check" 200 "$(status "$url/healthcheck")"
 same "its body" OK "$(cat "$work/answer")"
 same "the first check" 200 "$(status -d "$ask" "$url/json")"
@@ -91,11 +91,14 @@ same "a body that is too long" 413 "$(status -H 'Content-Length: 1048577' -d "$a
 same "a head that is too long" 431 "$(status -H "X: $(head -c 20000 /dev/zero | tr '\0' a)" "$url/healthcheck")"
 same "two requests on one connection" '200 200' \
     "$(curl -s -o "$work/answer" -o "$work/answer" -w '%{http_code} ' --max-time 20 "$url/healthcheck" "$url/healthcheck" | sed 's/ $//')"
+two='GET /healthcheck HTTP/1.1\r\n\r\nGET /healthcheck HTTP/1.1\r\n\r\n'
+same "two requests in one write" 2 \
+    "$(printf "$two" | timeout 20 python3 "$here/http_client.py" raw "$port" | grep -o 'HTTP/1.1 200 OK' | wc -l)"
 same "a request that is cut" '' "$(printf 'GET /healthcheck HT' | timeout 20 python3 "$here/http_client.py" raw "$port")"
-ended "the server" 15
-same "the connections that were kept" 1 "$(grep -c '"answers":2,' "$work/out")"
+ended "the server" 16
+same "the connections with two requests" 2 "$(grep -c '"answers":2,' "$work/out")"
 same "the connection that was cut" 1 "$(grep -c '"end":"CUT_SHORT"' "$work/out")"
-same "the last line" '{"answers":0,"connection":13,"end":"CUT_SHORT"}' "$(tail -1 "$work/out")"
+same "the last line" '{"answers":0,"connection":14,"end":"CUT_SHORT"}' "$(tail -1 "$work/out")"
 
 start 2 --cells 1
 same "the counter that has the one cell" 200 "$(status -d "$ask" "$url/json")"
