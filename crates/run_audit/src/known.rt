@@ -3,7 +3,8 @@ ghost use Rattle.std.proofs.Common.{rules};
 ghost use Rattle.std.specs.Prelude.{◌≡◌, ℕ, ◌≤◌, ◌∷◌, [], IfOk, if◌then◌else◌};
 ghost use Rattle.std.specs.Cmp.{partial_order_from_own_ties};
 ghost use Rattle.std.specs.Cmp.Rules.{comparing};
-ghost use Rattle.std.specs.Ordering.{as_partial_cmp, is_eq};
+ghost use Rattle.std.specs.Ordering.{as_partial_cmp, is_eq, nat_cmp, on, then_cmp};
+ghost use Rattle.rate_types.specs.Counters.{key_cmp};
 ghost use Rattle.rate_types.specs.contracts.counter_key.CounterKeyOrd.TheImpl.Laws.{matches_eq-law as counter_ties};
 ghost use Rattle.rate_types.specs.declared.counter_key.CounterKey.{CounterKey};
 ghost use Rattle.script_run.specs.Values.{KnownAtMost};
@@ -20,6 +21,17 @@ use std::collections::BTreeMap;
 pub struct KnownCounter {
     pub worker: u32,
     pub counter: CounterKey,
+}
+
+// Compares the names of counters only where they have the same start.
+fn by_start(one: &CounterKey, other: &CounterKey) -> Ordering
+    ensures { result ≡ then_cmp (on (λ k. k.start) nat_cmp) key_cmp one.now other.now }
+{
+    match one.start.cmp(&other.start) {
+        Ordering::Less => Ordering::Less,
+        Ordering::Equal => one.cmp(other),
+        Ordering::Greater => Ordering::Greater,
+    }
 }
 
 impl PartialEq for KnownCounter {
@@ -47,12 +59,11 @@ impl Ord for KnownCounter {
     ghost matches_eq = { Prim.search (comparing, counter_ties, rules) depth 20 };
 
     fn cmp(&self, other: &KnownCounter) -> Ordering {
-        self.worker.cmp(&other.worker).then(
-            self.counter
-                .start
-                .cmp(&other.counter.start)
-                .then(self.counter.cmp(&other.counter)),
-        )
+        match self.worker.cmp(&other.worker) {
+            Ordering::Less => Ordering::Less,
+            Ordering::Equal => by_start(&self.counter, &other.counter),
+            Ordering::Greater => Ordering::Greater,
+        }
     }
 }
 
