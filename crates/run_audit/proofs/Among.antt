@@ -39,11 +39,6 @@ among_filter t (x ∷ xs) c = among_cond (t x) x (filter t xs) c ∙ by (same_co
     by true e more = among_first (t x) (same_counter c x) (t c) true (is_among (filter t xs) c) (is_among xs c) (ap t (sym (same_is c x e))) e more
     by false e more = among_later (t x) (same_counter c x) (t c) (is_among (filter t xs) c) (is_among xs c) e more
 
--- two tests with one that both share
-pub either_open : (o a b : Bool) → ((o && a) || (o && b)) ≡ (o && (a || b))
-either_open true a b = refl
-either_open false a b = refl
-
 and_back : (a b : Bool) → (a && b) ≡ (b && a)
 and_back true true = refl
 and_back true false = refl

@@ -1,7 +1,8 @@
 -- The causes of refusals, by tests.
-use Rattle.std.proofs.Common.{◌≡◌, ℕ, ◌+◌, ◌*◌, ◌-◌, ◌≤◌, ◌<◌, ◌||◌, ◌&&◌, not, List, length, take, drop, map, filter, Bool, true, false, refl, sym, ap, ap₂, ◌∙◌, subst}
+use Rattle.std.proofs.Common.{◌≡◌, ℕ, zero, suc, ◌+◌, ◌*◌, ◌-◌, ◌≤◌, ◌<◌, ◌==◌, ◌||◌, ◌&&◌, not, List, [], ◌∷◌, take, filter, Bool, true, false}
+use Rattle.std.proofs.Common.{refl, sym, ap, ap₂, ◌∙◌, subst, arith}
 use Rattle.std.specs.Bool.{Decides}
-use Rattle.std.proofs.lemmas.List.{length-map, take-map, drop-map}
+use Rattle.std.proofs.lemmas.Bool.{le-leb}
 use Rattle.rate_types.specs.Requests.{RequestParts}
 use Rattle.rate_types.specs.declared.counter_key.CounterKey.{CounterKey}
 use Rattle.rate_types.specs.declared.limits.TheConstants.{MOST_PINS}
@@ -12,40 +13,20 @@ use Rattle.reply_text.specs.declared.record.Record.{Record}
 use Rattle.reply_text.specs.declared.record.Outcome.{Outcome}
 use Rattle.reply_text.specs.declared.record.Outcome.TheVariants.{Checked, Ticked, Installed, Bad, Full, Spent, VersionsFull}
 use Rattle.script_run.specs.ScriptLine.{ScriptLine, check, reload, tick, bad}
-use Rattle.script_run.specs.Named.{AreThere, all_tried, bound_by, is_among, is_open_at}
+use Rattle.script_run.specs.Named.{AreThere, bound_by, counters_bound, is_among, is_open_at}
 use Rattle.script_run.specs.Refusals.{HasRefusalCause, IsFull, is_named_at, may_be_bound}
 use Rattle.script_run.specs.Sequential.{IsInTurn, is_bound}
-use Rattle.script_run.specs.Views.{line_view}
-use Rattle.script_run.specs.declared.line.Line.{Line}
+use Rattle.run_audit.specs.Asked.{is_told_at}
+use Rattle.run_audit.specs.Besides.{IsFullBesides}
 use Rattle.run_audit.specs.Bound.{AreBound}
 use Rattle.run_audit.specs.Causes.{IsCaused, is_refusal}
-use Rattle.run_audit.specs.Whose.{is_of}
-use Rattle.run_audit.specs.declared.offers.Whose.TheVariants.{Own, Others}
-use Rattle.run_audit.specs.declared.search.Sought.TheVariants.{Named}
+use Rattle.run_audit.specs.declared.asked.Asked.TheVariants.{Bound}
 use mathlib.Core.Path.{fun_ext}
-use Rattle.run_audit.proofs.Among.{among_without, either_open}
-use Rattle.run_audit.proofs.Near.{parts}
+use Rattle.run_audit.proofs.Among.{among_without}
+use Rattle.run_audit.proofs.Gates.{first_later, grouped}
+use Rattle.run_audit.proofs.NamedBy.{picked}
+use Rattle.run_audit.proofs.Numbers.{at_most, weaker}
 use Rattle.run_audit.proofs.Tests.{both, false_true}
-
-pub full_by : (configs : ℕ → List DomainTree) (workers cells : ℕ) (lines : List ScriptLine) (records : List Record)
-    (before : List ScriptLine) (earlier : List Record) (request : RequestParts) (r : Record) (live held wanted : ℕ) (m w v n : Bool)
-    → Decides m ((cells < live + held + wanted) × (1 ≤ wanted) × (held ≤ MOST_PINS * (workers - 1)))
-    → Decides w (AreThere (is_among (counters_named (configs r.version) request r.moment)) wanted)
-    → Decides v (AreThere (may_be_bound configs lines records before earlier r) live)
-    → Decides n (AreThere (is_named_at configs lines records r.moment) (live + wanted))
-    → Decides ((m && w) && (v && n)) (IsFull configs workers cells lines records before earlier request r live held wanted)
-full_by configs workers cells lines records before earlier request r live held wanted m w v n dm dw dv dn =
-    let d = both (m && w) (v && n) (both m w dm dw) (both v n dv dn) in (
-      λ h. record {
-        full = (d.0 h).0.0.0;
-        some = (d.0 h).0.0.1;
-        wants = (d.0 h).0.1;
-        lives = (d.0 h).1.0;
-        names = (d.0 h).1.1;
-        holds = (d.0 h).0.0.2;
-      },
-      λ x. d.1 (((x.full, x.some, x.holds), x.wants), (x.lives, x.names)),
-    )
 
 pub room_by : (config : List DomainTree) (cells : ℕ) (request : RequestParts) (moment : ℕ) (bound : CounterKey → Bool) (live wanted : ℕ) (a b d : Bool)
     → Decides a (IsNumberOf bound live) → Decides b (Wants bound (counters_named config request moment) wanted) → Decides d (cells < live + wanted)
@@ -113,9 +94,6 @@ module _ (configs : ℕ → List DomainTree) (workers cells : ℕ) (lines : List
 pub no_turn : {P Q : Type 0} (workers : ℕ) (b : Bool) → (workers ≡ 1 → ⊥) → Decides b P → Decides b (P × (workers ≡ 1 → Q))
 no_turn workers b several d = (λ h. (d.0 h, λ one. absurd (several one)), λ x. d.1 x.0)
 
-pub in_turn : {P Q : Type 0} (workers : ℕ) (a b : Bool) → workers ≡ 1 → Decides a P → Decides b Q → Decides (a && b) (P × (workers ≡ 1 → Q))
-in_turn workers a b one da db = let d = both a b da db in (λ h. ((d.0 h).0, λ e. (d.0 h).1), λ x. d.1 (x.0, x.1 one))
-
 -- ---- the lists of counters that the code makes
 
 same_test : {k : ℕ} (b : Bool) (s t : CounterKey → Bool) → ((c : CounterKey) → s c ≡ t c) → Decides b (AreThere s k) → Decides b (AreThere t k)
@@ -125,36 +103,74 @@ same_number : {k : ℕ} (b : Bool) (s t : CounterKey → Bool) → ((c : Counter
 same_number {k = k} b s t same d = subst (λ (p : CounterKey → Bool). Decides b (IsNumberOf p k)) (fun_ext same) d
 
 pub live_by : (configs : ℕ → List DomainTree) (lines : List ScriptLine) (records : List Record) (before : List ScriptLine) (earlier : List Record)
-    (r : Record) (w m live : ℕ) (b : Bool) → w ≡ r.worker → m ≡ r.moment
-    → Decides b (AreThere (λ c. (is_open_at m c && is_among (bound_by (is_of Others w) configs lines records) c)
-    || (is_open_at m c && is_among (bound_by (is_of Own w) configs before earlier) c)) live)
+    (r : Record) (w m n live : ℕ) (b : Bool) → w ≡ r.worker → m ≡ r.moment → before ≡ take n lines → earlier ≡ take n records
+    → Decides b (AreThere (is_told_at (Bound w n) configs lines records m) live)
     → Decides b (AreThere (may_be_bound configs lines records before earlier r) live)
-live_by configs lines records before earlier r w m live b ew em d =
-    same_test b (λ c. (is_open_at m c && is_among (bound_by (is_of Others w) configs lines records) c)
-    || (is_open_at m c && is_among (bound_by (is_of Own w) configs before earlier) c)) (may_be_bound configs lines records before earlier r)
-    (λ c. either_open (is_open_at m c) (is_among (bound_by (is_of Others w) configs lines records) c)
-    (is_among (bound_by (is_of Own w) configs before earlier) c)
-    ∙ ap₂ (λ (v n : ℕ). is_open_at n c && (is_among (bound_by (is_of Others v) configs lines records) c || is_among (bound_by (is_of Own v) configs before earlier) c)) ew em) d
+live_by configs lines records before earlier r w m n live b ew em el er d =
+    same_test b (is_told_at (Bound w n) configs lines records m) (may_be_bound configs lines records before earlier r)
+    (λ c. ap₂ (λ (v k : ℕ). is_told_at (Bound v n) configs lines records k c) ew em
+    ∙ ap₂ (λ (x : List ScriptLine) (y : List Record). is_open_at r.moment c
+    && (is_among (bound_by (λ v. not (v == r.worker)) configs lines records) c || is_among (bound_by (λ v. v == r.worker) configs x y) c))
+    (sym el) (sym er)) d
 
--- checks of the first lines and of the lines behind those are the checks of the run
-pub named_by : (configs : ℕ → List DomainTree) (n m number : ℕ) (lines : List Line) (records : List Record) (behind : List Line)
-    (later : List Record) (b : Bool) → length records ≡ length lines → behind ≡ drop n lines → later ≡ drop n records
-    → Decides b (AreThere (λ c. (is_open_at m c && is_among (all_tried configs (map line_view (take n lines)) (take n records)) c)
-    || (is_open_at m c && is_among (all_tried configs (map line_view behind) later) c)) number)
-    → Decides b (AreThere (is_named_at configs (map line_view lines) records m) number)
-named_by configs n m number lines records behind later b same is_l is_r d =
-    same_test b (λ c. (is_open_at m c && is_among (all_tried configs (map line_view (take n lines)) (take n records)) c)
-    || (is_open_at m c && is_among (all_tried configs (map line_view behind) later) c))
-    (is_named_at configs (map line_view lines) records m)
-    (λ c. ap₂ (λ (x y : List ScriptLine). (is_open_at m c && is_among (all_tried configs x (take n records)) c)
-    || (is_open_at m c && is_among (all_tried configs y later) c)) (sym (take-map line_view n lines))
-    (ap (map line_view) is_l ∙ sym (drop-map line_view n lines))
-    ∙ ap (λ (x : List Record). (is_open_at m c && is_among (all_tried configs (take n (map line_view lines)) (take n records)) c)
-    || (is_open_at m c && is_among (all_tried configs (drop n (map line_view lines)) x) c)) is_r
-    ∙ either_open (is_open_at m c) (is_among (all_tried configs (take n (map line_view lines)) (take n records)) c)
-    (is_among (all_tried configs (drop n (map line_view lines)) (drop n records)) c)
-    ∙ ap (λ (x : Bool). is_open_at m c && x)
-    (parts Named configs n (map line_view lines) records c (length-map lines line_view ∙ sym same))) d
+-- ---- with one worker
+
+in_two : (own k others mine : Bool) → (k || (others || mine)) ≡ (((not own && k) || others) || ((own && k) || mine))
+in_two true k others mine = first_later k others mine
+in_two false k others mine = sym (grouped k others mine)
+
+-- the counters of all workers are those of the others and of this one
+of_two : (u : ℕ) (configs : ℕ → List DomainTree) (ls : List ScriptLine) (rs : List Record) (c : CounterKey)
+    → is_among (bound_by (λ w. true) configs ls rs) c
+    ≡ (is_among (bound_by (λ w. not (w == u)) configs ls rs) c || is_among (bound_by (λ w. w == u) configs ls rs) c)
+of_two u configs [] rs c = refl
+of_two u configs (l ∷ ls) [] c = refl
+of_two u configs (l ∷ ls) (r ∷ rs) c =
+    let here : List CounterKey = counters_bound (configs r.version) l r.moment r.outcome in
+    picked true here (bound_by (λ w. true) configs ls rs) c
+    ∙ ap (λ (b : Bool). is_among here c || b) (of_two u configs ls rs c)
+    ∙ in_two (r.worker == u) (is_among here c) (is_among (bound_by (λ w. not (w == u)) configs ls rs) c) (is_among (bound_by (λ w. w == u) configs ls rs) c)
+    ∙ sym (ap₂ (λ (a b : Bool). a || b) (picked (not (r.worker == u)) here (bound_by (λ w. not (w == u)) configs ls rs) c)
+    (picked (r.worker == u) here (bound_by (λ w. w == u) configs ls rs) c))
+
+in_more : (a b d : Bool) → (b ≡ true → d ≡ true) → (a || b) ≡ true → (a || d) ≡ true
+in_more true b d f e = refl
+in_more false b d f e = f e
+
+of_first : (by : ℕ → Bool) (configs : ℕ → List DomainTree) (n : ℕ) (ls : List ScriptLine) (rs : List Record) (c : CounterKey)
+    → is_among (bound_by by configs (take n ls) (take n rs)) c ≡ true → is_among (bound_by by configs ls rs) c ≡ true
+of_first by configs zero ls rs c e = absurd (false_true e)
+of_first by configs (suc n) [] rs c e = e
+of_first by configs (suc n) (l ∷ ls) [] c e = e
+of_first by configs (suc n) (l ∷ ls) (r ∷ rs) c e =
+    let here : List CounterKey = counters_bound (configs r.version) l r.moment r.outcome in
+    picked (by r.worker) here (bound_by by configs ls rs) c
+    ∙ in_more (by r.worker && is_among here c) (is_among (bound_by by configs (take n ls) (take n rs)) c) (is_among (bound_by by configs ls rs) c)
+    (of_first by configs n ls rs c) (sym (picked (by r.worker) here (bound_by by configs (take n ls) (take n rs)) c) ∙ e)
+
+or_more : (a b d : Bool) → (a ≡ true → d ≡ true) → (a || b) ≡ true → (d || b) ≡ true
+or_more true b d f e = ap (λ (x : Bool). x || b) (f refl)
+or_more false b true f e = refl
+or_more false b false f e = e
+
+and_more : (o a b : Bool) → (a ≡ true → b ≡ true) → (o && a) ≡ true → (o && b) ≡ true
+and_more true a b f e = f e
+and_more false a b f e = e
+
+-- the counters that have cells may have them
+pub exact_lives : (configs : ℕ → List DomainTree) (lines : List ScriptLine) (records : List Record) (before : List ScriptLine) (earlier : List Record)
+    (r : Record) (n live : ℕ) → before ≡ take n lines → earlier ≡ take n records
+    → IsNumberOf (is_bound configs before earlier r.moment) live → AreThere (may_be_bound configs lines records before earlier r) live
+exact_lives configs lines records before earlier r n live el er is =
+    weaker (may_be_bound configs lines records before earlier r) (is_bound configs before earlier r.moment) live
+    (λ c. and_more (is_open_at r.moment c) (is_among (bound_by (λ w. true) configs before earlier) c)
+    (is_among (bound_by (λ w. not (w == r.worker)) configs lines records) c || is_among (bound_by (λ w. w == r.worker) configs before earlier) c)
+    (λ e. or_more (is_among (bound_by (λ w. not (w == r.worker)) configs before earlier) c)
+    (is_among (bound_by (λ w. w == r.worker) configs before earlier) c) (is_among (bound_by (λ w. not (w == r.worker)) configs lines records) c)
+    (λ o. of_first (λ w. not (w == r.worker)) configs n lines records c
+    (sym (ap₂ (λ (x : List ScriptLine) (y : List Record). is_among (bound_by (λ w. not (w == r.worker)) configs x y) c) el er) ∙ o))
+    (sym (of_two r.worker configs before earlier c) ∙ e)))
+    ((at_most (is_bound configs before earlier r.moment) live is live).0 (le-leb live live (omega arith)))
 
 -- the counters that have cells, and those that are wanted
 pub room_from : (configs : ℕ → List DomainTree) (cells : ℕ) (before : List ScriptLine) (earlier : List Record) (request : RequestParts) (r : Record)
@@ -173,19 +189,52 @@ room_from configs cells before earlier request r m config bound named missing li
     ∙ ap₂ (λ (l : List CounterKey) (t : Bool). is_among l c && not t) named_is (eb c)) db in
     room_by (configs r.version) cells request r.moment (is_bound configs before earlier r.moment) live wanted a b d cells_for wants dd
 
-pub full_from : (configs : ℕ → List DomainTree) (workers cells : ℕ) (lines : List ScriptLine) (records : List Record)
-    (before : List ScriptLine) (earlier : List Record) (request : RequestParts) (r : Record) (m : ℕ) (config : List DomainTree) (live held wanted : ℕ)
-    (a w v n : Bool) → m ≡ r.moment → config ≡ configs r.version
+pub besides_by : (configs : ℕ → List DomainTree) (workers cells : ℕ) (lines : List ScriptLine) (records : List Record) (request : RequestParts)
+    (r : Record) (m : ℕ) (config : List DomainTree) (live held wanted : ℕ) (a w n : Bool) → m ≡ r.moment → config ≡ configs r.version
     → Decides a ((cells < live + held + wanted) × (1 ≤ wanted) × (held ≤ MOST_PINS * (workers - 1)))
     → Decides w (AreThere (is_among (counters_named config request m)) wanted)
-    → Decides v (AreThere (may_be_bound configs lines records before earlier r) live)
     → Decides n (AreThere (is_named_at configs lines records m) (live + wanted))
-    → Decides ((a && w) && (v && n)) (IsFull configs workers cells lines records before earlier request r live held wanted)
-full_from configs workers cells lines records before earlier request r m config live held wanted a w v n em ec da dw dv dn =
-    full_by configs workers cells lines records before earlier request r live held wanted a w v n da
+    → Decides ((a && w) && n) (IsFullBesides configs workers cells lines records request r live held wanted)
+besides_by configs workers cells lines records request r m config live held wanted a w n em ec da dw dn =
+    let e = both (a && w) n (both a w da
     (subst (λ (t : ℕ). Decides w (AreThere (is_among (counters_named (configs r.version) request t)) wanted)) em
-    (subst (λ (t : List DomainTree). Decides w (AreThere (is_among (counters_named t request m)) wanted)) ec dw)) dv
-    (subst (λ (t : ℕ). Decides n (AreThere (is_named_at configs lines records t) (live + wanted))) em dn)
+    (subst (λ (t : List DomainTree). Decides w (AreThere (is_among (counters_named t request m)) wanted)) ec dw)))
+    (subst (λ (t : ℕ). Decides n (AreThere (is_named_at configs lines records t) (live + wanted))) em dn) in (
+      λ h. record {
+        full = (e.0 h).0.0.0;
+        some = (e.0 h).0.0.1;
+        holds = (e.0 h).0.0.2;
+        wants = (e.0 h).0.1;
+        names = (e.0 h).1;
+      },
+      λ x. e.1 (((x.full, x.some, x.holds), x.wants), x.names),
+    )
+
+module _ (configs : ℕ → List DomainTree) (workers cells : ℕ) (lines : List ScriptLine) (records : List Record)
+    (before : List ScriptLine) (earlier : List Record) (request : RequestParts) (r : Record) (live held wanted : ℕ) where
+  abbrev Besides : Type 0
+  Besides = IsFullBesides configs workers cells lines records request r live held wanted
+
+  abbrev Lives : Type 0
+  Lives = AreThere (may_be_bound configs lines records before earlier r) live
+
+  abbrev Whole : Type 0
+  Whole = IsFull configs workers cells lines records before earlier request r live held wanted
+
+  filled : Besides → Lives → Whole
+  filled x lives = record { full = x.full; some = x.some; wants = x.wants; lives = lives; names = x.names; holds = x.holds }
+
+  besides : Whole → Besides
+  besides x = record { full = x.full; some = x.some; holds = x.holds; wants = x.wants; names = x.names }
+
+  pub full_by : (a v : Bool) → Decides a Besides → Decides v Lives → Decides (a && v) Whole
+  full_by a v da dv = let d = both a v da dv in (λ h. filled (d.0 h).0 (d.0 h).1, λ x. d.1 (besides x, x.lives))
+
+  -- with one worker the exact numbers suffice
+  pub in_turn : {P Room : Type 0} (a b : Bool) → workers ≡ 1 → Decides a Besides → Decides b (P × Room) → (Room → Lives)
+      → Decides (a && b) (Whole × (workers ≡ 1 → P × Room))
+  in_turn a b one da db lives =
+      let d = both a b da db in (λ h. (filled (d.0 h).0 (lives (d.0 h).1.1), λ e. (d.0 h).1), λ x. d.1 (besides x.0, x.1 one))
 
 pub caused_by : (configs : ℕ → List DomainTree) (workers cells : ℕ) (lines : List ScriptLine) (records : List Record)
     (before : List ScriptLine) (earlier : List Record) (r : Record) (l : ScriptLine) (o : Outcome) (b : Bool) → o ≡ r.outcome

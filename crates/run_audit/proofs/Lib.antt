@@ -11,8 +11,10 @@ pub mod RecordOfBy
 pub mod StatusesBy
 pub mod Numbers
 pub mod Among
-pub mod BoundBy
-pub mod Near
+pub mod Gates
+pub mod EndOrder
+pub mod NamedBy
+pub mod EndsBy
 pub mod Room
 pub mod VersionsBy
 pub mod CausesBy

@@ -125,21 +125,26 @@ all_front P zero xs h = tt
 all_front P (suc n) [] h = tt
 all_front P (suc n) (x ∷ xs) h = (h.0, all_front P n xs h.1)
 
-module _ (test : CounterKey → Bool) (n : ℕ) (is : IsNumberOf test n) where
-  no_more : (k : ℕ) → AreThere test k → k ≤ n
+module _ (test : CounterKey → Bool) (ks : List CounterKey) (apart : IsDistinct same_counter ks) (all : (c : CounterKey) → is_among ks c ≡ test c) where
+  no_more : (k : ℕ) → AreThere test k → k ≤ length ks
   no_more k a =
-      let l = length-le_from_is_member laws-law a.counters is.counters (distinct a.counters a.differ)
-      (λ q e. is.all q ∙ all_among (λ c. test c ≡ true) a.counters q a.pass e) in
-      omega (arith, l, a.count, is.count)
+      let l = length-le_from_is_member laws-law a.counters ks (distinct a.counters a.differ)
+      (λ q e. all q ∙ all_among (λ c. test c ≡ true) a.counters q a.pass e) in
+      omega (arith, l, a.count)
 
-  so_many : (k : ℕ) → k ≤ n → AreThere test k
+  so_many : (k : ℕ) → k ≤ length ks → AreThere test k
   so_many k h = record {
-    counters = take k is.counters;
-    differ = λ c. let f = front_count k is.counters c in let o = once is.counters (differ_by_order is.counters is.differ) c in omega arith;
-    pass = all_front (λ c. test c ≡ true) k is.counters (first_among (λ c. test c ≡ true) is.counters [] (λ c e. sym (is.all c) ∙ e));
-    count = front_long k is.counters (omega (arith, h, is.count));
+    counters = take k ks;
+    differ = λ c. let f = front_count k ks c in let o = once ks apart c in omega arith;
+    pass = all_front (λ c. test c ≡ true) k ks (first_among (λ c. test c ≡ true) ks [] (λ c e. sym (all c) ∙ e));
+    count = front_long k ks h;
   }
 
+  -- there are as many as these, and no more
+  pub as_these : (k : ℕ) → Decides (nat_le k (length ks)) (AreThere test k)
+  as_these k = (λ h. so_many k (leb-true k (length ks) h), λ a. le-leb k (length ks) (no_more k a))
+
+module _ (test : CounterKey → Bool) (n : ℕ) (is : IsNumberOf test n) where
   same_number : (k : ℕ) → IsNumberOf test k → k ≡ n
   same_number k a =
       let l = length-from_same_keys laws-law a.counters is.counters (differ_by_order a.counters a.differ) (differ_by_order is.counters is.differ)
@@ -147,12 +152,22 @@ module _ (test : CounterKey → Bool) (n : ℕ) (is : IsNumberOf test n) where
       omega (arith, l, a.count, is.count)
 
   pub at_most : (k : ℕ) → Decides (nat_le k n) (AreThere test k)
-  at_most k = (λ h. so_many k (leb-true k n h), λ a. le-leb k n (no_more k a))
+  at_most k = subst (λ (m : ℕ). Decides (nat_le k m) (AreThere test k)) is.count (as_these test is.counters (differ_by_order is.counters is.differ) is.all k)
 
   pub just : (k : ℕ) → Decides (k == n) (IsNumberOf test k)
   just k =
       let d = Decides-eqb k n in
       (λ h. subst (λ m. IsNumberOf test m) (sym (d.0 h)) is, λ a. d.1 (same_number k a))
+
+-- ---- a test that more counters pass
+
+all_pass : (p t : CounterKey → Bool) → ((c : CounterKey) → t c ≡ true → p c ≡ true) → (xs : List CounterKey)
+    → AllByRecursion (λ k. t k ≡ true) xs → AllByRecursion (λ k. p k ≡ true) xs
+all_pass p t more [] h = tt
+all_pass p t more (x ∷ xs) h = (more x h.0, all_pass p t more xs h.1)
+
+pub weaker : (p t : CounterKey → Bool) (k : ℕ) → ((c : CounterKey) → t c ≡ true → p c ≡ true) → AreThere t k → AreThere p k
+weaker p t k more a = record { counters = a.counters; differ = a.differ; pass = all_pass p t more a.counters a.pass; count = a.count }
 
 -- ---- the sums of counters
 

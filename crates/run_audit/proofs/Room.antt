@@ -1,11 +1,12 @@
 -- The counters that have cells while a run of one worker is gone through.
-use Rattle.std.proofs.Common.{◌≡◌, ℕ, ◌+◌, ◌≤◌, ◌<◌, ◌||◌, ◌&&◌, List, length, take, get_or, map, filter, Bool, true, false, cond}
-use Rattle.std.proofs.Common.{refl, sym, ap, ap₂, ◌∙◌, arith}
+use Rattle.std.proofs.Common.{◌≡◌, ℕ, ◌+◌, ◌≤◌, ◌<◌, ◌||◌, ◌&&◌, List, [], ◌∷◌, ◌++◌, length, take, get_or, map, filter, Bool, true, false, cond}
+use Rattle.std.proofs.Common.{refl, sym, ap, ap₂, ◌∙◌, arith, append_assoc, append-nil}
 use Rattle.std.specs.BTreeMap.{is_at}
 use Rattle.std.specs.List.{list_any}
 use Rattle.std.proofs.lemmas.Bool.{lt-ltb, ltb-true}
-use Rattle.std.proofs.lemmas.List.{length-take, take-take}
+use Rattle.std.proofs.lemmas.List.{length-map, length-take, take_more, take-take}
 use Rattle.std.proofs.lemmas.List.Folds.{list_any-append}
+use Rattle.std.proofs.Math.ListN.{get_or-map}
 use Rattle.rate_types.specs.Counters.{key_cmp, same_counter}
 use Rattle.rate_types.specs.declared.counter_key.CounterKey.{CounterKey}
 use Rattle.rate_types.specs.contracts.counter_key.CounterKeyOrd.TheImpl.Laws.{matches_eq-law}
@@ -14,17 +15,13 @@ use Rattle.window_keys.proofs.Counters.{same_either}
 use Rattle.descriptor_tree.specs.Trees.{DomainTree}
 use Rattle.reply_text.specs.declared.record.Record.{Record}
 use Rattle.script_run.specs.ScriptLine.{ScriptLine}
-use Rattle.script_run.specs.Named.{bound_by, is_among, is_open_at}
+use Rattle.script_run.specs.Named.{bound_by, counters_bound, is_among, is_open_at}
 use Rattle.script_run.specs.Sequential.{is_bound}
 use Rattle.script_run.specs.Views.{line_view}
 use Rattle.script_run.specs.declared.line.Line.{Line}
 use Rattle.run_audit.specs.Bound.{AreBound, IsUpTo, KeepBound}
-use Rattle.run_audit.specs.Search.{sought_at, sought_in}
 use Rattle.run_audit.specs.declared.bound.BoundCounters.{BoundCounters}
-use Rattle.run_audit.specs.declared.offers.Whose.TheVariants.{All}
-use Rattle.run_audit.specs.declared.search.Sought.TheVariants.{Bound}
 use Rattle.run_audit.proofs.Among.{among_filter}
-use Rattle.run_audit.proofs.Near.{one_more_first}
 use Rattle.run_audit.proofs.Numbers.{among_keys}
 
 -- ---- sets of counters
@@ -52,19 +49,47 @@ open_or : (o a b x : Bool) → (o && a) ≡ (o && b) → (o && (a || x)) ≡ (o 
 open_or true a b x e = ap (λ (y : Bool). y || x) e
 open_or false a b x e = refl
 
-pub one_line_bound : (configs : ℕ → List DomainTree) (m i : ℕ) (lines : List Line) (rs : List Record) (x : Line) (r : Record)
-    (old new more : List CounterKey) (q : CounterKey) → i < length lines → i < length rs → x ≡ get_or lines i x → r ≡ get_or rs i r
-    → more ≡ sought_at (Bound All 0) configs (line_view x) r → is_among new q ≡ (is_among old q || is_among more q)
-    → (is_open_at m q && is_among old q) ≡ is_bound configs (take i (map line_view lines)) (take i rs) m q
-    → (is_open_at m q && is_among new q) ≡ is_bound configs (take (i + 1) (map line_view lines)) (take (i + 1) rs) m q
-one_line_bound configs m i lines rs x r old new more q within_l within_r is_x is_r is added same =
-    let before : List CounterKey = sought_in (Bound All 0) configs (take i (map line_view lines)) (take i rs) in
-    ap (λ (b : Bool). is_open_at m q && b) added ∙ open_or (is_open_at m q) (is_among old q) (is_among before q) (is_among more q) same
-    ∙ ap (λ (b : Bool). is_open_at m q && b)
-    (ap (λ (l : List CounterKey). is_among before q || is_among l q) is
-    ∙ sym (list_any-append (λ k. same_counter q k) before (sought_at (Bound All 0) configs (line_view x) r))
-    ∙ ap (λ (l : List CounterKey). is_among l q)
-    (sym (one_more_first (Bound All 0) configs i lines rs x r within_l within_r is_x is_r)))
+bound_split : (configs : ℕ → List DomainTree) (ls ms : List ScriptLine) (rs ss : List Record) → length ls ≡ length rs
+    → bound_by (λ w. true) configs (ls ++ ms) (rs ++ ss) ≡ bound_by (λ w. true) configs ls rs ++ bound_by (λ w. true) configs ms ss
+bound_split configs [] ms [] ss e = refl
+bound_split configs [] ms (r ∷ rs) ss e = absurd (omega arith)
+bound_split configs (l ∷ ls) ms [] ss e = absurd (omega arith)
+bound_split configs (l ∷ ls) ms (r ∷ rs) ss e =
+    let here : List CounterKey = counters_bound (configs r.version) l r.moment r.outcome in
+    ap (λ (x : List CounterKey). here ++ x) (bound_split configs ls ms rs ss (omega arith))
+    ∙ sym (append_assoc here (bound_by (λ w. true) configs ls rs) (bound_by (λ w. true) configs ms ss))
+
+module _ (configs : ℕ → List DomainTree) (i : ℕ) (lines : List Line) (rs : List Record) (x : Line) (r : Record)
+    (within_l : i < length lines) (within_r : i < length rs) (is_x : x ≡ get_or lines i x) (is_r : r ≡ get_or rs i r) where
+  within : i < length (map line_view lines)
+  within = omega (arith, length-map lines line_view, within_l)
+
+  at : get_or (map line_view lines) i (line_view x) ≡ line_view x
+  at = get_or-map line_view lines i x ∙ ap line_view (sym is_x)
+
+  lengths : length (take i (map line_view lines)) ≡ length (take i rs)
+  lengths = omega (arith, length-take i (map line_view lines), length-take i rs, within, within_r)
+
+  one_more_bound : bound_by (λ w. true) configs (take (i + 1) (map line_view lines)) (take (i + 1) rs)
+      ≡ bound_by (λ w. true) configs (take i (map line_view lines)) (take i rs) ++ counters_bound (configs r.version) (line_view x) r.moment r.outcome
+  one_more_bound =
+      ap₂ (bound_by (λ w. true) configs)
+      (take_more (map line_view lines) i (line_view x) within ∙ ap (λ (l : ScriptLine). take i (map line_view lines) ++ l ∷ []) at)
+      (take_more rs i r within_r ∙ ap (λ (s : Record). take i rs ++ s ∷ []) (sym is_r))
+      ∙ bound_split configs (take i (map line_view lines)) (line_view x ∷ []) (take i rs) (r ∷ []) lengths
+      ∙ ap (λ (l : List CounterKey). bound_by (λ w. true) configs (take i (map line_view lines)) (take i rs) ++ l) (append-nil _)
+
+  pub one_line_bound : (m : ℕ) (old new more : List CounterKey) (q : CounterKey)
+      → more ≡ counters_bound (configs r.version) (line_view x) r.moment r.outcome → is_among new q ≡ (is_among old q || is_among more q)
+      → (is_open_at m q && is_among old q) ≡ is_bound configs (take i (map line_view lines)) (take i rs) m q
+      → (is_open_at m q && is_among new q) ≡ is_bound configs (take (i + 1) (map line_view lines)) (take (i + 1) rs) m q
+  one_line_bound m old new more q is added same =
+      let before : List CounterKey = bound_by (λ w. true) configs (take i (map line_view lines)) (take i rs) in
+      ap (λ (b : Bool). is_open_at m q && b) added ∙ open_or (is_open_at m q) (is_among old q) (is_among before q) (is_among more q) same
+      ∙ ap (λ (b : Bool). is_open_at m q && b)
+      (ap (λ (l : List CounterKey). is_among before q || is_among l q) is
+      ∙ sym (list_any-append (λ k. same_counter q k) before (counters_bound (configs r.version) (line_view x) r.moment r.outcome))
+      ∙ ap (λ (l : List CounterKey). is_among l q) (sym one_more_bound))
 
 -- ---- windows that are over
 

@@ -1,7 +1,6 @@
 pub mod Ruled
 pub mod Causes
 pub mod Verdict
-pub mod Whose
 pub mod Equal
 pub mod VersionAt
 pub mod Chain
@@ -11,5 +10,8 @@ pub mod Known
 pub mod Greatest
 pub mod Ticks
 pub mod Judged
-pub mod Search
+pub mod Asked
+pub mod EndOrder
+pub mod ByEnd
+pub mod Besides
 pub mod Bound

@@ -13,7 +13,6 @@ ghost use Rattle.run_audit.specs.VersionAt.{config_at};
 use crate::Configs;
 use crate::counters::bound_at;
 use crate::of_record::moment_of;
-use crate::offers::Whose;
 use rate_types::{CounterKey, OutOfMemory, Seconds};
 use reply_text::{Outcome, Record};
 use script_run::Line;
@@ -81,7 +80,7 @@ fn put_bound(
         → KeepBound (config_at configs.now) (map line_view before.now) earlier.now m counters.new.keys) }
 {
     'lines: for i in from..before.len() {
-        let more = bound_at(alloc, configs, Whose::All, 0, &before[i], &earlier[i])?;
+        let more = bound_at(alloc, configs, &before[i], &earlier[i])?;
         put_all(counters, more)?;
     }
     Ok(())

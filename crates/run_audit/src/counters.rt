@@ -1,18 +1,14 @@
 // The counters that the checks of a run name.
-ghost use Rattle.std.specs.Prelude.{◌≡◌, ◌++◌, [], IfOk, OnOk, if◌then◌else◌};
+ghost use Rattle.std.specs.Prelude.{◌≡◌, ◌++◌, IfOk, OnOk};
 ghost use Rattle.rls_core.specs.Reply.{counter_under, counters_named};
 ghost use Rattle.rls_core.specs.Sequential.{IsNumberOf};
 ghost use Rattle.script_run.specs.Named.{counters_bound, counters_tried, is_among};
 ghost use Rattle.script_run.specs.Views.{line_view};
-ghost use Rattle.run_audit.specs.Search.{sought_at};
 ghost use Rattle.run_audit.specs.VersionAt.{config_at};
-ghost use Rattle.run_audit.specs.Whose.{is_of};
 
 use crate::Configs;
 use crate::configs::index_of;
-use crate::of_record::{moment_of, worker_of};
-use crate::offers::{Whose, is_of};
-use crate::search::Sought;
+use crate::of_record::moment_of;
 use rate_types::{CounterKey, Descriptor, OutOfMemory, Request, Seconds};
 use reply_text::{Outcome, Record};
 use rls_core::CounterSums;
@@ -98,8 +94,8 @@ fn counters_bound(
     }
 }
 
-// The counters that a record's check names.
-fn tried_at(
+/// The counters that a record's check names.
+pub fn tried_at(
     alloc: Global,
     configs: &Configs,
     line: &Line,
@@ -110,45 +106,23 @@ fn tried_at(
     counters_tried(alloc, index_of(configs, rec), line, moment_of(rec))
 }
 
-/// Those of a record of such a worker, where its check was answered.
+/// Those of a record, where its check was answered.
 pub fn bound_at(
     alloc: Global,
     configs: &Configs,
-    whose: Whose,
-    worker: u32,
     line: &Line,
     rec: &Record,
 ) -> Result<Vec<CounterKey>, OutOfMemory>
-    ensures { IfOk result (λ v. v.items ≡ (if is_of whose worker rec.now.worker
-        then counters_bound (config_at configs.now rec.now.version) (line_view line.now) rec.now.moment rec.now.outcome else [])) }
+    ensures { IfOk result (λ v. v.items
+        ≡ counters_bound (config_at configs.now rec.now.version) (line_view line.now) rec.now.moment rec.now.outcome) }
 {
-    if is_of(whose, worker, worker_of(rec)) {
-        counters_bound(
-            alloc,
-            index_of(configs, rec),
-            line,
-            moment_of(rec),
-            &rec.outcome,
-        )
-    } else {
-        Ok(Vec::new(alloc))
-    }
-}
-
-/// The counters that are sought in a line.
-pub fn sought_at(
-    alloc: Global,
-    configs: &Configs,
-    sought: Sought,
-    line: &Line,
-    rec: &Record,
-) -> Result<Vec<CounterKey>, OutOfMemory>
-    ensures { IfOk result (λ v. v.items ≡ sought_at sought (config_at configs.now) (line_view line.now) rec.now) }
-{
-    match sought {
-        Sought::Named => tried_at(alloc, configs, line, rec),
-        Sought::Bound { whose, worker } => bound_at(alloc, configs, whose, worker, line, rec),
-    }
+    counters_bound(
+        alloc,
+        index_of(configs, rec),
+        line,
+        moment_of(rec),
+        &rec.outcome,
+    )
 }
 
 /// How many different counters these are.

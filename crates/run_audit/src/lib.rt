@@ -18,18 +18,21 @@
 //! in its lines.
 #![tactic(auto)]
 
+mod asked;
 mod at_least;
 mod auditing;
+mod binder;
 mod bound;
+mod by_end;
 mod chain;
 mod charge;
 mod configs;
 mod connectives;
+mod counter_by_end;
 mod counters;
 mod earlier;
 mod equal;
 mod fact;
-mod found;
 mod gathering;
 mod installs;
 mod judging;
@@ -37,12 +40,12 @@ mod kinds;
 mod known;
 mod ledger;
 mod moments;
+mod named_counters;
 mod of_record;
 mod offers;
 mod records;
 mod refusals;
 mod replies;
-mod search;
 mod setup;
 mod sights;
 mod ticks;

@@ -8,20 +8,21 @@ ghost use Rattle.script_run.specs.Refusals.{HasRefusalCause, IsFull, is_named_at
 ghost use Rattle.script_run.specs.Sequential.{IsInTurn, is_bound};
 ghost use Rattle.script_run.specs.Versions.{installs};
 ghost use Rattle.script_run.specs.Views.{line_view};
+ghost use Rattle.run_audit.specs.Besides.{IsFullBesides};
 ghost use Rattle.run_audit.specs.Bound.{AreBound, lacks_cells};
+ghost use Rattle.run_audit.specs.ByEnd.{AreEnds, AreFirst};
 ghost use Rattle.run_audit.specs.Causes.{IsCaused, RefusalsCaused, is_refusal};
 ghost use Rattle.run_audit.specs.VersionAt.{config_at};
 
 use crate::Configs;
+use crate::asked::Asked;
 use crate::bound::{follow, has_counter, none_bound};
+use crate::by_end::{Ended, are_asked, by_end};
 use crate::configs::index_of;
 use crate::connectives::both;
 use crate::counters::{counters_named, distinct};
-use crate::found::are_found;
 use crate::installs::installs;
 use crate::of_record::{moment_of, worker_of};
-use crate::offers::Whose;
-use crate::search::{Search, Sought};
 use rate_types::limits::{MOST_PINS, MOST_VERSIONS};
 use rate_types::{CounterKey, OutOfMemory, Request, Seconds};
 use reply_text::{Outcome, Record};
@@ -74,75 +75,31 @@ fn may_want(
 
 // Whether so many counters may have cells when a record's line is run.
 fn may_live(
-    alloc: Global,
     run: &RunParts,
+    ends: &[Ended],
     before: &[Line],
     earlier: &[Record],
     rec: &Record,
     live: u32,
-) -> Result<bool, OutOfMemory>
-    requires { length earlier.now ≡ length before.now }
-    ensures { IfOk result (λ b. IsTrue b ↔ AreThere (may_be_bound (config_at run.now.configs.now) (map line_view run.now.lines.now)
-        run.now.records.now (map line_view before.now) earlier.now rec.now) live) }
+) -> bool
+    requires { AreFirst (config_at run.now.configs.now) (map line_view run.now.lines.now) run.now.records.now
+        (map line_view before.now) earlier.now ends.now }
+    ensures { IsTrue result ↔ AreThere (may_be_bound (config_at run.now.configs.now) (map line_view run.now.lines.now)
+        run.now.records.now (map line_view before.now) earlier.now rec.now) live }
 {
     let worker = worker_of(rec);
     let moment = moment_of(rec);
-    let others = Search {
-        configs: run.configs,
-        sought: Sought::Bound {
-            whose: Whose::Others,
-            worker,
-        },
-        moment,
-        lines: run.lines,
-        records: run.records,
-        from: before.len().min(run.lines.len()),
-    };
-    let own = Search {
-        configs: run.configs,
-        sought: Sought::Bound {
-            whose: Whose::Own,
-            worker,
-        },
-        moment,
-        lines: before,
-        records: earlier,
-        from: before.len(),
-    };
-    let there = are_found(alloc, &others, &own, live as u64)?;
-    Ok(there)
+    let line = before.len();
+    are_asked(ends, Asked::Bound { worker, line }, moment, live as u64)
 }
 
 // Whether checks of the run name so many counters whose windows aren't over.
-fn may_be_named(
-    alloc: Global,
-    run: &RunParts,
-    near: usize,
-    moment: Seconds,
-    number: u64,
-) -> Result<bool, OutOfMemory>
-    requires { near ≤ length run.now.lines.now }
-    ensures { IfOk result (λ b. IsTrue b ↔ AreThere (is_named_at (config_at run.now.configs.now) (map line_view run.now.lines.now)
-        run.now.records.now moment) number) }
+fn may_be_named(run: &RunParts, ends: &[Ended], moment: Seconds, number: u64) -> bool
+    requires { AreEnds (config_at run.now.configs.now) (map line_view run.now.lines.now) run.now.records.now ends.now }
+    ensures { IsTrue result ↔ AreThere (is_named_at (config_at run.now.configs.now) (map line_view run.now.lines.now)
+        run.now.records.now moment) number }
 {
-    let before = Search {
-        configs: run.configs,
-        sought: Sought::Named,
-        moment,
-        lines: &run.lines[..near],
-        records: &run.records[..near],
-        from: near,
-    };
-    let after = Search {
-        configs: run.configs,
-        sought: Sought::Named,
-        moment,
-        lines: &run.lines[near..],
-        records: &run.records[near..],
-        from: 0,
-    };
-    let there = are_found(alloc, &before, &after, number)?;
-    Ok(there)
+    are_asked(ends, Asked::Named, moment, number)
 }
 
 /// The numbers of a refusal for want of cells.
@@ -165,32 +122,27 @@ fn are_too_many(workers: u32, cells: u32, numbers: Numbers) -> bool
     full && some && holds
 }
 
-// Whether a check that found no room had its cause.
-fn is_full(
+// Whether a check that found no room had its cause, but for the counters that have cells.
+fn is_full_besides(
     alloc: Global,
     run: &RunParts,
-    before: &[Line],
-    earlier: &[Record],
+    ends: &[Ended],
     request: &Request,
     rec: &Record,
     numbers: Numbers,
 ) -> Result<bool, OutOfMemory>
-    requires { length earlier.now ≡ length before.now }
-    ensures { IfOk result (λ b. IsTrue b ↔ IsFull (config_at run.now.configs.now) run.now.workers run.now.cells
-        (map line_view run.now.lines.now) run.now.records.now (map line_view before.now) earlier.now request.now rec.now
-        numbers.live numbers.held numbers.wanted) }
+    requires { AreEnds (config_at run.now.configs.now) (map line_view run.now.lines.now) run.now.records.now ends.now }
+    ensures { IfOk result (λ b. IsTrue b ↔ IsFullBesides (config_at run.now.configs.now) run.now.workers run.now.cells
+        (map line_view run.now.lines.now) run.now.records.now request.now rec.now numbers.live numbers.held numbers.wanted) }
 {
     let many = are_too_many(run.workers, run.cells, numbers);
     let index = index_of(run.configs, rec);
     let moment = moment_of(rec);
     let number = numbers.live as u64 + numbers.wanted as u64;
     let wants = may_want(alloc, index, request, moment, numbers.wanted)?;
-    let lives = may_live(alloc, run, before, earlier, rec, numbers.live)?;
-    let near = before.len().min(run.lines.len());
-    let names = may_be_named(alloc, run, near, moment, number)?;
+    let names = may_be_named(run, ends, moment, number);
     let first = both(many, wants);
-    let second = both(lives, names);
-    let stands = both(first, second);
+    let stands = both(first, names);
     Ok(stands)
 }
 
@@ -247,10 +199,11 @@ fn lacks_room(
     Ok(stands)
 }
 
-// Whether a check that found no room had its cause, with one worker in exact numbers.
+// Whether a check that found no room had its cause, with one worker in exact numbers, from which the counters that have cells follow.
 fn is_full_caused(
     alloc: Global,
     run: &RunParts,
+    ends: &[Ended],
     bound: &BTreeSet<CounterKey>,
     before: &[Line],
     earlier: &[Record],
@@ -259,6 +212,8 @@ fn is_full_caused(
     numbers: Numbers,
 ) -> Result<bool, OutOfMemory>
     requires as_many { length earlier.now ≡ length before.now }
+    requires first { AreFirst (config_at run.now.configs.now) (map line_view run.now.lines.now) run.now.records.now
+        (map line_view before.now) earlier.now ends.now }
     requires bound { run.now.workers ≡ 1
         → AreBound (config_at run.now.configs.now) (map line_view before.now) earlier.now rec.now.moment bound.now.keys }
     ensures { IfOk result (λ b. IsTrue b ↔ (IsFull (config_at run.now.configs.now) run.now.workers run.now.cells
@@ -268,13 +223,15 @@ fn is_full_caused(
         rec.now.moment (is_bound (config_at run.now.configs.now) (map line_view before.now) earlier.now rec.now.moment)
         numbers.live numbers.wanted))) }
 {
-    let full = is_full(alloc, run, before, earlier, request, rec, numbers)?;
+    let besides = is_full_besides(alloc, run, ends, request, rec, numbers)?;
     if run.workers != 1 {
+        let lives = may_live(run, ends, before, earlier, rec, numbers.live);
+        let full = both(besides, lives);
         return Ok(full);
     }
     let room = lacks_room(alloc, run, bound, before, earlier, request, rec, numbers)?;
     let exact = both(numbers.held == 0, room);
-    let stands = both(full, exact);
+    let stands = both(besides, exact);
     Ok(stands)
 }
 
@@ -293,6 +250,7 @@ fn is_reload_caused(run: &RunParts, earlier: &[Record], versions: u32) -> bool
 fn is_outcome_caused(
     alloc: Global,
     run: &RunParts,
+    ends: &[Ended],
     bound: &BTreeSet<CounterKey>,
     before: &[Line],
     earlier: &[Record],
@@ -301,6 +259,8 @@ fn is_outcome_caused(
     outcome: &Outcome,
 ) -> Result<bool, OutOfMemory>
     requires as_many { length earlier.now ≡ length before.now }
+    requires first { AreFirst (config_at run.now.configs.now) (map line_view run.now.lines.now) run.now.records.now
+        (map line_view before.now) earlier.now ends.now }
     requires bound { run.now.workers ≡ 1 → lacks_cells outcome.now ≡ true
         → AreBound (config_at run.now.configs.now) (map line_view before.now) earlier.now rec.now.moment bound.now.keys }
     ensures { IfOk result (λ b. IsTrue b ↔ (HasRefusalCause (config_at run.now.configs.now) run.now.workers run.now.cells
@@ -317,7 +277,9 @@ fn is_outcome_caused(
                     held: *held,
                     wanted: *wanted,
                 };
-                is_full_caused(alloc, run, bound, before, earlier, request, rec, numbers)
+                is_full_caused(
+                    alloc, run, ends, bound, before, earlier, request, rec, numbers,
+                )
             }
             Line::Reload(_) => Ok(true),
             Line::Tick(_) => Ok(true),
@@ -341,6 +303,7 @@ fn is_outcome_caused(
 fn is_caused(
     alloc: Global,
     run: &RunParts,
+    ends: &[Ended],
     bound: &BTreeSet<CounterKey>,
     before: &[Line],
     earlier: &[Record],
@@ -348,12 +311,24 @@ fn is_caused(
     rec: &Record,
 ) -> Result<bool, OutOfMemory>
     requires as_many { length earlier.now ≡ length before.now }
+    requires first { AreFirst (config_at run.now.configs.now) (map line_view run.now.lines.now) run.now.records.now
+        (map line_view before.now) earlier.now ends.now }
     requires bound { run.now.workers ≡ 1 → lacks_cells rec.now.outcome ≡ true
         → AreBound (config_at run.now.configs.now) (map line_view before.now) earlier.now rec.now.moment bound.now.keys }
     ensures { IfOk result (λ b. IsTrue b ↔ IsCaused (config_at run.now.configs.now) run.now.workers run.now.cells
         (map line_view run.now.lines.now) run.now.records.now (map line_view before.now) earlier.now (line_view line.now) rec.now) }
 {
-    let caused = is_outcome_caused(alloc, run, bound, before, earlier, line, rec, &rec.outcome)?;
+    let caused = is_outcome_caused(
+        alloc,
+        run,
+        ends,
+        bound,
+        before,
+        earlier,
+        line,
+        rec,
+        &rec.outcome,
+    )?;
     Ok(caused)
 }
 
@@ -364,6 +339,7 @@ pub fn refusals_have_causes(alloc: Global, run: &RunParts) -> Result<bool, OutOf
 {
     let lines = run.lines;
     let records = run.records;
+    let ends = by_end(alloc, run.configs, lines, records)?;
     let mut bound = none_bound(alloc);
     'lines: for i in 0..records.len() {
         let before = &lines[..i];
@@ -378,7 +354,17 @@ pub fn refusals_have_causes(alloc: Global, run: &RunParts) -> Result<bool, OutOf
             earlier,
             rec,
         )?;
-        let caused = is_caused(alloc, run, &bound.counters, before, earlier, &lines[i], rec)?;
+        let line = &lines[i];
+        let caused = is_caused(
+            alloc,
+            run,
+            &ends,
+            &bound.counters,
+            before,
+            earlier,
+            line,
+            rec,
+        )?;
         if !caused {
             return Ok(false);
         }

@@ -1,4 +1,4 @@
-use Rattle.std.proofs.Common.{◌≡◌, ◌≤◌, ℕ, List, length, map, take, sym, ap₂, ◌∙◌, arith}
+use Rattle.std.proofs.Common.{◌≤◌, ℕ, List, length, map, sym, ap₂, ◌∙◌, arith}
 use Rattle.std.proofs.lemmas.List.{length-map, take_all}
 use Rattle.reply_text.specs.declared.record.Record.{Record}
 use Rattle.script_run.specs.ScriptLine.{ScriptLine}

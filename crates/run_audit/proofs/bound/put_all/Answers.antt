@@ -3,7 +3,7 @@ use Rattle.std.proofs.lemmas.List.{nil_from_length}
 use Rattle.rate_types.specs.Counters.{same_counter}
 use Rattle.rate_types.specs.declared.counter_key.CounterKey.{CounterKey}
 use Rattle.script_run.specs.Named.{is_among}
-use Rattle.run_audit.proofs.Near.{or_false}
+use Rattle.run_audit.proofs.Gates.{or_false}
 use Rattle.run_audit.proofs.Room.{passed}
 use Rattle.run_audit.proofs.bound.put_all.Goals as goal
 

@@ -15,8 +15,8 @@ lines-preserved c =
     let i = c.lines.i in
     let within_l : i < length ls = omega arith in
     let within_r : i < length rs = omega (arith, c.requires.as_many) in
-    λ m h q. one_line_bound (config_at c.args.configs.now) m i ls rs c.index-before-i.result c.index-earlier-i.result c.lines.counters.keys
-    c.put_all.new.counters.keys c.in_ok-more.more.items q within_l within_r c.index-before-i.is c.index-earlier-i.is c.in_ok-more.ensures
+    λ m h q. one_line_bound (config_at c.args.configs.now) i ls rs c.index-before-i.result c.index-earlier-i.result within_l within_r
+    c.index-before-i.is c.index-earlier-i.is m c.lines.counters.keys c.put_all.new.counters.keys c.in_ok-more.more.items q c.in_ok-more.ensures
     (c.in_ok-put_all.ensures q) (c.lines.invariant m h q)
 
 pub returns : goal.returns

@@ -1,4 +1,4 @@
-use Rattle.std.proofs.Common.{◌∙◌, ◌||◌, ◌&&◌, not, nat_lt, Bool, true, false, ◌≡◌, List, [], ◌∷◌, refl, sym, ap, ap₂}
+use Rattle.std.proofs.Common.{◌∙◌, ◌||◌, ◌&&◌, not, nat_lt, Bool, true, false, ◌≡◌, List, [], ◌∷◌, refl, sym, ap}
 use Rattle.std.specs.List.{list_all, list_any}
 use Rattle.std.specs.List.Sorted.{IsPermutation}
 use Rattle.std.proofs.lemmas.List.Sorted.{list_any-IsPermutation}

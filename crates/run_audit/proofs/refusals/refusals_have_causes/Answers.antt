@@ -1,11 +1,13 @@
-use Rattle.std.proofs.Common.{◌<◌, ◌≤◌, List, length, map, take, refl, sym, ◌∙◌, subst, arith}
-use Rattle.std.proofs.lemmas.List.{length-map, take-map}
+use Rattle.std.proofs.Common.{◌≡◌, ◌<◌, ◌≤◌, List, length, map, take, refl, sym, ap, ◌∙◌, subst, arith}
+use Rattle.std.proofs.lemmas.List.{length-map, length-take, take-map}
 use Rattle.reply_text.specs.declared.record.Record.{Record}
 use Rattle.script_run.specs.ScriptLine.{ScriptLine}
 use Rattle.script_run.specs.Views.{line_view}
 use Rattle.run_audit.specs.Bound.{IsUpTo}
+use Rattle.run_audit.specs.ByEnd.{AreEnds}
 use Rattle.run_audit.specs.Causes.{IsCaused}
 use Rattle.run_audit.specs.VersionAt.{config_at}
+use Rattle.run_audit.specs.declared.by_end.Ended.{Ended}
 use Rattle.run_audit.proofs.Each.{here, more, below_all, below_none}
 use Rattle.run_audit.proofs.Room.{more_lines}
 use Rattle.run_audit.proofs.Tests.{false_true}
@@ -36,6 +38,19 @@ follow-requires-clause-up_to c =
     let run = c.args.run.now in
     subst (λ (ls : List ScriptLine). IsUpTo (config_at run.configs.now) ls (take c.lines.i run.records.now) c.lines.bound)
     (take-map line_view c.lines.i run.lines.now) c.lines.invariant.1
+
+pub is_caused-requires-clause-first : goal.is_caused-requires-clause-first
+is_caused-requires-clause-first c =
+    let run = c.args.run.now in
+    let i = c.lines.i in
+    let n : length (map line_view (take i run.lines.now)) ≡ i
+    = omega (arith, length-map (take i run.lines.now) line_view, length-take i run.lines.now, run.as_many) in
+    record {
+      of_run = subst (λ (ends : List Ended). AreEnds (config_at run.configs.now) (map line_view run.lines.now) run.records.now ends)
+          (sym c.deref.ensures.value) c.in_ok-ends.ensures;
+      lines_first = sym (take-map line_view i run.lines.now) ∙ ap (λ k. take k (map line_view run.lines.now)) (sym n);
+      records_first = ap (λ k. take k run.records.now) (sym n);
+    }
 
 pub lines-preserved : goal.lines-preserved
 lines-preserved c =
