@@ -10,12 +10,12 @@
 //! counted, a clause about charges sorts copies of them, one about values keeps the last value of each counter, one about refusals counts
 //! the counters that checks name: such calls take memory, and answer where there is none.
 //!
-//! A refusal shows how many counters there are at least. They are sought line by line, from its own in both directions, until so many
-//! different ones are found (`Search`): most often they are near, and only a refusal without a cause goes through the whole run. With one
-//! worker the numbers are exact: the counters that have cells are kept from refusal to refusal (`BoundCounters`).
+//! A refusal shows how many counters there are at least. The counters that checks name stand in one table, made once, by the ends of their
+//! windows, each with who bound it (`specs/ByEnd.antt`): a refusal finds the first window that is open, and goes on until so many are
+//! found. With one worker the numbers are exact: the counters that have cells are kept from refusal to refusal (`BoundCounters`).
 //!
-//! Limits: what a refusal counts may lie far from it, where few of many counters have cells for long. A run without refusals takes n log n
-//! in its lines.
+//! Limits: an audit takes n log n in the lines of the run, and each refusal goes through the counters whose windows are open, until so many
+//! are found.
 #![tactic(auto)]
 
 mod asked;
