@@ -11,8 +11,7 @@ use Rattle.rls_core.specs.Reply.{counters_named}
 use Rattle.rls_core.specs.Sequential.{IsNumberOf, LacksRoom, Wants}
 use Rattle.reply_text.specs.declared.record.Record.{Record}
 use Rattle.reply_text.specs.declared.record.Outcome.{Outcome}
-use Rattle.reply_text.specs.declared.record.Outcome.TheVariants.{Checked, Ticked, Installed, Bad, Full, Spent, VersionsFull}
-use Rattle.script_run.specs.ScriptLine.{ScriptLine, check, reload, tick, bad}
+use Rattle.script_run.specs.ScriptLine.{ScriptLine}
 use Rattle.script_run.specs.Named.{AreThere, bound_by, counters_bound, is_among, is_open_at}
 use Rattle.script_run.specs.Refusals.{HasRefusalCause, IsFull, is_named_at, may_be_bound}
 use Rattle.script_run.specs.Sequential.{IsInTurn, is_bound}
@@ -41,54 +40,6 @@ module _ (configs : ℕ → List DomainTree) (workers cells : ℕ) (lines : List
   abbrev pub Caused : ScriptLine → Outcome → Type 0
   Caused l o = HasRefusalCause configs workers cells lines records before earlier l r o
       × (workers ≡ 1 → is_refusal o ≡ true → IsInTurn configs cells before earlier l r o)
-
-  checked : (l : ScriptLine) (o : Outcome) → is_refusal o ≡ false → HasRefusalCause configs workers cells lines records before earlier l r o
-  checked (check request) (Checked answer) e = tt
-  checked (check request) (Ticked moment) e = tt
-  checked (check request) Installed e = tt
-  checked (check request) (Bad refused) e = tt
-  checked (check request) (Full live held wanted) e = absurd (false_true (sym e))
-  checked (check request) (Spent claims wanted) e = absurd (false_true (sym e))
-  checked (check request) (VersionsFull versions) e = absurd (false_true (sym e))
-  checked (reload config) (Checked answer) e = tt
-  checked (reload config) (Ticked moment) e = tt
-  checked (reload config) Installed e = tt
-  checked (reload config) (Bad refused) e = tt
-  checked (reload config) (Full live held wanted) e = absurd (false_true (sym e))
-  checked (reload config) (Spent claims wanted) e = absurd (false_true (sym e))
-  checked (reload config) (VersionsFull versions) e = absurd (false_true (sym e))
-  checked (tick now) (Checked answer) e = tt
-  checked (tick now) (Ticked moment) e = tt
-  checked (tick now) Installed e = tt
-  checked (tick now) (Bad refused) e = tt
-  checked (tick now) (Full live held wanted) e = absurd (false_true (sym e))
-  checked (tick now) (Spent claims wanted) e = absurd (false_true (sym e))
-  checked (tick now) (VersionsFull versions) e = absurd (false_true (sym e))
-  checked (bad refused) (Checked answer) e = tt
-  checked (bad refused) (Ticked moment) e = tt
-  checked (bad refused) Installed e = tt
-  checked (bad refused) (Bad shown) e = tt
-  checked (bad refused) (Full live held wanted) e = absurd (false_true (sym e))
-  checked (bad refused) (Spent claims wanted) e = absurd (false_true (sym e))
-  checked (bad refused) (VersionsFull versions) e = absurd (false_true (sym e))
-
-  pub no_refusal : (l : ScriptLine) (o : Outcome) → is_refusal o ≡ false → Decides true (Caused l o)
-  no_refusal l o e = (λ h. (checked l o e, λ one is. absurd (false_true (sym e ∙ is))), λ h. refl)
-
-  never_spent : (l : ScriptLine) (claims wanted : ℕ) → HasRefusalCause configs workers cells lines records before earlier l r (Spent claims wanted) → ⊥
-  never_spent (check request) claims wanted h = h
-  never_spent (reload config) claims wanted h = h
-  never_spent (tick now) claims wanted h = h
-  never_spent (bad refused) claims wanted h = h
-
-  pub spent : (l : ScriptLine) (claims wanted : ℕ) → Decides false (Caused l (Spent claims wanted))
-  spent l claims wanted = (λ h. absurd (false_true h), λ x. absurd (never_spent l claims wanted x.0))
-
-  -- a refusal shows the numbers of its turn
-  pub refused : (l : ScriptLine) (o : Outcome) (b : Bool) → is_refusal o ≡ true
-      → Decides b (HasRefusalCause configs workers cells lines records before earlier l r o × (workers ≡ 1 → IsInTurn configs cells before earlier l r o))
-      → Decides b (Caused l o)
-  refused l o b is d = (λ h. ((d.0 h).0, λ one e. (d.0 h).1 one), λ x. d.1 (x.0, λ one. x.1 one is))
 
 -- with several workers there is no turn
 pub no_turn : {P Q : Type 0} (workers : ℕ) (b : Bool) → (workers ≡ 1 → ⊥) → Decides b P → Decides b (P × (workers ≡ 1 → Q))

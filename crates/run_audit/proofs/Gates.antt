@@ -1,12 +1,6 @@
 -- Tests joined in another order.
 use Rattle.std.proofs.Common.{◌≡◌, ◌||◌, ◌&&◌, Bool, true, false, refl}
 
-swapped : (a b : Bool) → (a || b) ≡ (b || a)
-swapped true true = refl
-swapped true false = refl
-swapped false true = refl
-swapped false false = refl
-
 pub grouped : (a b d : Bool) → ((a || b) || d) ≡ (a || (b || d))
 grouped true b d = refl
 grouped false b d = refl

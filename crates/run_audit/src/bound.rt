@@ -130,8 +130,8 @@ fn go_on(
     Ok(())
 }
 
-// Whether a record shows a check that found no room.
-fn lacks_cells(rec: &Record) -> bool
+/// Whether a record shows a check that found no room.
+pub fn lacks_cells(rec: &Record) -> bool
     ensures { result ≡ lacks_cells rec.now.outcome }
 {
     is_full(&rec.outcome)

@@ -1,8 +1,10 @@
 // The counters that the checks of a run name, in order of the ends of their windows.
-ghost use Rattle.std.specs.Prelude.{◌≡◌, ◌≤◌, ◌<◌, ℕ, IfOk, count_by, length, map, nat_le, slice_index_or};
+ghost use Rattle.std.specs.Prelude.{◌≡◌, ◌≤◌, ◌<◌, ℕ, true, false, IfOk, count_by, length, map, nat_le, slice_index_or};
 ghost use Rattle.std.specs.List.Sorted.{IsNonDecreasingBy, IsStrictlySortedBy};
 ghost use Rattle.std.specs.Map.{keys_of};
+ghost use Rattle.reply_text.specs.declared.record.Record.{Record};
 ghost use Rattle.script_run.specs.Views.{line_view};
+ghost use Rattle.run_audit.specs.Bound.{lacks_cells};
 ghost use Rattle.run_audit.specs.ByEnd.{AreEnds, ended, is_asked_at};
 ghost use Rattle.run_audit.specs.EndOrder.{end_cmp};
 ghost use Rattle.run_audit.specs.VersionAt.{config_at};
@@ -11,6 +13,7 @@ ghost use Rattle.run_audit.specs.declared.by_end.Ended.{Ended};
 use crate::Configs;
 use crate::asked::{Asked, is_asked};
 use crate::binder::Binder;
+use crate::bound::lacks_cells;
 use crate::named_counters::{NamedCounters, named_counters};
 use rate_types::{OutOfMemory, Seconds};
 use reply_text::Record;
@@ -39,8 +42,8 @@ fn ends_of(alloc: Global, counters: &NamedCounters) -> Result<Vec<Ended>, OutOfM
     Ok(ends)
 }
 
-/// The ends of the windows of the counters that the checks of a run name.
-pub fn by_end(
+// The ends of the windows of the counters that the checks of a run name.
+fn by_end(
     alloc: Global,
     configs: &Configs,
     lines: &[Line],
@@ -51,6 +54,39 @@ pub fn by_end(
 {
     let counters = named_counters(alloc, configs, lines, records)?;
     let ends = ends_of(alloc, &counters)?;
+    Ok(ends)
+}
+
+// Whether a check found no room.
+fn some_full(records: &[Record]) -> bool
+    ensures { result ≡ false → (k : ℕ) (d : Record) → k < length records.now
+        → lacks_cells (slice_index_or records.now k d).outcome ≡ false }
+{
+    'records: for i in 0..records.len() {
+        if lacks_cells(&records[i]) {
+            return true;
+        }
+    }
+    false
+}
+
+/// These ends, which are made only where a check found no room.
+pub fn ends_for_refusals(
+    alloc: Global,
+    configs: &Configs,
+    lines: &[Line],
+    records: &[Record],
+) -> Result<Vec<Ended>, OutOfMemory>
+    requires { length records.now ≡ length lines.now }
+    ensures { IfOk result (λ v. (k : ℕ) (d : Record) → k < length records.now
+        → lacks_cells (slice_index_or records.now k d).outcome ≡ true
+        → AreEnds (config_at configs.now) (map line_view lines.now) records.now v.items) }
+{
+    let full = some_full(records);
+    if !full {
+        return Ok(Vec::new(alloc));
+    }
+    let ends = by_end(alloc, configs, lines, records)?;
     Ok(ends)
 }
 

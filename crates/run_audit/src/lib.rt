@@ -10,12 +10,13 @@
 //! counted, a clause about charges sorts copies of them, one about values keeps the last value of each counter, one about refusals counts
 //! the counters that checks name: such calls take memory, and answer where there is none.
 //!
-//! A refusal shows how many counters there are at least. The counters that checks name stand in one table, made once, by the ends of their
-//! windows, each with who bound it (`specs/ByEnd.antt`): a refusal finds the first window that is open, and goes on until so many are
-//! found. With one worker the numbers are exact: the counters that have cells are kept from refusal to refusal (`BoundCounters`).
+//! A refusal shows how many counters there are at least. Where a check was refused, the counters of the run are gathered once, in order of
+//! the ends of their windows, each with who bound it (`Ended`). A refusal finds the first window that is open by halving, and goes on until
+//! so many counters are found. With one worker the numbers are exact: the counters that have cells are kept from refusal to refusal
+//! (`BoundCounters`).
 //!
-//! Limits: an audit takes n log n in the lines of the run, and each refusal goes through the counters whose windows are open, until so many
-//! are found.
+//! Limits: a refusal passes over counters that nobody bound, and over those that its worker alone bound in later lines. So it takes long
+//! where one of several workers runs nearly all lines. Else a run takes n log n in its lines.
 #![tactic(auto)]
 
 mod asked;

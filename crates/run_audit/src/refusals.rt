@@ -17,7 +17,7 @@ ghost use Rattle.run_audit.specs.VersionAt.{config_at};
 use crate::Configs;
 use crate::asked::Asked;
 use crate::bound::{follow, has_counter, none_bound};
-use crate::by_end::{Ended, are_asked, by_end};
+use crate::by_end::{Ended, are_asked, ends_for_refusals};
 use crate::configs::index_of;
 use crate::connectives::both;
 use crate::counters::{counters_named, distinct};
@@ -259,7 +259,8 @@ fn is_outcome_caused(
     outcome: &Outcome,
 ) -> Result<bool, OutOfMemory>
     requires as_many { length earlier.now ≡ length before.now }
-    requires first { AreFirst (config_at run.now.configs.now) (map line_view run.now.lines.now) run.now.records.now
+    requires first { lacks_cells outcome.now ≡ true
+        → AreFirst (config_at run.now.configs.now) (map line_view run.now.lines.now) run.now.records.now
         (map line_view before.now) earlier.now ends.now }
     requires bound { run.now.workers ≡ 1 → lacks_cells outcome.now ≡ true
         → AreBound (config_at run.now.configs.now) (map line_view before.now) earlier.now rec.now.moment bound.now.keys }
@@ -311,7 +312,8 @@ fn is_caused(
     rec: &Record,
 ) -> Result<bool, OutOfMemory>
     requires as_many { length earlier.now ≡ length before.now }
-    requires first { AreFirst (config_at run.now.configs.now) (map line_view run.now.lines.now) run.now.records.now
+    requires first { lacks_cells rec.now.outcome ≡ true
+        → AreFirst (config_at run.now.configs.now) (map line_view run.now.lines.now) run.now.records.now
         (map line_view before.now) earlier.now ends.now }
     requires bound { run.now.workers ≡ 1 → lacks_cells rec.now.outcome ≡ true
         → AreBound (config_at run.now.configs.now) (map line_view before.now) earlier.now rec.now.moment bound.now.keys }
@@ -339,7 +341,7 @@ pub fn refusals_have_causes(alloc: Global, run: &RunParts) -> Result<bool, OutOf
 {
     let lines = run.lines;
     let records = run.records;
-    let ends = by_end(alloc, run.configs, lines, records)?;
+    let ends = ends_for_refusals(alloc, run.configs, lines, records)?;
     let mut bound = none_bound(alloc);
     'lines: for i in 0..records.len() {
         let before = &lines[..i];

@@ -3,7 +3,7 @@ use Rattle.std.proofs.lemmas.List.{length-map, length-take, take-map}
 use Rattle.reply_text.specs.declared.record.Record.{Record}
 use Rattle.script_run.specs.ScriptLine.{ScriptLine}
 use Rattle.script_run.specs.Views.{line_view}
-use Rattle.run_audit.specs.Bound.{IsUpTo}
+use Rattle.run_audit.specs.Bound.{IsUpTo, lacks_cells}
 use Rattle.run_audit.specs.ByEnd.{AreEnds}
 use Rattle.run_audit.specs.Causes.{IsCaused}
 use Rattle.run_audit.specs.VersionAt.{config_at}
@@ -40,14 +40,17 @@ follow-requires-clause-up_to c =
     (take-map line_view c.lines.i run.lines.now) c.lines.invariant.1
 
 pub is_caused-requires-clause-first : goal.is_caused-requires-clause-first
-is_caused-requires-clause-first c =
+is_caused-requires-clause-first c = λ lacks.
     let run = c.args.run.now in
     let i = c.lines.i in
+    let r = c.index-records-i.result in
+    let within : i < length run.records.now = omega arith in
     let n : length (map line_view (take i run.lines.now)) ≡ i
     = omega (arith, length-map (take i run.lines.now) line_view, length-take i run.lines.now, run.as_many) in
     record {
       of_run = subst (λ (ends : List Ended). AreEnds (config_at run.configs.now) (map line_view run.lines.now) run.records.now ends)
-          (sym c.deref.ensures.value) c.in_ok-ends.ensures;
+          (sym c.deref.ensures.value)
+          (c.in_ok-ends.ensures i r within (sym (ap (λ (x : Record). lacks_cells x.outcome) c.index-records-i.is) ∙ lacks));
       lines_first = sym (take-map line_view i run.lines.now) ∙ ap (λ k. take k (map line_view run.lines.now)) (sym n);
       records_first = ap (λ k. take k run.records.now) (sym n);
     }
