@@ -1,15 +1,14 @@
 -- What an index of names knows of its slots, and what stays of it as they change.
 use Rattle.std.proofs.Common.{◌≡◌, ℕ, ◌<◌, ◌⊎◌, inl, inr, Bool, true, false, List, [], ◌∷◌, ◌++◌, refl, ap, sym, ◌∙◌, arith, Option, Some, None, length, cond, suc, zero}
 use Rattle.std.proofs.Math.ListN.{set}
-use Rattle.std.specs.Ordering.{is_eq}
 use Rattle.std.proofs.lemmas.Bool.{cases_eq, true≢false}
 use Rattle.std.proofs.lemmas.List.{get_or-set_same, get_or-set_other}
 use Rattle.quota_settings.specs.declared.pair.Pair.{Pair}
-use Rattle.quota_settings.specs.Pairs.{pairs_cmp}
+use Rattle.quota_settings.specs.Pairs.{same_pairs}
 use Rattle.quota_bucket.specs.History.{is_gone}
 use Rattle.quota_buckets.specs.Tables.{Stored, slot_at, slot_id, slot_named}
 use Rattle.quota_buckets.specs.Slots.{IsIndex, IsPlaceOf, HasNoPlace}
-use Rattle.quota_settings.specs.Laws.{same_by_cmp, cmp_of_same, same_by_eq, eq_of_same}
+use Rattle.quota_settings.specs.Laws.{same_by_eq, eq_of_same}
 
 -- a slot that isn't empty is within the list
 pub at_within : (slots : List (Option Stored)) (place : ℕ) (stored : Stored) → slot_at slots place ≡ Some stored → place < length slots
@@ -119,22 +118,22 @@ changed_index index slots place stored later is_index is name there = record {
         let same : later ≡ other = cc (at, at_same slots place k (Some later) within e) in rw (← same) there
     there_at k other at (inr ne) = is_index.there k other (sym (at_other slots place k (Some later) ne) ∙ at)
 
-apart_names : (a b : List Pair) → (a ≡ b → ⊥) → is_eq (pairs_cmp a b) ≡ false
-apart_names a b apart = not_named (is_eq (pairs_cmp a b)) (λ h. apart (same_by_cmp a b h))
+apart_names : (a b : List Pair) → (a ≡ b → ⊥) → same_pairs a b ≡ false
+apart_names a b apart = not_named (same_pairs a b) (λ h. apart (same_by_eq a b h))
 
-same_names : (a b : List Pair) → a ≡ b → is_eq (pairs_cmp a b) ≡ true
-same_names a b is = rw (← is) (cmp_of_same a)
+same_names : (a b : List Pair) → a ≡ b → same_pairs a b ≡ true
+same_names a b is = eq_of_same a b is
 
 cases_names : (a b : List Pair) → (a ≡ b) ⊎ (a ≡ b → ⊥)
-cases_names a b = over (is_eq (pairs_cmp a b)) refl
+cases_names a b = over (same_pairs a b) refl
   where
-    over : (t : Bool) → is_eq (pairs_cmp a b) ≡ t → (a ≡ b) ⊎ (a ≡ b → ⊥)
-    over true is = inl (same_by_cmp a b is)
+    over : (t : Bool) → same_pairs a b ≡ t → (a ≡ b) ⊎ (a ≡ b → ⊥)
+    over true is = inl (same_by_eq a b is)
     over false is = inr (λ e. true≢false (sym (same_names a b e) ∙ is))
 
 -- a bucket that is erased
 pub erased_index : (index less : List Pair → Option ℕ) (slots : List (Option Stored)) (place : ℕ) (stored : Stored) → IsIndex index slots
-    → slot_at slots place ≡ Some stored → ((q : List Pair) → less q ≡ cond (is_eq (pairs_cmp stored.id q)) None (index q))
+    → slot_at slots place ≡ Some stored → ((q : List Pair) → less q ≡ cond (same_pairs stored.id q) None (index q))
     → IsIndex less (set slots place None)
 erased_index index less slots place stored is_index is removed = record {
   placed = λ k other at. placed_at k other at (cases_eq k place);
@@ -182,7 +181,7 @@ push_other (s ∷ slots) slot (suc k) apart = push_other slots slot k (λ e. apa
 
 -- a bucket that is added
 pub added_index : (index more : List Pair → Option ℕ) (slots : List (Option Stored)) (stored : Stored) → IsIndex index slots
-    → index stored.id ≡ None → ((q : List Pair) → more q ≡ cond (is_eq (pairs_cmp stored.id q)) (Some (length slots)) (index q))
+    → index stored.id ≡ None → ((q : List Pair) → more q ≡ cond (same_pairs stored.id q) (Some (length slots)) (index q))
     → is_gone stored.state.phase ≡ false → IsIndex more (slots ++ Some stored ∷ [])
 added_index index more slots stored is_index new added there = record {
   placed = λ k other at. placed_at k other at (cases_eq k (length slots));

@@ -1,10 +1,9 @@
 -- An index of names stays that of its slots as one of them changes.
 use Rattle.std.proofs.Common.{◌≡◌, ℕ, ◌+◌, ◌<◌, Bool, true, false, not, List, [], ◌∷◌, ◌++◌, refl, sym, ◌∙◌, Option, Some, None, option_map, length, cond, get_or, if◌then◌else◌}
 use Rattle.std.proofs.Math.ListN.{set}
-use Rattle.std.specs.Ordering.{is_eq}
 use Rattle.std.proofs.lemmas.List.{set-get_or, get_or_default}
 use Rattle.quota_settings.specs.declared.pair.Pair.{Pair}
-use Rattle.quota_settings.specs.Pairs.{pairs_cmp}
+use Rattle.quota_settings.specs.Pairs.{same_pairs}
 use Rattle.quota_bucket.specs.declared.timed_phase.TimedPhase.{TimedPhase}
 use Rattle.quota_bucket.specs.declared.timed_phase.TimedPhase.TheVariants.{Gone, Unassigned, Live, Expired}
 use Rattle.quota_bucket.specs.declared.rules.BucketRules.{BucketRules}
@@ -85,7 +84,7 @@ not_gone false is = refl
 
 gone_step : (index less : List Pair → Option ℕ) (slots : List (Option Stored)) (place : ℕ) (advance : Advance) (name : List Pair)
     → IsIndex index slots → (slot : Option Stored) → slot_at slots place ≡ slot → erased_id advance slot ≡ Some name
-    → ((q : List Pair) → less q ≡ cond (is_eq (pairs_cmp name q)) None (index q))
+    → ((q : List Pair) → less q ≡ cond (same_pairs name q) None (index q))
     → IsIndex less (set slots place (slot_advanced advance slot))
 gone_step index less slots place advance name is_index None is erased removed = absurd (cc)
 gone_step index less slots place advance name is_index (Some stored) is erased removed =
@@ -102,7 +101,7 @@ stay_step index slots place advance is_index (Some stored) is erased =
 
 pub advanced_gone : (index less : List Pair → Option ℕ) (slots : List (Option Stored)) (place : ℕ) (advance : Advance) (stored : Stored) (slot later : Option Stored)
     → IsIndex index slots → slot_at slots place ≡ slot → Some stored.id ≡ erased_id advance slot
-    → ((q : List Pair) → less q ≡ cond (is_eq (pairs_cmp stored.id q)) None (index q)) → later ≡ slot_advanced advance slot
+    → ((q : List Pair) → less q ≡ cond (same_pairs stored.id q) None (index q)) → later ≡ slot_advanced advance slot
     → IsIndex less (set slots place later)
 advanced_gone index less slots place advance stored slot later is_index read erased removed is =
     rw is (gone_step index less slots place advance stored.id is_index slot read (sym erased) removed)
@@ -115,7 +114,7 @@ advanced_there index slots place advance slot later is_index read erased is =
 
 -- a bucket behind the others
 pub pushed_index : (index more : List Pair → Option ℕ) (slots : List (Option Stored)) (stored : Stored) (id : List Pair) → IsIndex index slots
-    → HasNoPlace stored.id slots → id ≡ stored.id → ((q : List Pair) → more q ≡ cond (is_eq (pairs_cmp id q)) (Some (length slots)) (index q))
+    → HasNoPlace stored.id slots → id ≡ stored.id → ((q : List Pair) → more q ≡ cond (same_pairs id q) (Some (length slots)) (index q))
     → is_gone stored.state.phase ≡ false → (later : List (Option Stored)) → later ≡ slots ++ Some stored ∷ [] → IsIndex more later
 pushed_index index more slots stored id is_index none name added there later is =
     rw is (added_index index more slots stored is_index (no_place index slots stored.id is_index none (index stored.id) refl)

@@ -8,8 +8,7 @@ use Rattle.quota_settings.specs.declared.pair.Pair.{Pair}
 use Rattle.quota_bucket.specs.Due.{never}
 use Rattle.quota_buckets.specs.FirstMatch.{at_first, without_first}
 use Rattle.quota_buckets.specs.Tables.{Stored, is_stored_as, held, slot_at, slot_named, slot_due}
-use Rattle.std.specs.Ordering.{is_eq}
-use Rattle.quota_settings.specs.Pairs.{pairs_cmp}
+use Rattle.quota_settings.specs.Pairs.{same_pairs}
 use Rattle.quota_bucket.specs.Due.{due}
 use Rattle.quota_bucket.specs.History.{is_gone}
 use Rattle.quota_buckets.specs.Slots.{IsIndex, IsPlaceOf, HasNoPlace, IsAgenda, IsTable}
@@ -115,7 +114,7 @@ changed_table time moments index slots place moment stored later is_table is nam
 
 -- a table of which one bucket was erased
 pub erased_table : (time : ℕ) (moments : List ℕ) (index less : List Pair → Option ℕ) (slots : List (Option Stored)) (id : List Pair) (place : ℕ)
-    → IsTable time moments index slots → index id ≡ Some place → ((q : List Pair) → less q ≡ cond (is_eq (pairs_cmp id q)) None (index q))
+    → IsTable time moments index slots → index id ≡ Some place → ((q : List Pair) → less q ≡ cond (same_pairs id q) None (index q))
     → IsTable time (set moments place never) less (set slots place None)
 erased_table time moments index less slots id place is_table has removed =
     let bucket = found_bucket index slots id place is_table.indexed has in

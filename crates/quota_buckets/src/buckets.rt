@@ -14,6 +14,7 @@ use quota_bucket::{BucketRules, BucketState, Strategy, Usage};
 use quota_settings::{Attributes, BucketId, Settings};
 use rate_types::{Millis, OutOfMemory, Text};
 use std::alloc::Global;
+use std::hash::RandomState;
 use std::marker::Model;
 
 /// The buckets of one stream to the quota server. Contracts see the stream so far, each bucket with its history.
@@ -46,15 +47,15 @@ impl Buckets {
     ghost use Rattle.quota_buckets.specs.Streams.{phase_in, KeepAllowance};
     ghost use Rattle.quota_buckets.specs.declared.phase.Phase.TheVariants.{None as NoPhase};
 
-    /// No bucket, time 0, the stream up. It takes no memory.
-    pub fn make(alloc: Global, settings: Settings) -> Buckets
+    /// No bucket, time 0, the stream up. The hashes of buckets' names go by `seed`. It takes no memory.
+    pub fn make(alloc: Global, settings: Settings, seed: RandomState) -> Buckets
         ensures { result ≡ new_stream settings }
     {
         Buckets {
             alloc,
             settings,
             up: true,
-            table: Table::new(alloc, Millis::new(0).unwrap()),
+            table: Table::new(alloc, seed, Millis::new(0).unwrap()),
             calls: Log::new(),
         }
     }

@@ -1,6 +1,6 @@
 ghost use Rattle.std.specs.Prelude.{◌≡◌, ◌≤◌, ◌<◌, ◌++◌, None, OnOk, IfOk, length, map, replicate, slice_set};
-ghost use Rattle.std.specs.BTreeMap.{get};
-ghost use Rattle.quota_settings.specs.Pairs.{pairs_cmp};
+ghost use Rattle.std.specs.HashMap.{get};
+ghost use Rattle.quota_settings.specs.Pairs.{same_pairs};
 ghost use Rattle.quota_bucket.specs.Due.{never};
 ghost use Rattle.quota_buckets.specs.Slots.{IsIndex, IsAgenda};
 ghost use Rattle.quota_buckets.specs.Tables.{slot_at, slot_due, slot_advanced, slot_reports, each_set, reports_at, AllWithin};
@@ -12,7 +12,8 @@ use quota_bucket::Advance;
 use quota_settings::BucketId;
 use rate_types::{Millis, OutOfMemory};
 use std::alloc::Global;
-use std::collections::BTreeMap;
+use std::collections::HashMap;
+use std::hash::RandomState;
 
 /// The least number of places of an agenda that have no slot when it is made.
 const LEAST_ROOM: usize = 16;
@@ -120,14 +121,14 @@ fn report_of(
 /// index.
 pub fn advance_each(
     slots: &mut [Option<Bucket>],
-    index: &mut BTreeMap<BucketId, usize>,
+    index: &mut HashMap<BucketId, usize, RandomState>,
     places: &[usize],
     advance: &Advance,
 )
     requires within { AllWithin (length slots.old) places.now }
-    requires index { IsIndex (get pairs_cmp index.old) slots.old }
+    requires index { IsIndex (get same_pairs index.old) slots.old }
     ensures slots { slots.new ≡ each_set (λ place. slot_advanced advance.now) None slots.old places.now }
-    ensures index { IsIndex (get pairs_cmp index.new) slots.new }
+    ensures index { IsIndex (get same_pairs index.new) slots.new }
 {
     for place in places {
         advance_at(slots, index, *place, advance);
@@ -137,14 +138,14 @@ pub fn advance_each(
 /// Brings the bucket at a place to the moment of an advance.
 fn advance_at(
     slots: &mut [Option<Bucket>],
-    index: &mut BTreeMap<BucketId, usize>,
+    index: &mut HashMap<BucketId, usize, RandomState>,
     place: usize,
     advance: &Advance,
 )
     requires within { place < length slots.old }
-    requires index { IsIndex (get pairs_cmp index.old) slots.old }
+    requires index { IsIndex (get same_pairs index.old) slots.old }
     ensures slots { slots.new ≡ slice_set slots.old place (slot_advanced advance.now (slot_at slots.old place)) }
-    ensures index { IsIndex (get pairs_cmp index.new) slots.new }
+    ensures index { IsIndex (get same_pairs index.new) slots.new }
 {
     let slot = &mut slots[place];
     if let Some(erased) = advance_slot(slot, advance) {

@@ -11,7 +11,8 @@ use quota_bucket::{Advance, Strategy};
 use quota_settings::BucketId;
 use rate_types::{Millis, OutOfMemory};
 use std::alloc::Global;
-use std::collections::BTreeMap;
+use std::collections::HashMap;
+use std::hash::RandomState;
 use std::marker::Model;
 
 /// The buckets of a stream at its time, each in a slot, in order of making, with an index of their names and an agenda of
@@ -19,14 +20,14 @@ use std::marker::Model;
 #[derive(Drop)]
 pub struct Table {
     slots: Vec<Option<Bucket>>,
-    index: BTreeMap<BucketId, usize>,
+    index: HashMap<BucketId, usize, RandomState>,
     agenda: Agenda,
     time: Millis,
 }
 
 impl Model for Table {
-    ghost use Rattle.std.specs.BTreeMap.{get};
-    ghost use Rattle.quota_settings.specs.Pairs.{pairs_cmp};
+    ghost use Rattle.std.specs.HashMap.{get};
+    ghost use Rattle.quota_settings.specs.Pairs.{same_pairs};
     ghost use Rattle.quota_buckets.specs.Tables.{Table as Stored, held};
     ghost use Rattle.quota_buckets.specs.Slots.{IsTable};
 
@@ -34,7 +35,7 @@ impl Model for Table {
 
     ghost view = { λ t. record { time = t.time; stored = held t.slots.items } };
 
-    ghost invariant = { λ t. IsTable t.time t.agenda (get pairs_cmp t.index) t.slots.items };
+    ghost invariant = { λ t. IsTable t.time t.agenda (get same_pairs t.index) t.slots.items };
 }
 
 impl Table {
@@ -43,14 +44,14 @@ impl Table {
     ghost use Rattle.quota_buckets.specs.Tables.{is_stored_as, stored_asked, stored_answer, stored_assigned};
     ghost use Rattle.quota_buckets.specs.Tables.{slot_phase, advance_of, table_advanced, table_reports};
 
-    /// No bucket, at this time. It takes no memory.
+    /// No bucket, at this time. The hashes of names go by `seed`. It takes no memory.
     #[tactic(auto, using(crate::proofs::Tabling::empty_table))]
-    pub fn new(alloc: Global, time: Millis) -> Table
+    pub fn new(alloc: Global, seed: RandomState, time: Millis) -> Table
         ensures { result ≡ record { time = time; stored = [] } }
     {
         Table {
             slots: Vec::new(alloc),
-            index: BTreeMap::new(alloc),
+            index: HashMap::with_hasher(alloc, seed),
             agenda: Agenda::empty(alloc),
             time,
         }

@@ -1,4 +1,5 @@
 pub mod Pairs
+pub mod Hashes
 pub mod Parts
 pub mod Covering
 pub mod Laws

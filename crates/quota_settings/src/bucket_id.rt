@@ -4,6 +4,7 @@ ghost use Rattle.std.specs.Cmp.{partial_order_from_own_ties};
 ghost use Rattle.std.specs.Cmp.Lexicographic.{lists_ties};
 ghost use Rattle.std.specs.Cmp.Rules.{comparing};
 ghost use Rattle.std.specs.Ordering.{as_partial_cmp};
+ghost use Rattle.quota_settings.specs.Hashes.{pairs_writes, pairs_alike};
 ghost use Rattle.quota_settings.specs.Pairs.{pairs_cmp, same_pairs, IsBucketId};
 
 use crate::attributes::Attributes;
@@ -12,6 +13,7 @@ use rate_types::OutOfMemory;
 use rate_types::limits::MOST_PARTS;
 use std::alloc::Global;
 use std::cmp::Ordering;
+use std::hash::{Hash, Hasher};
 use std::marker::Model;
 
 /// The name of a bucket: 1 to 32 pairs sorted by the bytes of their names, which differ.
@@ -105,5 +107,15 @@ impl PartialOrd for BucketId {
 
     fn partial_cmp(&self, other: &BucketId) -> Option<Ordering> {
         Some(self.cmp(other))
+    }
+}
+
+impl Hash for BucketId {
+    ghost hash_input = { pairs_writes };
+
+    ghost respects_eq = { pairs_alike.fed };
+
+    fn hash<H: Hasher>(&self, state: &mut H) {
+        self.items().hash(state);
     }
 }

@@ -1,7 +1,7 @@
 use Rattle.std.proofs.Common.{◌≡◌, ◌<◌, ◌++◌, ◌∷◌, [], ◌∙◌, List, Some, ap, refl, arith, length}
 use Rattle.std.proofs.lemmas.Grind.{common_steps}
-use Rattle.std.specs.BTreeMap.{get}
-use Rattle.quota_settings.specs.Pairs.{pairs_cmp}
+use Rattle.std.specs.HashMap.{get}
+use Rattle.quota_settings.specs.Pairs.{same_pairs}
 use Rattle.quota_buckets.specs.Slots.{IsAgenda}
 use Rattle.quota_buckets.specs.Tables.{Stored, Table}
 use Rattle.quota_buckets.proofs.Advancing.{agenda_push, held_push}
@@ -18,7 +18,7 @@ invariant_of-self-2 c =
     let agenda : IsAgenda c.self.inside.time c.make_room.new.agenda slots = rw (← c.deref.ensures.value) c.make_room.ensures.agenda in
     let room : length slots < length c.make_room.new.agenda = rw (← c.deref.ensures.value) c.in_ok-make_room.ensures.room in
     record {
-      indexed = pushed_index (get pairs_cmp c.self.inside.index) (get pairs_cmp c.insert.new.self) slots c.args.bucket c.args.id
+      indexed = pushed_index (get same_pairs c.self.inside.index) (get same_pairs c.insert.new.self) slots c.args.bucket c.args.id
           c.self.invariant.indexed (not_found c.args.bucket.id slots (rw (← c.self.view_is) at c.requires.new)) c.requires.name
           (λ q. rw (← count) (c.in_ok-insert.ensures.updates.0 q)) c.requires.there c.push_reserved.new.self.items pushed;
       planned = agenda_push c.self.inside.time c.make_room.new.agenda c.set.new.self slots c.push_reserved.new.self.items c.args.bucket

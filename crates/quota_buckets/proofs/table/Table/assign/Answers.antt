@@ -1,6 +1,6 @@
 use Rattle.std.proofs.Common.{◌∙◌, List, ap, sym, arith, option_map}
-use Rattle.std.specs.BTreeMap.{get}
-use Rattle.quota_settings.specs.Pairs.{pairs_cmp}
+use Rattle.std.specs.HashMap.{get}
+use Rattle.quota_settings.specs.Pairs.{same_pairs}
 use Rattle.quota_bucket.specs.History.{begins_by_assignment}
 use Rattle.quota_buckets.specs.Streams.{assigned_as}
 use Rattle.quota_buckets.specs.Tables.{Stored, Table, stored_assigned}
@@ -13,45 +13,45 @@ pub returns-in_err-place-clause-stored : goal.returns-in_err-place-clause-stored
 returns-in_err-place-clause-stored c =
     let make : List Stored → Table = λ stored. record { time = c.self.inside.time; stored = stored } in
     rw (← c.self.view_is) (ap make (stored_same c.args.id.now (stored_assigned c.self.inside.time c.args.lifetime c.args.strategy) c.self.inside.slots.items
-    (found_none (get pairs_cmp c.self.inside.index) c.self.inside.slots.items c.args.id.now c.self.invariant.indexed
+    (found_none (get same_pairs c.self.inside.index) c.self.inside.slots.items c.args.id.now c.self.invariant.indexed
     (sym (c.in_err-place.ensures ∙ c.get.ensures.value)))))
 
 pub returns-in_err-place-clause-answer : goal.returns-in_err-place-clause-answer
 returns-in_err-place-clause-answer c =
     rw (← c.self.view_is) (c.from_residual.ensures ∙ ap (option_map (λ stored. assigned_as (begins_by_assignment stored.state.phase c.args.strategy)))
     (none_holds c.args.id.now c.self.inside.slots.items
-    (found_none (get pairs_cmp c.self.inside.index) c.self.inside.slots.items c.args.id.now c.self.invariant.indexed
+    (found_none (get same_pairs c.self.inside.index) c.self.inside.slots.items c.args.id.now c.self.invariant.indexed
     (sym (c.in_err-place.ensures ∙ c.get.ensures.value)))))
 
 pub index_mut-requires : goal.index_mut-requires
 index_mut-requires c =
-    let here = found_place (get pairs_cmp c.self.inside.index) c.self.inside.slots.items c.args.id.now c.in_ok-place.place c.self.invariant.indexed
+    let here = found_place (get same_pairs c.self.inside.index) c.self.inside.slots.items c.args.id.now c.in_ok-place.place c.self.invariant.indexed
     (sym (c.in_ok-place.ensures ∙ c.get.ensures.value)) in
     omega (arith, here.within)
 
 pub returns-in_default-clause-stored : goal.returns-in_default-clause-stored
 returns-in_default-clause-stored c =
-    let read = read_place (get pairs_cmp c.self.inside.index) c.self.inside.slots.items c.args.id.now c.in_ok-place.place c.index_mut.result.now
+    let read = read_place (get same_pairs c.self.inside.index) c.self.inside.slots.items c.args.id.now c.in_ok-place.place c.index_mut.result.now
     c.self.invariant.indexed (c.in_ok-place.ensures ∙ c.get.ensures.value) c.index_mut.ensures.value in
     absurd (not_empty c.args.id.now c.in_ok-place.place c.index_mut.result.now c.self.inside.slots.items read c.in_default.is)
 
 pub returns-in_default-clause-answer : goal.returns-in_default-clause-answer
 returns-in_default-clause-answer c =
-    let read = read_place (get pairs_cmp c.self.inside.index) c.self.inside.slots.items c.args.id.now c.in_ok-place.place c.index_mut.result.now
+    let read = read_place (get same_pairs c.self.inside.index) c.self.inside.slots.items c.args.id.now c.in_ok-place.place c.index_mut.result.now
     c.self.invariant.indexed (c.in_ok-place.ensures ∙ c.get.ensures.value) c.index_mut.ensures.value in
     absurd (not_empty c.args.id.now c.in_ok-place.place c.index_mut.result.now c.self.inside.slots.items read c.in_default.is)
 
 pub set-requires : goal.set-requires
 set-requires c =
-    let read = read_place (get pairs_cmp c.self.inside.index) c.self.inside.slots.items c.args.id.now c.in_ok-place.place c.index_mut.result.now
+    let read = read_place (get same_pairs c.self.inside.index) c.self.inside.slots.items c.args.id.now c.in_ok-place.place c.index_mut.result.now
     c.self.invariant.indexed (c.in_ok-place.ensures ∙ c.get.ensures.value) c.index_mut.ensures.value in
     omega (arith, read.here.within, c.self.invariant.planned.room)
 
 pub invariant_of-self-2 : goal.invariant_of-self-2
 invariant_of-self-2 c =
-    let read = read_place (get pairs_cmp c.self.inside.index) c.self.inside.slots.items c.args.id.now c.in_ok-place.place c.index_mut.result.now
+    let read = read_place (get same_pairs c.self.inside.index) c.self.inside.slots.items c.args.id.now c.in_ok-place.place c.index_mut.result.now
     c.self.invariant.indexed (c.in_ok-place.ensures ∙ c.get.ensures.value) c.index_mut.ensures.value in
-    rw c.set.ensures (changed_table c.self.inside.time c.self.inside.agenda (get pairs_cmp c.self.inside.index) c.self.inside.slots.items
+    rw c.set.ensures (changed_table c.self.inside.time c.self.inside.agenda (get same_pairs c.self.inside.index) c.self.inside.slots.items
     c.in_ok-place.place c.due-due.result c.in-Some.bucket c.assign-assigned.new.self c.self.invariant (read.at ∙ c.in-Some.is)
     (ap (λ (s : Stored). s.id) c.assign-assigned.ensures.stored) (rw c.assign-assigned.ensures.stored
     (assigned_there c.self.inside.time c.args.lifetime c.args.strategy c.in-Some.bucket
@@ -60,14 +60,14 @@ invariant_of-self-2 c =
 pub returns-clause-stored : goal.returns-clause-stored
 returns-clause-stored c =
     let make : List Stored → Table = λ stored. record { time = c.self.inside.time; stored = stored } in
-    let read = read_place (get pairs_cmp c.self.inside.index) c.self.inside.slots.items c.args.id.now c.in_ok-place.place c.index_mut.result.now
+    let read = read_place (get same_pairs c.self.inside.index) c.self.inside.slots.items c.args.id.now c.in_ok-place.place c.index_mut.result.now
     c.self.invariant.indexed (c.in_ok-place.ensures ∙ c.get.ensures.value) c.index_mut.ensures.value in
     rw (← c.self.view_is) (ap make (stored_at c.args.id.now (stored_assigned c.self.inside.time c.args.lifetime c.args.strategy) c.self.inside.slots.items c.in_ok-place.place
     c.in-Some.bucket c.assign-assigned.new.self read.here (read.at ∙ c.in-Some.is) c.assign-assigned.ensures.stored))
 
 pub returns-clause-answer : goal.returns-clause-answer
 returns-clause-answer c =
-    let read = read_place (get pairs_cmp c.self.inside.index) c.self.inside.slots.items c.args.id.now c.in_ok-place.place c.index_mut.result.now
+    let read = read_place (get same_pairs c.self.inside.index) c.self.inside.slots.items c.args.id.now c.in_ok-place.place c.index_mut.result.now
     c.self.invariant.indexed (c.in_ok-place.ensures ∙ c.get.ensures.value) c.index_mut.ensures.value in
     rw (← c.self.view_is) (told_at c.args.id.now (λ stored. assigned_as (begins_by_assignment stored.state.phase c.args.strategy)) c.self.inside.slots.items c.in_ok-place.place
     c.in-Some.bucket c.assign-assigned.result read.here (read.at ∙ c.in-Some.is) c.assign-assigned.ensures.answer)
