@@ -2,12 +2,15 @@
 ghost use Rattle.std.specs.Prelude.{◌≡◌, ◌<◌, ◌∷◌, ◌==◌, length, position, IfSome};
 ghost use Rattle.text_lines.specs.Lines.{cut};
 
+use memchr::memchr;
+
 /// The place of the first line feed.
+#[tactic(auto, using(crate::proofs::Finding::first_byte))]
 pub fn line_feed(bytes: &[u8]) -> Option<usize>
     ensures at { result ≡ position (λ b. b == 10) bytes.now }
     ensures within { IfSome result (λ at. at < length bytes.now) }
 {
-    bytes.iter().position(|b| *b == b'\n')
+    memchr(b'\n', bytes)
 }
 
 /// The first line without its line feed, and the bytes after that line feed, which are none where the line has none.
