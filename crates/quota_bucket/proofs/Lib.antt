@@ -1,5 +1,1 @@
-pub mod Meters
-pub mod Simulation
-pub mod Allowing
-pub mod Quiet
 pub mod Told

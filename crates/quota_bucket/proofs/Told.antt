@@ -14,8 +14,8 @@ use Rattle.quota_bucket.specs.Machine.{report_moment, advanced, advance_report, 
 use Rattle.quota_bucket.specs.State.{state_after, asked_after, IsStateOf}
 use Rattle.quota_bucket.specs.TimeOrder.{IsInOrder}
 use Rattle.quota_bucket.specs.Allowance.{KeepsAllowance}
-use Rattle.quota_bucket.proofs.Simulation.{advanced-state_after, advance_report-state_after, asked-state_after, decided_falls, Falls-later}
-use Rattle.quota_bucket.proofs.Allowing.{allowance}
+use Rattle.quota_bucket.specs.StateLaws.{advanced-state_after, advance_report-state_after, asked-state_after, decided_falls, Falls-later}
+use Rattle.quota_bucket.specs.AllowanceLaws.{allowance}
 
 pub report_told : (rules : BucketRules) (history : List Event) (advance : AdvanceOf) (state : BucketState) → IsStateOf rules history state
     → present history ≡ advance.from → (report : Option Usage) → report ≡ advance_report rules advance state

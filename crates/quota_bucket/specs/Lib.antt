@@ -7,3 +7,7 @@ pub mod TimeOrder
 pub mod Machine
 pub mod Allowance
 pub mod Due
+pub mod MeterLaws
+pub mod StateLaws
+pub mod AllowanceLaws
+pub mod QuietLaws

@@ -14,7 +14,7 @@ use Rattle.agenda.specs.Reached.{reached_from, reached}
 use Rattle.quota_bucket.specs.Due.{never, due}
 use Rattle.quota_bucket.specs.History.{is_gone}
 use Rattle.quota_bucket.specs.declared.bucket_state.Advance.{Advance}
-use Rattle.quota_bucket.proofs.Quiet.{quiet, due_stays}
+use Rattle.quota_bucket.specs.QuietLaws.{quiet, due_stays}
 use Rattle.quota_buckets.specs.Tables.{Stored, held, slot_list, slot_at, slot_due, slot_advanced, slot_reports, stored_there, stored_advanced, stored_reports, each_set}
 use Rattle.quota_buckets.specs.Tables.{reports_at, AllWithin}
 use Rattle.quota_buckets.specs.Slots.{IsAgenda, AllThere}

@@ -15,8 +15,8 @@ use Rattle.quota_bucket.specs.TimeOrder.{Falls}
 use Rattle.quota_bucket.specs.State.{state_after}
 use Rattle.quota_bucket.specs.Machine.{advance_report, asked, new_state}
 use Rattle.quota_bucket.specs.Allowance.{KeepsAllowance}
-use Rattle.quota_bucket.proofs.Simulation.{advanced-state_after, advance_report-state_after, asked-state_after, assigned-state_after, decided_falls}
-use Rattle.quota_bucket.proofs.Allowing.{allowance}
+use Rattle.quota_bucket.specs.StateLaws.{advanced-state_after, advance_report-state_after, asked-state_after, assigned-state_after, decided_falls}
+use Rattle.quota_bucket.specs.AllowanceLaws.{allowance}
 use Rattle.quota_buckets.specs.FirstMatch.{at_first, without_first}
 use Rattle.quota_buckets.specs.Pasts.{Past, happened, is_there, is_named}
 use Rattle.quota_buckets.specs.Sending.{report_from, by_moment}

@@ -22,7 +22,7 @@ pub record HasBucket (id : List Pair) (slot : Option Stored) : Type 0 where
   pub is : slot ≡ Some stored
   pub name : stored.id ≡ id
 
-bucket_by_id : (id : List Pair) (slot : Option Stored) → slot_id slot ≡ Some id → HasBucket id slot
+pub bucket_by_id : (id : List Pair) (slot : Option Stored) → slot_id slot ≡ Some id → HasBucket id slot
 bucket_by_id id None is = absurd (cc)
 bucket_by_id id (Some stored) is = record { stored = stored; is = refl; name = cc }
 
@@ -118,13 +118,13 @@ changed_index index slots place stored later is_index is name there = record {
         let same : later ≡ other = cc (at, at_same slots place k (Some later) within e) in rw (← same) there
     there_at k other at (inr ne) = is_index.there k other (sym (at_other slots place k (Some later) ne) ∙ at)
 
-apart_names : (a b : List Pair) → (a ≡ b → ⊥) → same_pairs a b ≡ false
+pub apart_names : (a b : List Pair) → (a ≡ b → ⊥) → same_pairs a b ≡ false
 apart_names a b apart = not_named (same_pairs a b) (λ h. apart (same_by_eq a b h))
 
-same_names : (a b : List Pair) → a ≡ b → same_pairs a b ≡ true
+pub same_names : (a b : List Pair) → a ≡ b → same_pairs a b ≡ true
 same_names a b is = eq_of_same a b is
 
-cases_names : (a b : List Pair) → (a ≡ b) ⊎ (a ≡ b → ⊥)
+pub cases_names : (a b : List Pair) → (a ≡ b) ⊎ (a ≡ b → ⊥)
 cases_names a b = over (same_pairs a b) refl
   where
     over : (t : Bool) → same_pairs a b ≡ t → (a ≡ b) ⊎ (a ≡ b → ⊥)

@@ -1,6 +1,7 @@
 -- Inside: the slots of a table, with an index of their names and an agenda of their next moments.
-use Rattle.std.specs.Prelude.{◌≡◌, ℕ, ◌<◌, ◌≤◌, List, Option, Some, true, false, length, slice_index_or}
+use Rattle.std.specs.Prelude.{◌≡◌, ℕ, ◌<◌, ◌≤◌, List, Option, Some, true, false, is_some, length, slice_index_or, if◌then◌else◌}
 use Rattle.quota_settings.specs.declared.pair.Pair.{Pair}
+use Rattle.quota_settings.specs.Pairs.{same_pairs}
 use Rattle.quota_bucket.specs.History.{is_gone}
 use Rattle.quota_bucket.specs.Due.{never}
 use Rattle.quota_buckets.specs.Tables.{Stored, slot_at, slot_id, slot_named, slot_due}
@@ -34,3 +35,21 @@ HasNoPlace id slots = (place : ℕ) → slot_named id (slot_at slots place) ≡ 
 -- each bucket is there
 abbrev pub AllThere : List (Option Stored) → Type 0
 AllThere slots = (place : ℕ) (stored : Stored) → slot_at slots place ≡ Some stored → is_gone stored.state.phase ≡ false
+
+-- no two buckets have one name
+abbrev pub AreDistinct : List (Option Stored) → Type 0
+AreDistinct slots = (j k : ℕ) (a b : Stored) → slot_at slots j ≡ Some a → slot_at slots k ≡ Some b → a.id ≡ b.id → j ≡ k
+
+-- each bucket's name is in the index, and each name of the index is that of a bucket
+pub record IsNamed (index : List Pair → Option ℕ) (slots : List (Option Stored)) : Type 0 where
+  pub has : (place : ℕ) (stored : Stored) → slot_at slots place ≡ Some stored → is_some (index stored.id) ≡ true
+  pub named : (id : List Pair) (place : ℕ) → index id ≡ Some place → (k : ℕ) × (slot_id (slot_at slots k) ≡ Some id)
+
+-- the buckets of the first places are in the index at these
+abbrev pub ArePlaced : ℕ → (List Pair → Option ℕ) → List (Option Stored) → Type 0
+ArePlaced count index slots = (place : ℕ) (stored : Stored) → place < count → slot_at slots place ≡ Some stored
+    → index stored.id ≡ Some place
+
+-- the index after the place of one name was set
+abbrev pub IsSet : (List Pair → Option ℕ) → (List Pair → Option ℕ) → List Pair → ℕ → Type 0
+IsSet index later id place = (q : List Pair) → later q ≡ (if same_pairs id q then Some place else index q)

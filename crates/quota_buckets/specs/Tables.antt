@@ -1,5 +1,5 @@
 -- Inside: what is stored of a stream's buckets: the state of each, in order of making.
-use Rattle.std.specs.Prelude.{ℕ, List, [], ◌∷◌, ◌++◌, Option, Some, None, Bool, false, not, option_map, slice_index_or, slice_set}
+use Rattle.std.specs.Prelude.{ℕ, List, [], ◌∷◌, ◌++◌, Option, Some, None, Bool, false, not, option_map, is_some, slice_index_or, slice_set}
 use Rattle.std.specs.Prelude.{◌<◌, All, map, filter, if◌then◌else◌}
 use Rattle.std.specs.List.{flat_map}
 use Rattle.quota_settings.specs.Pairs.{same_pairs}
@@ -70,6 +70,10 @@ slot_list (Some stored) = stored ∷ []
 abbrev pub held : List (Option Stored) → List Stored
 held [] = []
 held (slot ∷ slots) = slot_list slot ++ held slots
+
+-- the slots that aren't empty, in order
+abbrev pub without_gaps : List (Option Stored) → List (Option Stored)
+without_gaps slots = filter is_some slots
 
 -- the slot of a place; beyond the last one it is empty
 abbrev pub slot_at : List (Option Stored) → ℕ → Option Stored

@@ -8,13 +8,15 @@
 //! bucket ever allows more than its strategy's number, whatever else happens (`KeepAllowance`).
 //!
 //! `advance` costs as much as falls due, times a logarithm; `find`, `decide` and `request` look a bucket up by its name.
-//! `decide`, `assign`, `abandon`, `set_up` and `phase` take no memory. The slot of an erased bucket is kept.
+//! `decide`, `assign`, `abandon`, `set_up` and `phase` take no memory. The slots of erased buckets are used again once there are
+//! as many slots as there is room for: that is at most 16 more than twice the most buckets that were there at once.
 #![tactic(auto)]
 
 mod answers;
 mod bucket;
 mod buckets;
 mod call;
+mod gaps;
 mod phase;
 mod report;
 mod slots;

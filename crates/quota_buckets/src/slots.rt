@@ -1,9 +1,9 @@
-ghost use Rattle.std.specs.Prelude.{◌≡◌, ◌≤◌, ◌<◌, ◌++◌, None, OnOk, IfOk, length, map, replicate, slice_set};
+ghost use Rattle.std.specs.Prelude.{◌≡◌, ◌≤◌, ◌<◌, ◌++◌, ◌∷◌, [], None, OnOk, IfOk, length, map, replicate, slice_set};
 ghost use Rattle.std.specs.HashMap.{get};
 ghost use Rattle.quota_settings.specs.Pairs.{same_pairs};
 ghost use Rattle.quota_bucket.specs.Due.{never};
 ghost use Rattle.quota_buckets.specs.Slots.{IsIndex, IsAgenda};
-ghost use Rattle.quota_buckets.specs.Tables.{slot_at, slot_due, slot_advanced, slot_reports, each_set, reports_at, AllWithin};
+ghost use Rattle.quota_buckets.specs.Tables.{slot_at, slot_due, slot_advanced, slot_reports, each_set, reports_at, without_gaps, AllWithin};
 
 use crate::bucket::{Bucket, advance_slot};
 use crate::report::Report;
@@ -28,49 +28,46 @@ fn due_of(slot: &Option<Bucket>, time: Millis) -> u64
     }
 }
 
-/// Makes an agenda longer where it has no place for one more slot.
-pub fn make_room(
-    alloc: Global,
-    agenda: &mut Agenda,
-    slots: &[Option<Bucket>],
-    time: Millis,
-) -> Result<(), OutOfMemory>
-    requires { IsAgenda time agenda.old slots.now }
-    ensures agenda { IsAgenda time agenda.new slots.now }
-    ensures room { OnOk result (length slots.now < length agenda.new) }
-{
-    if slots.len() < agenda.len() {
-        return Ok(());
-    }
-    *agenda = longer(alloc, slots, time)?;
-    Ok(())
-}
-
-/// An agenda for these slots with room for as many more.
-fn longer(alloc: Global, slots: &[Option<Bucket>], time: Millis) -> Result<Agenda, OutOfMemory>
-    ensures agenda { IfOk result (λ agenda. IsAgenda time agenda slots.now) }
-    ensures room { IfOk result (λ agenda. length slots.now < length agenda) }
+/// An agenda for the slots that aren't empty with room for as many more.
+pub fn longer(alloc: Global, slots: &[Option<Bucket>], time: Millis) -> Result<Agenda, OutOfMemory>
+    ensures agenda { IfOk result (λ agenda. IsAgenda time agenda (without_gaps slots.now)) }
+    ensures room { IfOk result (λ agenda. length (without_gaps slots.now) < length agenda) }
 {
     let mut moments = moments_of(alloc, slots, time)?;
-    add_free(&mut moments, slots.len())?;
+    let taken = moments.len();
+    add_free(&mut moments, taken)?;
     add_free(&mut moments, LEAST_ROOM)?;
     let agenda = Agenda::of(alloc, moments)?;
     Ok(agenda)
 }
 
-/// The next moments of these slots.
+/// The next moments of the slots that aren't empty.
 fn moments_of(
     alloc: Global,
     slots: &[Option<Bucket>],
     time: Millis,
 ) -> Result<Vec<u64>, OutOfMemory>
-    ensures { IfOk result (λ moments. moments.items ≡ map (slot_due time) slots.now) }
+    ensures { IfOk result (λ moments. moments.items ≡ map (slot_due time) (without_gaps slots.now)) }
 {
     let mut moments = Vec::new(alloc);
     for slot in slots {
-        moments.push(due_of(slot, time))?;
+        add_moment(&mut moments, slot, time)?;
     }
     Ok(moments)
+}
+
+/// Adds the next moment of a slot, if it isn't empty.
+fn add_moment(
+    moments: &mut Vec<u64>,
+    slot: &Option<Bucket>,
+    time: Millis,
+) -> Result<(), OutOfMemory>
+    ensures { OnOk result (moments.new.items ≡ moments.old.items ++ map (slot_due time) (without_gaps (slot.now ∷ []))) }
+{
+    if let Some(bucket) = slot {
+        moments.push(bucket.due(time))?;
+    }
+    Ok(())
 }
 
 /// Adds places that want no work.

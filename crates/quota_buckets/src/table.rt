@@ -3,9 +3,10 @@ ghost use Rattle.quota_bucket.specs.History.{is_gone, begins_by_assignment};
 
 use crate::answers::Assigned;
 use crate::bucket::Bucket;
+use crate::gaps::make_room;
 use crate::phase::Phase;
 use crate::report::{Reports, order};
-use crate::slots::{advance_each, make_room, plan_each, reports_of};
+use crate::slots::{advance_each, plan_each, reports_of};
 use agenda::Agenda;
 use quota_bucket::{Advance, Strategy};
 use quota_settings::BucketId;
@@ -139,8 +140,14 @@ impl Table {
         ensures added { OnOk result (self.new ≡ record self.old { stored = self.old.stored ++ bucket ∷ [] }) }
         ensures err { OnErr result (self.new ≡ self.old) }
     {
+        make_room(
+            alloc,
+            &mut self.slots,
+            &mut self.index,
+            &mut self.agenda,
+            self.time,
+        )?;
         let place = self.slots.len();
-        make_room(alloc, &mut self.agenda, &self.slots, self.time)?;
         self.slots.reserve(1)?;
         self.index.insert(id, place)?;
         self.agenda.set(place, bucket.due(self.time));

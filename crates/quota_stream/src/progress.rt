@@ -7,6 +7,7 @@ use quota_buckets::Buckets;
 use quota_settings::Settings;
 use rate_types::limits::MOST_LINES;
 use std::alloc::Global;
+use std::hash::RandomState;
 use std::marker::Model;
 
 /// How far a stream was replayed: the buckets after its lines so far, and the bytes of a line that hasn't ended.
@@ -41,15 +42,15 @@ impl Replay {
     ghost use Rattle.quota_buckets.specs.Streams.{new_stream};
     ghost use Rattle.quota_stream.specs.Progress.{IsPlain, IsLineFault, next_outcome, after_line, has_bytes};
 
-    /// The stream of this index, before its first byte. It takes no memory.
-    pub fn new(alloc: Global, settings: Settings, index: u64) -> Replay
+    /// The stream of this index, before its first byte. The hashes of buckets' names go by `seed`. It takes no memory.
+    pub fn new(alloc: Global, settings: Settings, seed: RandomState, index: u64) -> Replay
         ensures { result ≡ record { index = index; lines = 0; stream = new_stream settings; pending = [] } }
     {
         Replay {
             alloc,
             index,
             lines: 0,
-            buckets: Buckets::make(alloc, settings),
+            buckets: Buckets::make(alloc, settings, seed),
             pending: Vec::new(alloc),
         }
     }

@@ -11,6 +11,7 @@ use quota_settings::Settings;
 use rate_io::{Sink, Source};
 use rate_types::limits::MOST_BYTES;
 use std::alloc::Global;
+use std::hash::RandomState;
 use text_lines::line_feed;
 
 // Ends the line that is pending, and writes what comes of it.
@@ -84,6 +85,7 @@ fn finish<K: Sink>(replay: &mut Replay, sink: &mut K) -> Result<(), ReplayFault>
 pub fn replay<S: Source, K: Sink>(
     alloc: Global,
     settings: &Settings,
+    seed: RandomState,
     stream: u64,
     source: &mut S,
     sink: &mut K,
@@ -96,7 +98,7 @@ pub fn replay<S: Source, K: Sink>(
     let Ok(settings) = settings.copy(alloc) else {
         return Err(ReplayFault::OutOfMemory);
     };
-    let mut replay = Replay::new(alloc, settings, stream);
+    let mut replay = Replay::new(alloc, settings, seed, stream);
     let mut buf = [0u8; 16384];
     let mut count: u64 = 0;
     'turns: loop {

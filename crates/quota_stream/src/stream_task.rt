@@ -10,6 +10,7 @@ use quota_settings::Settings;
 use rate_types::limits::{MOST_BYTES, MOST_LINES};
 use rate_types::{OutOfMemory, Word};
 use std::alloc::Global;
+use std::hash::RandomState;
 use std::marker::Model;
 use std::mem;
 use text_lines::cut_line;
@@ -85,15 +86,21 @@ fn push_lines(text: &mut String, lines: &[String]) -> Result<(), OutOfMemory>
 impl<'a> StreamTask<'a> {
     ghost use Rattle.quota_stream.specs.Tasks.{Stands, GoesOn, IsAnswer, output_text, is_ended};
 
-    /// The replay of the stream of this index by these settings. It takes no memory.
-    pub fn new(alloc: Global, settings: Settings, index: u64, bytes: &'a [u8]) -> StreamTask<'a>
+    /// The replay of the stream of this index by these settings. The hashes of buckets' names go by `seed`. It takes no memory.
+    pub fn new(
+        alloc: Global,
+        settings: Settings,
+        seed: RandomState,
+        index: u64,
+        bytes: &'a [u8],
+    ) -> StreamTask<'a>
         ensures { Stands (output_text settings index bytes.now) bytes.now result }
     {
         StreamTask {
             alloc,
             index,
             lines: 0,
-            buckets: Buckets::make(alloc, settings),
+            buckets: Buckets::make(alloc, settings, seed),
             text: String::new(alloc),
             left: bytes,
             fault: too_long(bytes),

@@ -8,6 +8,7 @@ use crate::stream_task::StreamTask;
 use quota_settings::Settings;
 use rate_types::{Blob, Blobs, Names, OutOfMemory, Word};
 use std::alloc::Global;
+use std::hash::RandomState;
 use std::thread::{Threads, for_each_chunk_mut};
 
 /// The most turns after which a replay has ended: that many times 64 lines are more than a stream may have.
@@ -42,6 +43,7 @@ fn run_in_turn(tasks: &mut [StreamTask<'_>])
 fn tasks_of<'a>(
     alloc: Global,
     settings: &Settings,
+    seed: RandomState,
     streams: &'a [Blob],
 ) -> Result<Vec<StreamTask<'a>>, OutOfMemory>
     ensures { IfOk result (λ v. StandEach settings.now streams.now v.items) }
@@ -49,7 +51,7 @@ fn tasks_of<'a>(
     let mut tasks = Vec::new(alloc);
     'streams: for index in 0..streams.len() {
         let settings = settings.copy(alloc)?;
-        let task = StreamTask::new(alloc, settings, index as u64, streams[index].bytes());
+        let task = StreamTask::new(alloc, settings, seed, index as u64, streams[index].bytes());
         tasks.push(task)?;
     }
     Ok(tasks)
@@ -125,6 +127,7 @@ pub fn replay_all<R: Threads + Sync>(
     rt: &R,
     alloc: Global,
     settings: &Settings,
+    seed: RandomState,
     streams: &Blobs,
     workers: u32,
 ) -> Result<Names, ReplayFault>
@@ -134,7 +137,7 @@ pub fn replay_all<R: Threads + Sync>(
     ensures lines { (index : ℕ) (bytes : List ℕ) → AreLines (quota_output settings.now index bytes) }
     ensures fault { IfErr result (λ fault. IsFaultOfOne streams.now fault) }
 {
-    let Ok(mut tasks) = tasks_of(alloc, settings, streams.items()) else {
+    let Ok(mut tasks) = tasks_of(alloc, settings, seed, streams.items()) else {
         return Err(ReplayFault::OutOfMemory);
     };
     match run_all(rt, alloc, settings, streams.items(), &mut tasks, workers) {

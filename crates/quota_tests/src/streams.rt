@@ -8,6 +8,8 @@ use quota_settings_json::read_settings;
 use quota_stream::{ReplayFault, replay_all};
 use rate_types::{Blob, Blobs, Names};
 use std::alloc::Global;
+use std::hash::RandomState;
+use std::random::RandomSource;
 use std::process::Abort;
 use std::test::Fail;
 use std::thread::Threads;
@@ -48,7 +50,7 @@ pub fn answer_text(alloc: Global, answer: Result<Names, ReplayFault>) -> Result<
 }
 
 /// What the replay of these streams answers with so many workers.
-pub fn replayed<R: Threads + Sync>(
+pub fn replayed<R: RandomSource + Threads + Sync>(
     rt: &R,
     alloc: Global,
     settings: &Settings,
@@ -58,6 +60,13 @@ pub fn replayed<R: Threads + Sync>(
     let streams = streams_of(alloc, texts)?;
     answer_text(
         alloc,
-        replay_all(rt, alloc, settings, &streams, workers.max(1)),
+        replay_all(
+            rt,
+            alloc,
+            settings,
+            RandomState::new(rt)?,
+            &streams,
+            workers.max(1),
+        ),
     )
 }

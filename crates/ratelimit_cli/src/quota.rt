@@ -23,6 +23,7 @@ use quota_stream::{ReplayFault, replay_all};
 use rate_io::{Files, Sink};
 use rate_types::{Blob, Blobs, Names, OutOfMemory, Word};
 use std::alloc::Global;
+use std::hash::RandomState;
 use std::thread::Threads;
 
 // The names of the files of a replay: the settings file, then the streams.
@@ -61,6 +62,7 @@ fn texts_of<R: Threads + Sync>(
     rt: &R,
     alloc: Global,
     settings: &Settings,
+    seed: RandomState,
     streams: &Blobs,
     workers: u32,
 ) -> Result<Names, Exit>
@@ -69,7 +71,7 @@ fn texts_of<R: Threads + Sync>(
     ensures lines { (index : ℕ) (bytes : List ℕ) → AreLines (quota_output settings.now index bytes) }
     ensures fault { IfErr result (IsOfStreams streams.now) }
 {
-    match replay_all(rt, alloc, settings, streams, workers.max(1)) {
+    match replay_all(rt, alloc, settings, seed, streams, workers.max(1)) {
         Ok(texts) => Ok(texts),
         Err(ReplayFault::TooLong { .. }) => Err(Exit::TooLong),
         Err(ReplayFault::OutOfMemory) => Err(Exit::OutOfMemory),
@@ -83,6 +85,7 @@ fn replayed<R: Threads + Sync>(
     rt: &R,
     alloc: Global,
     file: &[u8],
+    seed: RandomState,
     streams: &Blobs,
     workers: u32,
 ) -> Result<Names, Exit>
@@ -94,7 +97,7 @@ fn replayed<R: Threads + Sync>(
         Ok(settings) => settings,
         Err(exit) => return Err(exit),
     };
-    texts_of(rt, alloc, &settings, streams, workers)
+    texts_of(rt, alloc, &settings, seed, streams, workers)
 }
 
 // Writes the lines of texts, each by one call, and flushes.
@@ -120,6 +123,7 @@ fn write_texts<K: Sink>(alloc: Global, texts: &Names, sink: &mut K) -> Result<()
 pub fn run_quota<R: Threads + Sync, F: Files, K: Sink>(
     rt: &R,
     alloc: Global,
+    seed: RandomState,
     job: QuotaJob,
     files: &mut F,
     sink: &mut K,
@@ -155,7 +159,7 @@ pub fn run_quota<R: Threads + Sync, F: Files, K: Sink>(
         Err(exit) => return Err(exit),
     };
     let (file, streams) = first_of(blobs);
-    let texts = match replayed(rt, alloc, file.bytes(), &streams, workers) {
+    let texts = match replayed(rt, alloc, file.bytes(), seed, &streams, workers) {
         Ok(texts) => texts,
         Err(exit) => return Err(exit),
     };

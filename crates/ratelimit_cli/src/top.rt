@@ -220,7 +220,7 @@ where
         Ok(Command::Threads(ThreadJob::Gen { number, checks })) => {
             run_gen(rt, alloc, seed, number, checks, sink, gate)
         }
-        Ok(Command::Quota(job)) => run_quota(rt, alloc, job, files, sink),
+        Ok(Command::Quota(job)) => run_quota(rt, alloc, seed, job, files, sink),
         Ok(Command::Pool(job)) => run_pool(alloc, &seed, job, files, sink),
         Ok(Command::Audit(job)) => audit_files(alloc, &job, files, source, sink),
         Ok(Command::Help) => write_text(alloc, HELP, sink),

@@ -69,7 +69,7 @@ fn a_request_without_settings_is_allowed(rt: HostRuntime) -> Result<(), Fail> {
 #[test]
 fn a_bucket_is_found_without_being_made(rt: HostRuntime) -> Result<(), Fail> {
     let alloc = rt.alloc();
-    let buckets = buckets_of(alloc, TWO)?;
+    let buckets = buckets_of(&rt, alloc, TWO)?;
     for (name, want) in [("a", Some("first")), ("b", Some("b")), ("c", None)] {
         let found = buckets.find(&named(alloc, name)?)?;
         assert_eq!(rt; found.as_ref().map(|id| value_of(id)), want, "at {name}");
@@ -81,7 +81,7 @@ fn a_bucket_is_found_without_being_made(rt: HostRuntime) -> Result<(), Fail> {
 #[test]
 fn a_bucket_goes_through_its_phases(rt: HostRuntime) -> Result<(), Fail> {
     let alloc = rt.alloc();
-    let mut buckets = buckets_of(alloc, TWO)?;
+    let mut buckets = buckets_of(&rt, alloc, TWO)?;
     let id = id_named(alloc, "first")?;
     let _first = buckets.request(&named(alloc, "a")?)?;
     assert_eq!(rt; buckets.phase(&id), Phase::NoAssignment);

@@ -5,6 +5,8 @@ use quota_buckets::{
 use quota_settings_json::read_settings;
 use rate_types::{Millis, Text};
 use std::alloc::Global;
+use std::hash::RandomState;
+use std::random::RandomSource;
 use std::process::Abort;
 use std::test::Fail;
 
@@ -55,11 +57,15 @@ pub fn value_of(id: &BucketId) -> &str {
 }
 
 /// New buckets with the settings that this text spells.
-pub fn buckets_of(alloc: Global, settings: &str) -> Result<Buckets, Fail> {
+pub fn buckets_of<R: RandomSource>(
+    rt: &R,
+    alloc: Global,
+    settings: &str,
+) -> Result<Buckets, Fail> {
     let settings = read_settings(alloc, settings.as_bytes())
         .ok()
         .ok_or("settings")?;
-    Ok(Buckets::make(alloc, settings))
+    Ok(Buckets::make(alloc, settings, RandomState::new(rt)?))
 }
 
 // Adds words, with a space between them and those before.
@@ -206,13 +212,13 @@ fn take(
 }
 
 /// Takes the steps at their moments, and compares what each says.
-pub fn run<R: Abort>(
+pub fn run<R: Abort + RandomSource>(
     rt: &R,
     alloc: Global,
     settings: &str,
     rows: &[(u64, Step<'_>, &str)],
 ) -> Result<(), Fail> {
-    let mut buckets = buckets_of(alloc, settings)?;
+    let mut buckets = buckets_of(rt, alloc, settings)?;
     for (at, step, want) in rows {
         let mut told = String::new(alloc);
         advance(alloc, &mut told, &mut buckets, *at)?;

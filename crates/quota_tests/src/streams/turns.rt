@@ -2,6 +2,7 @@ use super::settings_with;
 use futures::executor::block_on;
 use quota_stream::StreamTask;
 use std::alloc::Global;
+use std::hash::RandomState;
 use std::test::Fail;
 
 // So many lines without event.
@@ -19,7 +20,7 @@ fn a_turn_is_64_lines(rt: HostRuntime) -> Result<(), Fail> {
     for (count, turns) in [(0, 0), (1, 1), (64, 1), (65, 2), (129, 3)] {
         let text = passing(alloc, count)?;
         let settings = settings_with(alloc, r#","reportingInterval":"5s""#)?;
-        let mut task = StreamTask::new(alloc, settings, 0, text.as_bytes());
+        let mut task = StreamTask::new(alloc, settings, RandomState::new(&rt)?, 0, text.as_bytes());
         let mut found: u32 = 0;
         for _ in 0..4 {
             if !task.is_ended() {
@@ -38,7 +39,7 @@ fn a_task_is_a_future_of_its_text(rt: HostRuntime) -> Result<(), Fail> {
     let alloc = rt.alloc();
     let text = passing(alloc, 65)?;
     let settings = settings_with(alloc, r#","reportingInterval":"5s""#)?;
-    let task = StreamTask::new(alloc, settings, 7, text.as_bytes());
+    let task = StreamTask::new(alloc, settings, RandomState::new(&rt)?, 7, text.as_bytes());
     let answer = block_on(&rt, task)?;
     let word = answer.ok().ok_or("a text")?;
     assert_eq!(rt; word.as_str().lines().count(), 65);

@@ -1,7 +1,7 @@
 use Rattle.std.proofs.Common.{◌≡◌, ◌∙◌, ap, rules}
 use Rattle.quota_bucket.specs.Machine.{assigned}
 use Rattle.quota_bucket.specs.declared.bucket_state.BucketState.{BucketState}
-use Rattle.quota_bucket.proofs.Simulation.{assigned-state_after}
+use Rattle.quota_bucket.specs.StateLaws.{assigned-state_after}
 use Rattle.quota_bucket.proofs.bucket_state.BucketState.assigned.Goals as goal
 
 pub returns-clause-history : goal.returns-clause-history

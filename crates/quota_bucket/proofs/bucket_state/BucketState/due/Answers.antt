@@ -1,6 +1,6 @@
 use Rattle.std.proofs.Common.{◌≡◌, ◌∙◌, sym, refl}
 use Rattle.quota_bucket.specs.Due.{due}
-use Rattle.quota_bucket.proofs.Quiet.{quiet, due_stays}
+use Rattle.quota_bucket.specs.QuietLaws.{quiet, due_stays}
 use Rattle.quota_bucket.proofs.bucket_state.BucketState.due.Goals as goal
 
 pub returns-clause-quiet : goal.returns-clause-quiet

@@ -1,4 +1,4 @@
--- No effect allows more than its strategy's number.
+-- Inside: laws that proofs cite, here and in other crates. No effect allows more than its strategy's number.
 use Rattle.std.proofs.Common.{◌≡◌, ℕ, ◌+◌, ◌-◌, ◌*◌, ◌<◌, ◌≤◌, ◌==◌, ◌&&◌, ◌⊎◌, inl, inr, Bool, true, false, List, [], ◌∷◌, refl, arith, ap, sym, ◌∙◌, Some}
 use Rattle.std.proofs.Common.{None, Option, option_map, count_by, if◌then◌else◌, nat_lt, nat_le, min, suc, zero}
 use Rattle.std.specs.Bool.{⊤}
@@ -19,8 +19,8 @@ use Rattle.quota_bucket.specs.History.{strategy_in, effect_in}
 use Rattle.quota_bucket.specs.Machine.{one_if}
 use Rattle.quota_bucket.specs.TimeOrder.{Falls, IsInOrder}
 use Rattle.quota_bucket.specs.Allowance.{IsWithin, KeepsAllowance}
-use Rattle.quota_bucket.proofs.Meters.{div-le}
-use Rattle.quota_bucket.proofs.Simulation.{decided_falls, count_cons}
+use Rattle.quota_bucket.specs.MeterLaws.{div-le}
+use Rattle.quota_bucket.specs.StateLaws.{decided_falls, count_cons}
 
 -- each request was decided by this strategy and effect, over the requests before it
 abbrev IsDecidedBy : Strategy → ℕ → List Decision → Type 0

@@ -1,4 +1,4 @@
--- The meter answers as the whole list of requests does.
+-- Inside: laws that proofs cite, here and in other crates. The meter answers as the whole list of requests does.
 use Rattle.std.proofs.Common.{◌≡◌, ℕ, ◌+◌, ◌-◌, ◌*◌, ◌/◌, ◌<◌, ◌≤◌, ◌==◌, ◌&&◌, Bool, true, false, List, [], ◌∷◌, refl, ap, arith, lit<, if◌then◌else◌, nat_lt}
 use Rattle.std.proofs.Common.{inl, inr, sym, ◌∙◌}
 use Rattle.std.proofs.Math.Bool.{and-true}

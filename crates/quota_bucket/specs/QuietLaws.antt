@@ -1,4 +1,4 @@
--- Until a bucket is due, an advance changes nothing that is kept of it.
+-- Inside: laws that proofs cite, here and in other crates. Until a bucket is due, an advance changes nothing that is kept of it.
 use Rattle.std.proofs.Common.{◌≡◌, ℕ, ◌+◌, ◌-◌, ◌*◌, ◌/◌, ◌<◌, ◌≤◌, ◌&&◌, Bool, true, false, refl, arith, Some, None, Option, if◌then◌else◌}
 use Rattle.std.proofs.Common.{nat_le, min}
 use Rattle.std.proofs.lemmas.Bool.Decides.{nat_tests}
@@ -13,7 +13,7 @@ use Rattle.quota_bucket.specs.declared.bucket_state.Advance.{Advance}
 use Rattle.quota_bucket.specs.History.{is_gone, after_advance, ended, begins_by_expiry}
 use Rattle.quota_bucket.specs.Reports.{next_report}
 use Rattle.quota_bucket.specs.Machine.{is_waiting, report_moment}
-use Rattle.quota_bucket.proofs.Meters.{div-le}
+use Rattle.quota_bucket.specs.MeterLaws.{div-le}
 use Rattle.quota_bucket.specs.Due.{never, timeout_due, phase_due, report_due, due, IsQuiet}
 
 -- what an advance before the next change of the phase leaves

@@ -1,4 +1,4 @@
--- Each step of the state is the event on the history.
+-- Inside: laws that proofs cite, here and in other crates. Each step of the state is the event on the history.
 use Rattle.std.proofs.Common.{◌≡◌, ℕ, ◌+◌, ◌-◌, ◌<◌, ◌≤◌, ◌&&◌, ◌||◌, ◌^◌, ◌⊎◌, inl, inr, Bool, true, false, not, List, [], ◌∷◌, refl, sym}
 use Rattle.std.proofs.Common.{arith, count_by, min, if◌then◌else◌, nat_lt, nat_le, Some, None, Option, is_some, unwrap_or, option_map}
 use Rattle.std.proofs.lemmas.Bool.Decides.{nat_tests}
@@ -23,7 +23,7 @@ use Rattle.quota_bucket.specs.Reports.{unreported, first_at, last_report, shown,
 use Rattle.quota_bucket.specs.State.{meter_of, state_from, state_after}
 use Rattle.quota_bucket.specs.Machine.{advanced, advance_report, after_report, asked, assigned, one_if}
 use Rattle.quota_bucket.specs.TimeOrder.{Falls, IsInOrder}
-use Rattle.quota_bucket.proofs.Meters.{judged-meter_of}
+use Rattle.quota_bucket.specs.MeterLaws.{judged-meter_of}
 
 pub meter_of-none : (strategy : Strategy) (effect : ℕ) → meter_of strategy effect [] ≡ Fresh
 meter_of-none AllowAll effect = refl
