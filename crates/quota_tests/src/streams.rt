@@ -9,8 +9,8 @@ use quota_stream::{ReplayFault, replay_all};
 use rate_types::{Blob, Blobs, Names};
 use std::alloc::Global;
 use std::hash::RandomState;
-use std::random::RandomSource;
 use std::process::Abort;
+use std::random::RandomSource;
 use std::test::Fail;
 use std::thread::Threads;
 

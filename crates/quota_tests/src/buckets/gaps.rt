@@ -34,7 +34,12 @@ fn abandon(
 // The names of the buckets that report at a moment, in order.
 fn reported(alloc: Global, buckets: &mut Buckets, at: u64) -> Result<String, Fail> {
     let mut names = String::new(alloc);
-    for report in buckets.advance(moment(at)?).ok().ok_or("a later moment")?.items() {
+    for report in buckets
+        .advance(moment(at)?)
+        .ok()
+        .ok_or("a later moment")?
+        .items()
+    {
         names.push_str(value_of(&report.bucket))?;
         names.push(' ')?;
     }

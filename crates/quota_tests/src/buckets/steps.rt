@@ -6,8 +6,8 @@ use quota_settings_json::read_settings;
 use rate_types::{Millis, Text};
 use std::alloc::Global;
 use std::hash::RandomState;
-use std::random::RandomSource;
 use std::process::Abort;
+use std::random::RandomSource;
 use std::test::Fail;
 
 /// What is done at a moment. Each bucket has a name of one pair, `name` with the given value.
@@ -57,11 +57,7 @@ pub fn value_of(id: &BucketId) -> &str {
 }
 
 /// New buckets with the settings that this text spells.
-pub fn buckets_of<R: RandomSource>(
-    rt: &R,
-    alloc: Global,
-    settings: &str,
-) -> Result<Buckets, Fail> {
+pub fn buckets_of<R: RandomSource>(rt: &R, alloc: Global, settings: &str) -> Result<Buckets, Fail> {
     let settings = read_settings(alloc, settings.as_bytes())
         .ok()
         .ok_or("settings")?;

@@ -22,7 +22,14 @@ fn replayed_into<R: RandomSource>(
     writes.push(write)?;
     let mut source = MemSource::new(text.as_bytes().to_vec(alloc)?, reads);
     let mut sink = MemSink::new(alloc, writes);
-    let answer = replay(alloc, &settings, RandomState::new(rt)?, 0, &mut source, &mut sink);
+    let answer = replay(
+        alloc,
+        &settings,
+        RandomState::new(rt)?,
+        0,
+        &mut source,
+        &mut sink,
+    );
     Ok((answer, sink))
 }
 
