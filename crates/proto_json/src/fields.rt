@@ -59,6 +59,9 @@ fn remove_both(
     ensures left { members_view members.new.entries
         ≡ fields.without_both (name_of camel.now plain.now) (members_view members.old.entries) }
 {
+    if members.is_empty() {
+        return (None, None);
+    }
     let one = remove(members, camel);
     if camel == plain {
         return (one, None);
