@@ -100,5 +100,8 @@ pub(crate) fn add_kept<K: Kept>(
     ensures knows { seat.new.me.0.known ≡ K.items kept.now }
 {
     let after = kept.len();
+    if after <= before {
+        return;
+    }
     add::<K, Brand>(shared, seat, kept, after - before);
 }
