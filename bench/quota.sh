@@ -8,6 +8,8 @@
 #   one due  advance to a moment at which one bucket reports, for each report
 #   all due  advance to a moment up to which each bucket reports once, for each report
 # Names come in an order that is scattered over the buckets. Each bucket allows 100 requests a second.
+# Behind `decide` stands the time of a peer in plain Rust, where rustc is there, and the ratio to it: the same look-up by a hash with a
+# seed, the same counts and the same tree of the moments at which buckets want work.
 # Run it at the top of the repository: bench/quota.sh [CALLS of each kind, 1000000 unless given; a multiple of 100000]
 set -e
 . "$(dirname "$0")/lib.sh"
@@ -22,6 +24,8 @@ use quota_buckets::{Attributes, BucketId, Buckets, Pair};
 use quota_settings_json::read_settings;
 use rate_types::{Millis, Text};
 use std::alloc::Global;
+use std::hash::RandomState;
+use std::random::RandomSource;
 use std::time::{Clock, Instant};
 
 const SETTINGS: &str =
@@ -79,9 +83,9 @@ fn make_one(alloc: Global, buckets: &mut Buckets, number: u64, at: u64) -> Optio
 }
 
 // Buckets that are made one after the other, so many milliseconds apart.
-fn made(alloc: Global, count: u64, step: u64) -> Option<Buckets> {
+fn made(alloc: Global, seed: RandomState, count: u64, step: u64) -> Option<Buckets> {
     let settings = read_settings(alloc, SETTINGS.as_bytes()).ok()?;
-    let mut buckets = Buckets::make(alloc, settings);
+    let mut buckets = Buckets::make(alloc, settings, seed);
     for i in 0..count {
         make_one(alloc, &mut buckets, i, i.checked_mul(step)?)?;
     }
@@ -329,9 +333,15 @@ fn row_with<R: Clock>(
     })
 }
 
-fn row_of<R: Clock>(rt: &R, alloc: Global, plan: &Plan, requests: &[Attributes]) -> Option<Row> {
+fn row_of<R: Clock + RandomSource>(
+    rt: &R,
+    alloc: Global,
+    plan: &Plan,
+    requests: &[Attributes],
+) -> Option<Row> {
     let ids = ids_of(alloc, requests)?;
-    let mut buckets = made(alloc, plan.count, plan.step)?;
+    let seed = RandomState::new(rt).ok()?;
+    let mut buckets = made(alloc, seed, plan.count, plan.step)?;
     row_with(rt, &mut buckets, requests, &ids, plan)
 }
 
@@ -360,7 +370,7 @@ fn line_of(alloc: Global, count: u64, row: &Row) -> Option<String> {
     .ok()
 }
 
-fn line<R: Clock>(rt: &R, alloc: Global, count: u64) -> Option<String> {
+fn line<R: Clock + RandomSource>(rt: &R, alloc: Global, count: u64) -> Option<String> {
     let plan = plan_of(count)?;
     let requests = requests_of(alloc, count)?;
     let row = row_of(rt, alloc, &plan, &requests)?;
@@ -378,21 +388,119 @@ fn main(rt: HostRuntime) -> std::io::Result<()> {
 }
 RT
 sed -i "s/CALLSu64/${calls}u64/g" "$work/crates/quota_bench/src/main.rt"
+cat > "$work/peer.rs" <<'RS'
+// Decisions of quota buckets in plain Rust: a look-up by the pairs of the name, a count for each second, and a tree in which
+// each node has the least moment of the two below.
+use std::collections::HashMap;
+use std::time::Instant;
+
+type Id = Vec<(String, String)>;
+
+#[derive(Default)]
+struct Bucket {
+    first: u64,
+    interval: u64,
+    in_interval: u64,
+    allowed: u64,
+    denied: u64,
+}
+
+struct Buckets {
+    slots: Vec<Option<(Id, Bucket)>>,
+    index: HashMap<Id, usize>,
+    rows: Vec<Vec<u64>>,
+    time: u64,
+}
+
+impl Buckets {
+    fn set(&mut self, place: usize, moment: u64) {
+        let mut place = place;
+        self.rows[0][place] = moment;
+        for level in 1..self.rows.len() {
+            place /= 2;
+            let below = &self.rows[level - 1];
+            let least = below[2 * place].min(*below.get(2 * place + 1).unwrap_or(&u64::MAX));
+            if self.rows[level][place] == least {
+                return;
+            }
+            self.rows[level][place] = least;
+        }
+    }
+
+    fn decide(&mut self, id: &Id) -> Option<bool> {
+        let place = *self.index.get(id)?;
+        let (_, bucket) = self.slots[place].as_mut()?;
+        let interval = (self.time - bucket.first) / 1000;
+        if bucket.interval != interval {
+            bucket.interval = interval;
+            bucket.in_interval = 0;
+        }
+        let allowed = bucket.in_interval < 100;
+        if allowed {
+            bucket.in_interval += 1;
+            bucket.allowed = bucket.allowed.saturating_add(1);
+        } else {
+            bucket.denied = bucket.denied.saturating_add(1);
+        }
+        let due = bucket.first + ((self.time - bucket.first) / 100_000 + 1) * 100_000;
+        self.set(place, due);
+        Some(allowed)
+    }
+}
+
+fn id_of(number: usize) -> Id {
+    vec![("name".to_string(), number.to_string())]
+}
+
+fn main() {
+    let calls: usize = std::env::args().nth(1).unwrap().parse().unwrap();
+    for count in [100usize, 1_000, 10_000, 100_000] {
+        let ids: Vec<Id> = (0..count).map(|i| id_of(i * 7919 % count)).collect();
+        let mut rows = vec![vec![u64::MAX; 2 * count + 16]];
+        while rows[rows.len() - 1].len() > 1 {
+            let above = (rows[rows.len() - 1].len() + 1) / 2;
+            rows.push(vec![u64::MAX; above]);
+        }
+        let mut buckets = Buckets { slots: vec![], index: HashMap::new(), rows, time: 0 };
+        for i in 0..count {
+            let first = (i * (100_000 / count)) as u64;
+            buckets.slots.push(Some((id_of(i), Bucket { first, ..Bucket::default() })));
+            buckets.index.insert(id_of(i), i);
+            buckets.time = first;
+        }
+        let start = Instant::now();
+        let mut decided = 0;
+        for _ in 0..calls / count {
+            for id in &ids {
+                decided += usize::from(buckets.decide(id).is_some());
+            }
+        }
+        println!("{}", if decided == calls { start.elapsed().as_nanos() } else { 0 });
+    }
+}
+RS
+: > "$work/peer.txt"
 run_program quota_bench > "$work/run.txt"
 grep -E '^[0-9]+( [0-9]+){6}$' "$work/run.txt" > "$work/quota.txt" || { cat "$work/run.txt"; exit 1; }
+if command -v rustc > /dev/null; then
+    rustc --edition 2021 -O -o "$work/peer" "$work/peer.rs"
+    "$work/peer" "$calls" > "$work/peer.txt"
+fi
 # A row that counted another number of answers than of calls has 0 there.
-awk -v n="$calls" '
-    NR == 1 { print "buckets        find      decide     request        idle     one due     all due" }
+paste -d ' ' "$work/quota.txt" "$work/peer.txt" | awk -v n="$calls" '
+    NR == 1 { print "buckets        find      decide        peer  ratio     request        idle     one due     all due" }
     {
-        printf "%7d", $1
-        for (i = 2; i <= 7; i++) {
-            if (NR == 1) first[i] = $i
-            printf " %11.1f", $i / n
-        }
+        printf "%7d %11.1f %11.1f", $1, $2 / n, $3 / n
+        if ($8) printf " %11.1f %6.2f", $8 / n, $3 / $8
+        else printf " %11s %6s", "-", "-"
+        for (i = 4; i <= 7; i++) printf " %11.1f", $i / n
         print ""
         grown = grown sprintf("%7d", $1)
-        for (i = 2; i <= 7; i++) grown = grown sprintf(" %11.2f", first[i] ? $i / first[i] : 0)
+        for (i = 2; i <= 7; i++) {
+            if (NR == 1) first[i] = $i
+            grown = grown sprintf(" %11.2f", first[i] ? $i / first[i] : 0)
+        }
         grown = grown "\n"
     }
-    END { print "times those with 100 buckets"; printf "%s", grown }
-' "$work/quota.txt"
+    END { print "times those with 100 buckets (find, decide, request, idle, one due, all due)"; printf "%s", grown }
+'
