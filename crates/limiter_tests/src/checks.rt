@@ -17,6 +17,7 @@ use std::sync::Wait;
 use std::test::Fail;
 
 mod known_counters;
+mod refusals;
 mod seen_values;
 
 // A descriptor of one entry, with these hits of its own.

@@ -175,7 +175,7 @@ fn check_behind<N: CellNaming, R: Abort + RandomSource + Wait>(
         )
     );
     assert_eq!(rt; (other.version(), other.moment().get()), (0, 0));
-    count_twice(rt, alloc, &limiter, &mut other)?;
+    count_apart(rt, alloc, &limiter, &mut one, &mut other)?;
     assert_eq!(rt; limiter.meet(rt, &mut one, &mut other), Ok(()));
     assert_eq!(rt; (one.version(), other.version()), (1, 1));
     assert_eq!(rt; one.moment(), other.moment());
@@ -196,5 +196,25 @@ fn count_twice<N: CellNaming, R: Abort + Wait>(
     let first = [(Code::Ok, Count::Before(0))];
     assert!(rt; answers(rt, alloc, limiter, pass, &one, 1, &first));
     assert!(rt; answers_one(limiter, pass, &one, 1, Code::Ok, Count::Before(1)));
+    Ok(())
+}
+
+// What one pass counts isn't known to another one.
+fn count_apart<N: CellNaming, R: Abort + Wait>(
+    rt: &R,
+    alloc: Global,
+    limiter: &Limiter<N>,
+    one: &mut Pass<N>,
+    other: &mut Pass<N>,
+) -> Result<(), Fail>
+    requires one { one.old.limiter ≡ limiter.now.id }
+    requires other { other.old.limiter ≡ limiter.now.id }
+    ensures one { one.new.limiter ≡ limiter.now.id }
+    ensures other { other.new.limiter ≡ limiter.now.id }
+{
+    let asked = request(alloc, &[("k", "a", None)])?;
+    count_twice(rt, alloc, limiter, other)?;
+    assert_eq!(rt; other.version(), 1);
+    assert!(rt; refuses_open(limiter, one, &asked, 0, NotOpen::Unknown { place: 0 }));
     Ok(())
 }
