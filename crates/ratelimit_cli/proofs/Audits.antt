@@ -12,15 +12,15 @@ use Rattle.config_json.specs.Reading.{reading_of}
 use Rattle.drive_run.specs.Script.{script_of}
 use Rattle.run_audit.specs.Verdict.{IsVerdict}
 use Rattle.ratelimit_cli.specs.declared.limits.TheConstants.{MOST_RUN_BYTES}
-use Rattle.ratelimit_cli.specs.Words.{command_of}
+use Rattle.command_words.specs.Words.{command_of}
 use Rattle.ratelimit_cli.specs.Jobs.{AskedFile, asked, files_of}
 use Rattle.ratelimit_cli.specs.World.{World, AreFilesOf, StopsAt}
 use Rattle.ratelimit_cli.specs.Configured.{FilesSay, IsInput}
 use Rattle.ratelimit_cli.specs.Audited.{setup_of}
 use Rattle.ratelimit_cli.specs.Parts.{IsOfFiles, IsOfOutput, IsOfVerdict, Sinks}
 use Rattle.ratelimit_cli.specs.Exits.{IsOutput}
-use Rattle.ratelimit_cli.specs.declared.command.Command.TheVariants.{Audit}
-use Rattle.ratelimit_cli.specs.declared.command.AuditJob.{AuditJob}
+use Rattle.command_words.specs.declared.command.Command.TheVariants.{Audit}
+use Rattle.command_words.specs.declared.command.AuditJob.{AuditJob}
 use Rattle.ratelimit_cli.specs.declared.exit.Exit.{Exit}
 use Rattle.ratelimit_cli.specs.declared.exit.Exit.TheVariants.{Done, Usage, ConfigRefused, TooLong, ReadFault, WriteFault, FileFault}
 use Rattle.ratelimit_cli.specs.declared.exit.Exit.TheVariants.{OutOfMemory, ListenFault, SettingsRefused}

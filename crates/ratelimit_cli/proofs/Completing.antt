@@ -15,18 +15,18 @@ use Rattle.quota_stream.specs.Tasks.{IsShort}
 use Rattle.quota_stream.specs.Runs.{HasTooLong}
 use Rattle.quota_pools.specs.Pools.{AllPools}
 use Rattle.http_serve.specs.Links.{ends_of}
-use Rattle.ratelimit_cli.specs.Words.{command_of}
+use Rattle.command_words.specs.Words.{command_of}
 use Rattle.ratelimit_cli.specs.Jobs.{AskedFile, files_of, configs_among, ReadsConfigs}
-use Rattle.ratelimit_cli.specs.declared.command.Command.{Command}
-use Rattle.ratelimit_cli.specs.declared.command.Command.TheVariants.{Plain, Quota, Pool, Audit, Threads, Help, Version}
-use Rattle.ratelimit_cli.specs.declared.command.ThreadJob.TheVariants.{Drive, Serve, Gen}
-use Rattle.ratelimit_cli.specs.declared.command.QuotaJob.{QuotaJob}
-use Rattle.ratelimit_cli.specs.declared.command.PoolJob.{PoolJob}
+use Rattle.command_words.specs.declared.command.Command.{Command}
+use Rattle.command_words.specs.declared.command.Command.TheVariants.{Plain, Quota, Pool, Audit, Threads, Help, Version}
+use Rattle.command_words.specs.declared.command.ThreadJob.TheVariants.{Drive, Serve, Gen}
+use Rattle.command_words.specs.declared.command.QuotaJob.{QuotaJob}
+use Rattle.command_words.specs.declared.command.PoolJob.{PoolJob}
 use Rattle.ratelimit_cli.specs.World.{World, AreFilesOf, AreWithin, StopsAt, IsLong, IsUnread, all_written, WroteUpTo}
 use Rattle.ratelimit_cli.specs.Configured.{FilesSay}
 use Rattle.ratelimit_cli.specs.Exits.{HasNoCause, Explains, ExplainsCall, IsExitOf, AreLawful}
 use Rattle.ratelimit_cli.specs.Served.{Listening, has_listen_failed, port_line, end_lines, ExplainsServe}
-use Rattle.ratelimit_cli.specs.declared.command.ServeJob.{ServeJob}
+use Rattle.command_words.specs.declared.command.ServeJob.{ServeJob}
 use Rattle.ratelimit_cli.specs.Replayed.{QuotaSays, AreReplayable}
 use Rattle.ratelimit_cli.specs.Pooled.{PoolSays, ArePoolable}
 use Rattle.ratelimit_cli.specs.declared.exit.Exit.{Exit}

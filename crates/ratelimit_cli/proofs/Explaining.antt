@@ -6,16 +6,16 @@ use Rattle.descriptor_tree.specs.Trees.{DomainTree}
 use Rattle.rate_io.specs.Events.{given}
 use Rattle.quota_settings.specs.Covering.{AllSettings}
 use Rattle.ratelimit_cli.specs.Quota.{settings_of}
-use Rattle.ratelimit_cli.specs.Words.{command_of}
+use Rattle.command_words.specs.Words.{command_of}
 use Rattle.ratelimit_cli.specs.Jobs.{asked, files_of, configs_among, ReadsConfigs, command_with}
 use Rattle.ratelimit_cli.specs.World.{World, AreFilesOf, NothingRead, NothingWritten}
 use Rattle.ratelimit_cli.specs.Configured.{FilesSay, HasRead}
 use Rattle.ratelimit_cli.specs.Replayed.{QuotaSays}
 use Rattle.ratelimit_cli.specs.Exits.{IsOutput, Explains}
 use Rattle.ratelimit_cli.specs.Parts.{IsOfFiles, IsOfConfig, IsOfInput, IsOfOutput, IsOfWork, IsOfSettings, IsOfStreams, IsOfReplay, Replays, Sinks}
-use Rattle.ratelimit_cli.specs.declared.command.Command.{Command}
-use Rattle.ratelimit_cli.specs.declared.command.Command.TheVariants.{Quota}
-use Rattle.ratelimit_cli.specs.declared.command.QuotaJob.{QuotaJob}
+use Rattle.command_words.specs.declared.command.Command.{Command}
+use Rattle.command_words.specs.declared.command.Command.TheVariants.{Quota}
+use Rattle.command_words.specs.declared.command.QuotaJob.{QuotaJob}
 use Rattle.ratelimit_cli.specs.declared.work.Work.{Work}
 use Rattle.ratelimit_cli.specs.declared.work.Work.TheVariants.{Lookup, Drive}
 use Rattle.ratelimit_cli.specs.declared.exit.Exit.{Exit}

@@ -6,8 +6,6 @@ pub mod Pooling
 pub mod Audits
 mod Completing
 pub mod Histories
-pub mod Apps
-pub mod Numbers
 pub mod Founds
 pub mod Lines
 pub mod Serving

@@ -1,14 +1,14 @@
 -- From what the parts of `pool` answer to what its exit says.
 use Rattle.std.proofs.Common.{◌≡◌, ℕ, List, [], ◌∷◌, Option, Some, Ok, Err, inl, inr}
 use Rattle.quota_pools.specs.Pools.{AllPools}
-use Rattle.ratelimit_cli.specs.Words.{command_of}
+use Rattle.command_words.specs.Words.{command_of}
 use Rattle.ratelimit_cli.specs.Jobs.{files_of}
 use Rattle.ratelimit_cli.specs.World.{World, AreFilesOf, NothingRead, NothingWritten}
 use Rattle.ratelimit_cli.specs.Pooled.{PoolSays, pools_of}
 use Rattle.ratelimit_cli.specs.Exits.{IsOutput, Explains}
 use Rattle.ratelimit_cli.specs.Parts.{IsOfSettings, IsOfSharing, Answers}
-use Rattle.ratelimit_cli.specs.declared.command.Command.TheVariants.{Pool}
-use Rattle.ratelimit_cli.specs.declared.command.PoolJob.{PoolJob}
+use Rattle.command_words.specs.declared.command.Command.TheVariants.{Pool}
+use Rattle.command_words.specs.declared.command.PoolJob.{PoolJob}
 use Rattle.ratelimit_cli.specs.declared.exit.Exit.{Exit}
 use Rattle.ratelimit_cli.specs.declared.exit.Exit.TheVariants.{Done, Usage, ConfigRefused, TooLong, ReadFault, WriteFault, FileFault}
 use Rattle.ratelimit_cli.specs.declared.exit.Exit.TheVariants.{OutOfMemory, ListenFault, SettingsRefused}

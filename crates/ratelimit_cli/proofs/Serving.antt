@@ -21,10 +21,10 @@ use Rattle.http_limiter.specs.declared.limited.Setup.{Setup}
 use Rattle.ratelimit_cli.specs.Output.{AppendsFront, with_line_feed}
 use Rattle.ratelimit_cli.specs.World.{World, all_written, WroteUpTo}
 use Rattle.ratelimit_cli.specs.Exits.{Explains, ExplainsCall}
-use Rattle.ratelimit_cli.specs.Served.{Listening, is_listen_failed, has_listen_failed, port_line, end_lines, port_line_written, HasBegun, ExplainsServe, PortWritten}
+use Rattle.ratelimit_cli.specs.Served.{Listening, limiter_of, is_listen_failed, has_listen_failed, port_line, end_lines, port_line_written, HasBegun, ExplainsServe, PortWritten}
 use Rattle.ratelimit_cli.specs.Serving.{Found, world_of, EndsServing}
 use Rattle.ratelimit_cli.specs.Parts.{Sinks, Wrote, WroteFront, IsOfOutput}
-use Rattle.ratelimit_cli.specs.declared.command.ServeJob.{ServeJob}
+use Rattle.command_words.specs.declared.command.ServeJob.{ServeJob}
 use Rattle.ratelimit_cli.specs.declared.exit.Exit.{Exit}
 use Rattle.ratelimit_cli.specs.declared.exit.Exit.TheVariants.{Done, Usage, ConfigRefused, TooLong, ReadFault, WriteFault, FileFault}
 use Rattle.ratelimit_cli.specs.declared.exit.Exit.TheVariants.{OutOfMemory, ListenFault, SettingsRefused}
@@ -79,7 +79,7 @@ served_from config setup bounds old new services is_all h = record {
 
 -- serving ended as the output of the links' ends did, where all links were served
 pub ended_so : (config : List DomainTree) (job : ServeJob) (bounds : Option (ℕ × ℕ)) (faults : ℕ × ℕ) (s : Sinks) (more : List ListenEvent) (writes : List Event)
-    (services : List Service) (exit : Exit) → length services ≡ job.connections → ServedByLimiter config job.setup bounds [] more services true
+    (services : List Service) (exit : Exit) → length services ≡ job.connections → ServedByLimiter config (limiter_of job) bounds [] more services true
     → IsOfOutput (λ pieces. pieces ≡ end_lines 0 (ends_of services)) s exit writes → EndsServing config job bounds faults s more writes exit
 ended_so config job bounds faults s more writes services Done many served h = (services, many, served, h)
 ended_so config job bounds faults s more writes services WriteFault many served h = (services, many, served, h.0, h.1)

@@ -10,8 +10,8 @@ use Rattle.run_audit.specs.Verdict.{IsVerdict, number_of}
 use Rattle.ratelimit_cli.specs.Output.{with_line_feed}
 use Rattle.ratelimit_cli.specs.Configured.{HasRead}
 use Rattle.ratelimit_cli.specs.World.{World}
-use Rattle.ratelimit_cli.specs.declared.command.Command.TheVariants.{Audit}
-use Rattle.ratelimit_cli.specs.declared.command.AuditJob.{AuditJob}
+use Rattle.command_words.specs.declared.command.Command.TheVariants.{Audit}
+use Rattle.command_words.specs.declared.command.AuditJob.{AuditJob}
 
 -- the text of a verdict: all clauses hold of so many records, this line is no record or total, or the clause of this number is broken
 unfoldable pub verdict_text : Verdict → List ℕ

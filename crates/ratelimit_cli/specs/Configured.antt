@@ -14,12 +14,12 @@ use Rattle.drive_run.specs.Script.{script_of}
 use Rattle.script_run.specs.Totals.{AreTotalsOf}
 use Rattle.script_run.specs.Run.{IsRun}
 use Rattle.ratelimit_cli.specs.Output.{lines_of}
-use Rattle.ratelimit_cli.specs.Words.{command_of}
+use Rattle.command_words.specs.Words.{command_of}
 use Rattle.ratelimit_cli.specs.Jobs.{files_of, ReadsConfigs, configs_among}
 use Rattle.ratelimit_cli.specs.Lookup.{lookup_output}
-use Rattle.ratelimit_cli.specs.declared.command.Command.{Command}
-use Rattle.ratelimit_cli.specs.declared.command.Command.TheVariants.{Plain, Threads}
-use Rattle.ratelimit_cli.specs.declared.command.ThreadJob.TheVariants.{Drive}
+use Rattle.command_words.specs.declared.command.Command.{Command}
+use Rattle.command_words.specs.declared.command.Command.TheVariants.{Plain, Threads}
+use Rattle.command_words.specs.declared.command.ThreadJob.TheVariants.{Drive}
 use Rattle.ratelimit_cli.specs.World.{World, AreFilesOf}
 
 -- a command read all its files, and this is the configuration that they spell, or their first refusal

@@ -7,13 +7,13 @@ use Rattle.rate_io.specs.Content.{Told, Appends}
 use Rattle.rate_io.specs.Events.{given, has_failed, has_write_failed}
 use Rattle.config_json.specs.Reading.{reading_of}
 use Rattle.ratelimit_cli.specs.Output.{AppendsFront}
-use Rattle.ratelimit_cli.specs.Words.{command_of}
+use Rattle.command_words.specs.Words.{command_of}
 use Rattle.ratelimit_cli.specs.Jobs.{files_of, configs_among}
-use Rattle.ratelimit_cli.specs.declared.command.Command.{Command}
-use Rattle.ratelimit_cli.specs.declared.command.Command.TheVariants.{Quota, Pool, Audit, Threads, Help, Version}
-use Rattle.ratelimit_cli.specs.declared.command.ThreadJob.TheVariants.{Serve, Gen}
-use Rattle.ratelimit_cli.specs.declared.command.ServeJob.{ServeJob}
-use Rattle.ratelimit_cli.specs.declared.help.TheConstants.{HELP, VERSION}
+use Rattle.command_words.specs.declared.command.Command.{Command}
+use Rattle.command_words.specs.declared.command.Command.TheVariants.{Quota, Pool, Audit, Threads, Help, Version}
+use Rattle.command_words.specs.declared.command.ThreadJob.TheVariants.{Serve, Gen}
+use Rattle.command_words.specs.declared.command.ServeJob.{ServeJob}
+use Rattle.command_words.specs.declared.help.TheConstants.{HELP, VERSION}
 use Rattle.ratelimit_cli.specs.declared.exit.Exit.{Exit}
 use Rattle.ratelimit_cli.specs.declared.exit.Exit.TheVariants.{Done, Usage, ConfigRefused, TooLong, ReadFault, WriteFault, FileFault}
 use Rattle.ratelimit_cli.specs.declared.exit.Exit.TheVariants.{OutOfMemory, ListenFault, SettingsRefused}

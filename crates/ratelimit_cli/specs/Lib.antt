@@ -1,5 +1,4 @@
 pub mod Output
-pub mod Words
 pub mod Jobs
 pub mod Lookup
 pub mod Quota

@@ -8,11 +8,11 @@ use Rattle.quota_pools.specs.Pools.{AllPools}
 use Rattle.quota_pools.specs.ReadPools as reading
 use Rattle.quota_server.specs.Outcomes.{pool_output, server_after}
 use Rattle.quota_server.specs.Servers.{AllFit}
-use Rattle.ratelimit_cli.specs.Words.{command_of}
+use Rattle.command_words.specs.Words.{command_of}
 use Rattle.ratelimit_cli.specs.Jobs.{files_of}
 use Rattle.ratelimit_cli.specs.World.{World, AreFilesOf, NothingRead}
-use Rattle.ratelimit_cli.specs.declared.command.Command.TheVariants.{Pool}
-use Rattle.ratelimit_cli.specs.declared.command.PoolJob.{PoolJob}
+use Rattle.command_words.specs.declared.command.Command.TheVariants.{Pool}
+use Rattle.command_words.specs.declared.command.PoolJob.{PoolJob}
 
 -- what the bytes of a file of pools spell: pools, or their first refusal
 abbrev pub pools_of : List ℕ → Result (Option AllPools) Refused

@@ -5,11 +5,11 @@ use Rattle.rate_types.specs.declared.refused.Refused.{Refused}
 use Rattle.quota_settings.specs.Covering.{AllSettings}
 use Rattle.quota_stream.specs.Tasks.{IsShort}
 use Rattle.quota_stream.specs.Runs.{HasTooLong}
-use Rattle.ratelimit_cli.specs.Words.{command_of}
+use Rattle.command_words.specs.Words.{command_of}
 use Rattle.ratelimit_cli.specs.Jobs.{files_of}
 use Rattle.ratelimit_cli.specs.Quota.{settings_of, streams_output}
-use Rattle.ratelimit_cli.specs.declared.command.Command.TheVariants.{Quota}
-use Rattle.ratelimit_cli.specs.declared.command.QuotaJob.{QuotaJob}
+use Rattle.command_words.specs.declared.command.Command.TheVariants.{Quota}
+use Rattle.command_words.specs.declared.command.QuotaJob.{QuotaJob}
 use Rattle.ratelimit_cli.specs.World.{World, AreFilesOf, NothingRead}
 
 -- `quota` read its settings file and its streams, and this is what the settings file spells: settings, or their first refusal

@@ -11,13 +11,14 @@ use Rattle.http_endpoint.specs.declared.link_end.LinkEnd.{LinkEnd}
 use Rattle.http_serve.specs.Service.{Service}
 use Rattle.http_serve.specs.Links.{ends_of}
 use Rattle.http_limiter.specs.Limited.{ServedByLimiter}
+use Rattle.http_limiter.specs.declared.limited.Setup.{Setup}
 use Rattle.ratelimit_cli.specs.Output.{AppendsFront, with_line_feed}
-use Rattle.ratelimit_cli.specs.Words.{command_of}
+use Rattle.command_words.specs.Words.{command_of}
 use Rattle.ratelimit_cli.specs.World.{World, NothingRead, NothingWritten, all_written, WroteUpTo}
 use Rattle.ratelimit_cli.specs.Configured.{FilesSay}
-use Rattle.ratelimit_cli.specs.declared.command.Command.TheVariants.{Threads}
-use Rattle.ratelimit_cli.specs.declared.command.ThreadJob.TheVariants.{Serve}
-use Rattle.ratelimit_cli.specs.declared.command.ServeJob.{ServeJob}
+use Rattle.command_words.specs.declared.command.Command.TheVariants.{Threads}
+use Rattle.command_words.specs.declared.command.ThreadJob.TheVariants.{Serve}
+use Rattle.command_words.specs.declared.command.ServeJob.{ServeJob}
 use Rattle.ratelimit_cli.specs.declared.exit.Exit.{Exit}
 use Rattle.ratelimit_cli.specs.declared.exit.Exit.TheVariants.{Done, WriteFault, OutOfMemory, ListenFault}
 
@@ -53,6 +54,10 @@ end_lines number (e ∷ ends) = with_line_feed (link_end_line number e) ∷ end_
 abbrev pub serve_lines : ℕ → List LinkEnd → List (List ℕ)
 serve_lines port ends = port_line port ∷ end_lines 0 ends
 
+-- the limiter that `serve` serves by
+abbrev pub limiter_of : ServeJob → Setup
+limiter_of job = record { workers = job.workers; cells = job.cells; global_shadow = job.global_shadow }
+
 -- `serve` read its files, which spell this configuration, and no input
 pub record HasBegun (w : World) (job : ServeJob) (config : List DomainTree) : Type 0 where
   pub say : FilesSay w (Threads (Serve job)) (Ok config)
@@ -64,7 +69,7 @@ pub record HasListened (l : Listening) (job : ServeJob) (config : List DomainTre
     : Type 0 where
   pub more : List ListenEvent
   pub events : l.listens ≡ bound job.port port ∷ more
-  pub served : ServedByLimiter config job.setup l.bounds [] more services is_all
+  pub served : ServedByLimiter config (limiter_of job) l.bounds [] more services is_all
 
 -- the line of the port, written and flushed at once
 abbrev pub port_line_written : ℕ → List Event

@@ -8,11 +8,11 @@ use Rattle.http_serve.specs.Service.{Service}
 use Rattle.http_serve.specs.Links.{ends_of}
 use Rattle.http_limiter.specs.Limited.{ServedByLimiter}
 use Rattle.ratelimit_cli.specs.World.{World}
-use Rattle.ratelimit_cli.specs.Served.{port_line, end_lines}
+use Rattle.ratelimit_cli.specs.Served.{port_line, end_lines, limiter_of}
 use Rattle.ratelimit_cli.specs.declared.serve.PortLine.{PortLine}
 use Rattle.ratelimit_cli.specs.declared.serve.PortLine.TheVariants.{Written, Unwritten, NoMemory}
 use Rattle.ratelimit_cli.specs.Parts.{Sinks, Wrote, WroteFront}
-use Rattle.ratelimit_cli.specs.declared.command.ServeJob.{ServeJob}
+use Rattle.command_words.specs.declared.command.ServeJob.{ServeJob}
 use Rattle.ratelimit_cli.specs.declared.exit.Exit.{Exit}
 use Rattle.ratelimit_cli.specs.declared.exit.Exit.TheVariants.{Done, WriteFault, OutOfMemory, ListenFault}
 
@@ -53,13 +53,13 @@ IsOfPort port s NoMemory writes = (writes ≡ []) × (s.after ≡ s.written)
 -- how serving at a port ended, after these calls of the listener and these writes
 abbrev pub EndsServing : List DomainTree → ServeJob → Option (ℕ × ℕ) → ℕ × ℕ → Sinks → List ListenEvent → List Event → Exit → Type 0
 EndsServing config job bounds faults s more writes Done =
-    (services : List Service) × (length services ≡ job.connections) × ServedByLimiter config job.setup bounds [] more services true
+    (services : List Service) × (length services ≡ job.connections) × ServedByLimiter config (limiter_of job) bounds [] more services true
     × Wrote (λ pieces. pieces ≡ end_lines 0 (ends_of services)) s writes
 EndsServing config job bounds faults s more writes WriteFault =
-    (services : List Service) × (length services ≡ job.connections) × ServedByLimiter config job.setup bounds [] more services true
+    (services : List Service) × (length services ≡ job.connections) × ServedByLimiter config (limiter_of job) bounds [] more services true
     × WroteFront (λ pieces. pieces ≡ end_lines 0 (ends_of services)) s writes × Rose s.faults.0 s.faults.1
 EndsServing config job bounds faults s more writes ListenFault =
-    (services : List Service) × (length services < job.connections) × ServedByLimiter config job.setup bounds [] more services false
+    (services : List Service) × (length services < job.connections) × ServedByLimiter config (limiter_of job) bounds [] more services false
     × Rose faults.0 faults.1 × (writes ≡ []) × (s.after ≡ s.written)
 EndsServing config job bounds faults s more writes OutOfMemory = (writes ≡ []) × (s.after ≡ s.written)
 EndsServing config job bounds faults s more writes other = ⊥

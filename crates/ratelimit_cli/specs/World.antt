@@ -5,9 +5,9 @@ use Rattle.rate_types.specs.declared.limits.TheConstants.{MOST_BYTES, MOST_LINES
 use Rattle.rate_io.specs.Content.{Told}
 use Rattle.rate_io.specs.Events.{Event, wrote, write_failed, flushed, flush_failed, FileEvent, given, has_ended, has_failed}
 use Rattle.text_lines.specs.Lines.{cut}
-use Rattle.ratelimit_cli.specs.Words.{command_of}
+use Rattle.command_words.specs.Words.{command_of}
 use Rattle.ratelimit_cli.specs.Jobs.{AskedFile, files_of}
-use Rattle.ratelimit_cli.specs.declared.command.Command.{Command}
+use Rattle.command_words.specs.declared.command.Command.{Command}
 use Rattle.ratelimit_cli.specs.declared.exit.Exit.{Exit}
 use Rattle.ratelimit_cli.specs.declared.exit.Exit.TheVariants.{Done}
 

@@ -12,15 +12,15 @@ ghost use Rattle.ratelimit_cli.specs.Exits.{Explains};
 ghost use Rattle.ratelimit_cli.specs.Output.{with_line_feed};
 ghost use Rattle.ratelimit_cli.specs.Parts.{IsOfFiles, IsOfOutput, IsOfVerdict};
 ghost use Rattle.ratelimit_cli.specs.Audited as spec;
-ghost use Rattle.ratelimit_cli.specs.Words.{command_of};
-ghost use Rattle.ratelimit_cli.specs.declared.command.Command.TheVariants.{Audit};
+ghost use Rattle.command_words.specs.Words.{command_of};
+ghost use Rattle.command_words.specs.declared.command.Command.TheVariants.{Audit};
 
 use crate::Exit;
-use crate::command::AuditJob;
 use crate::configs::{configuration, read_files};
 use crate::input::read_input;
 use crate::limits::MOST_RUN_BYTES;
 use crate::output::write_line;
+use command_words::AuditJob;
 use descriptor_tree::Config;
 use drive_run::{Script, ScriptFault};
 use rate_io::{FileFault, Files, Sink, Source};

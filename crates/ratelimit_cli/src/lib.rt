@@ -1,6 +1,6 @@
 //! The program's one public call: words in, an exit out, over files, a source and a sink that are handed in.
 //!
-//! `specs/Words.antt` says which words are a command. `specs/Exits.antt` says when each exit comes, in the histories of what
+//! `command_words` says which words are a command. `specs/Exits.antt` says when each exit comes, in the histories of what
 //! was handed in: with `Done` the writes are the output of the command: the texts of a lawful run of the script that the
 //! reads of the source handed out, by the configuration of the files that were read, and of its totals; or what each
 //! descriptor of the requests finds (`specs/Lookup.antt`); or the output of each recorded stream, in order (`specs/Quota.antt`);
@@ -9,36 +9,24 @@
 //! that nothing was after it. `specs/Reports.antt` says which status and which line an exit has.
 #![tactic(auto)]
 
-mod audit_words;
 mod auditing;
-mod command;
 mod configs;
 mod exit;
 mod found_json;
-mod gen_words;
 mod generated;
-mod help;
 mod input;
 mod limits;
 mod lookup;
 mod making;
-mod number;
 mod output;
 mod output_lines;
-mod parsers;
 mod pool;
-mod pool_words;
 mod quota;
 mod report;
 mod serve;
-mod serve_words;
-mod texts;
 mod top;
-mod words;
 mod work;
 
-pub use command::{AuditJob, Command, QuotaJob, ServeJob, ThreadJob};
 pub use exit::Exit;
 pub use limits::MOST_RUN_BYTES;
 pub use top::ratelimit;
-pub use words::{WordsFault, read_words};

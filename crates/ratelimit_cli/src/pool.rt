@@ -5,14 +5,14 @@ ghost use Rattle.ratelimit_cli.specs.World.{exit_of};
 ghost use Rattle.ratelimit_cli.specs.Exits.{Explains};
 ghost use Rattle.ratelimit_cli.specs.Parts.{Answers, IsOfOutput, IsOfSettings, IsOfSharing};
 ghost use Rattle.ratelimit_cli.specs.Pooled.{pools_of};
-ghost use Rattle.ratelimit_cli.specs.Words.{command_of};
-ghost use Rattle.ratelimit_cli.specs.declared.command.Command.TheVariants.{Pool};
+ghost use Rattle.command_words.specs.Words.{command_of};
+ghost use Rattle.command_words.specs.declared.command.Command.TheVariants.{Pool};
 
 use crate::Exit;
-use crate::command::PoolJob;
 use crate::configs::read_files;
 use crate::input::are_few_lines;
 use crate::output::write_lines;
+use command_words::PoolJob;
 use proto_json::FormFault;
 use quota_pools::{Pools, read_pools};
 use quota_server::pool_lines;

@@ -9,13 +9,13 @@ ghost use Rattle.ratelimit_cli.specs.World.{exit_of};
 ghost use Rattle.ratelimit_cli.specs.Exits.{Explains};
 ghost use Rattle.ratelimit_cli.specs.Parts.{IsOfOutput, IsOfReplay, IsOfSettings, IsOfStreams, Replays};
 ghost use Rattle.ratelimit_cli.specs.Quota.{in_order, settings_of};
-ghost use Rattle.ratelimit_cli.specs.Words.{command_of};
-ghost use Rattle.ratelimit_cli.specs.declared.command.Command.TheVariants.{Quota};
+ghost use Rattle.command_words.specs.Words.{command_of};
+ghost use Rattle.command_words.specs.declared.command.Command.TheVariants.{Quota};
 
 use crate::Exit;
-use crate::command::QuotaJob;
 use crate::configs::read_files;
 use crate::output_lines::{lines_of, write_pieces};
+use command_words::QuotaJob;
 use proto_json::FormFault;
 use quota_settings::Settings;
 use quota_settings_json::read_settings;

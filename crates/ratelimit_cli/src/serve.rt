@@ -4,25 +4,24 @@ ghost use Rattle.rate_types.specs.declared.limits.TheConstants.{MOST_CONNECTIONS
 ghost use Rattle.rate_io.specs.Events.{Continues, Grew, since};
 ghost use Rattle.descriptor_tree.specs.Views.{config_view};
 ghost use Rattle.http_serve.specs.Links.{IsUnused};
-ghost use Rattle.http_limiter.specs.Limited.{IsInRange};
 ghost use Rattle.http_endpoint.specs.ServeLines.{link_end_line};
 ghost use Rattle.ratelimit_cli.specs.Output.{with_line_feed};
 ghost use Rattle.ratelimit_cli.specs.World.{exit_of};
-ghost use Rattle.ratelimit_cli.specs.Words.{command_of};
+ghost use Rattle.command_words.specs.Words.{command_of, AreInRange};
 ghost use Rattle.ratelimit_cli.specs.Exits.{ExplainsCall};
 ghost use Rattle.ratelimit_cli.specs.Served.{port_line, end_lines, HasBegun, ExplainsServe};
 ghost use Rattle.ratelimit_cli.specs.Serving.{Found, world_of, IsOfPort, HasServing};
 ghost use Rattle.ratelimit_cli.specs.Parts.{IsOfOutput};
-ghost use Rattle.ratelimit_cli.specs.declared.command.Command.TheVariants.{Threads};
-ghost use Rattle.ratelimit_cli.specs.declared.command.ThreadJob.TheVariants.{Serve};
+ghost use Rattle.command_words.specs.declared.command.Command.TheVariants.{Threads};
+ghost use Rattle.command_words.specs.declared.command.ThreadJob.TheVariants.{Serve};
 
 use crate::Exit;
-use crate::command::ServeJob;
 use crate::configs::{configuration, read_files};
 use crate::output::write_lines;
+use command_words::ServeJob;
 use descriptor_tree::Config;
 use http_endpoint::{LinkEnd, link_end_line, listening_line};
-use http_limiter::serve_limited;
+use http_limiter::{Setup, serve_limited};
 use http_serve::LinksFault;
 use rate_io::{Clock, Files, Listen, Sink};
 use rate_types::OutOfMemory;
@@ -124,7 +123,7 @@ fn serve_and_end<R: Threads + Wait + Sync, K: Sink, L: Listen, C: Clock>(
 ) -> Result<(), Exit>
 where
     L::Link: Send,
-    requires range { IsInRange job.now.setup job.now.connections }
+    requires range { AreInRange (Threads (Serve job.now)) }
     requires unused { IsUnused (L.history listen.old) }
     ensures { HasServing (config_view config) job.now (C.bounds clock.now) (L.faults listen.old, L.faults listen.new) (record {
       written = K.written sink.old;
@@ -132,12 +131,17 @@ where
       faults = (K.faults sink.old, K.faults sink.new);
     }) (L.history listen.old) (L.history listen.new) (K.history sink.old) (K.history sink.new) (exit_of result) }
 {
+    let setup = Setup {
+        workers: job.workers,
+        cells: job.cells,
+        global_shadow: job.global_shadow,
+    };
     match serve_limited(
         rt,
         alloc,
         seed,
         config,
-        job.setup,
+        setup,
         listen,
         job.connections,
         clock,
@@ -161,7 +165,7 @@ fn listen_and_serve<R: Threads + Wait + Sync, K: Sink, L: Listen, C: Clock>(
 ) -> Result<(), Exit>
 where
     L::Link: Send,
-    requires range { IsInRange job.now.setup job.now.connections }
+    requires range { AreInRange (Threads (Serve job.now)) }
     requires unused { IsUnused (L.history listen.old) }
     ensures exit { (f : Found) →
         HasBegun (world_of f (record {
@@ -205,7 +209,7 @@ pub fn run_serve<R: Threads + Wait + Sync, F: Files, K: Sink, L: Listen, C: Cloc
 ) -> Result<(), Exit>
 where
     L::Link: Send,
-    requires range { IsInRange job.setup job.connections }
+    requires range { AreInRange (Threads (Serve job)) }
     requires unused { IsUnused (L.history listen.old) }
     ensures exit { (words : List (List ℕ)) (faults : ℕ × ℕ) (left : Option (List ℕ)) → command_of words ≡ Some (Threads (Serve job))
         → ExplainsCall (exit_of result) (record {

@@ -7,7 +7,7 @@ use Rattle.ratelimit_cli.specs.World.{World, AreFilesOf, exit_of}
 use Rattle.ratelimit_cli.specs.Configured.{IsInput}
 use Rattle.ratelimit_cli.specs.Audited.{setup_of}
 use Rattle.ratelimit_cli.specs.Parts.{IsOfFiles, IsOfInput, IsOfOutput, IsOfVerdict}
-use Rattle.ratelimit_cli.specs.declared.command.Command.TheVariants.{Audit}
+use Rattle.command_words.specs.declared.command.Command.TheVariants.{Audit}
 use Rattle.ratelimit_cli.proofs.Histories.{none_since, grew_since}
 use Rattle.ratelimit_cli.proofs.Explaining.{explain_files, explain_config, explain_input, explain_output, sinks}
 use Rattle.ratelimit_cli.proofs.Audits.{run_says, verdict_output}

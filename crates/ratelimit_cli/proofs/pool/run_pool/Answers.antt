@@ -5,7 +5,7 @@ use Rattle.ratelimit_cli.specs.Jobs.{AskedFile, asked, files_of}
 use Rattle.ratelimit_cli.specs.World.{World, AreFilesOf, exit_of}
 use Rattle.ratelimit_cli.specs.Parts.{IsOfOutput, Answers}
 use Rattle.ratelimit_cli.specs.Pooled.{IsPooled}
-use Rattle.ratelimit_cli.specs.declared.command.Command.TheVariants.{Pool}
+use Rattle.command_words.specs.declared.command.Command.TheVariants.{Pool}
 use Rattle.ratelimit_cli.proofs.Histories.{none_since, grew_since}
 use Rattle.ratelimit_cli.proofs.Explaining.{explain_output, sinks}
 use Rattle.ratelimit_cli.proofs.Pooling.{explain_sharing, sharing_output}

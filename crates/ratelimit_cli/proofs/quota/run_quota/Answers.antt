@@ -6,7 +6,7 @@ use Rattle.ratelimit_cli.specs.World.{World, AreFilesOf, exit_of}
 use Rattle.ratelimit_cli.specs.Parts.{IsOfOutput, Replays}
 use Rattle.ratelimit_cli.specs.Replayed.{IsReplayed}
 use Rattle.ratelimit_cli.specs.Quota.{in_order}
-use Rattle.ratelimit_cli.specs.declared.command.Command.TheVariants.{Quota}
+use Rattle.command_words.specs.declared.command.Command.TheVariants.{Quota}
 use Rattle.ratelimit_cli.proofs.Histories.{none_since, grew_since}
 use Rattle.ratelimit_cli.proofs.Explaining.{explain_replay, explain_output, replay_output, sinks}
 use Rattle.ratelimit_cli.proofs.quota.run_quota.Goals as goal

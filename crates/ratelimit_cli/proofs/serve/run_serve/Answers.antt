@@ -8,8 +8,8 @@ use Rattle.ratelimit_cli.specs.World.{World, AreFilesOf}
 use Rattle.ratelimit_cli.specs.Configured.{FilesSay}
 use Rattle.ratelimit_cli.specs.Parts.{IsOfFiles}
 use Rattle.ratelimit_cli.specs.Serving.{Found}
-use Rattle.ratelimit_cli.specs.declared.command.Command.TheVariants.{Threads}
-use Rattle.ratelimit_cli.specs.declared.command.ThreadJob.TheVariants.{Serve}
+use Rattle.command_words.specs.declared.command.Command.TheVariants.{Threads}
+use Rattle.command_words.specs.declared.command.ThreadJob.TheVariants.{Serve}
 use Rattle.ratelimit_cli.proofs.Histories.{none_since, grew_since}
 use Rattle.ratelimit_cli.proofs.Explaining.{explain_files, explain_config}
 use Rattle.ratelimit_cli.proofs.serve.run_serve.Goals as goal

@@ -3,7 +3,7 @@ use Rattle.descriptor_tree.specs.Views.{config_view}
 use Rattle.http_endpoint.specs.declared.link_end.LinkEnd.{LinkEnd}
 use Rattle.ratelimit_cli.specs.World.{exit_of}
 use Rattle.ratelimit_cli.specs.Parts.{Sinks, IsOfOutput}
-use Rattle.ratelimit_cli.specs.Served.{end_lines}
+use Rattle.ratelimit_cli.specs.Served.{limiter_of, end_lines}
 use Rattle.ratelimit_cli.proofs.Serving.{served_from, ended_so}
 use Rattle.ratelimit_cli.proofs.serve.serve_and_end.Goals as goal
 
@@ -12,7 +12,7 @@ returns-in-Ok g c =
     let K = g.K.Sink in
     let L = g.L.Listen in
     let served = c.in-Ok.ensures in
-    let from = served_from (config_view c.args.config) c.args.job.now.setup (g.C.Clock.bounds c.args.clock.now) (L.history c.args.listen.now)
+    let from = served_from (config_view c.args.config) (limiter_of c.args.job.now) (g.C.Clock.bounds c.args.clock.now) (L.history c.args.listen.now)
     (L.history c.serve_limited.new.listen) served.0 true served.2 in
     let output = c.write_ends.ensures in
     let s : Sinks = record {

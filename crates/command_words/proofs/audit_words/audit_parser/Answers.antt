@@ -1,0 +1,15 @@
+use Rattle.std.proofs.Common.{ap₂, refl, ◌∙◌}
+use Rattle.clap.specs.Words.{with_rule}
+use Rattle.command_words.specs.Words.{audit_app}
+use Rattle.command_words.proofs.audit_words.audit_parser.Goals as goal
+
+pub returns : goal.returns
+unfolding audit_app
+returns c =
+    c.in_ok-command.ensures ∙ ap₂ with_rule (
+    c.in_ok-five.ensures ∙ ap₂ with_rule (
+    c.in_ok-four.ensures ∙ ap₂ with_rule (
+    c.in_ok-three.ensures ∙ ap₂ with_rule (
+    c.in_ok-two.ensures ∙ ap₂ with_rule (
+    c.in_ok-one.ensures ∙ ap₂ with_rule (
+    c.new.ensures.app) refl) refl) refl) refl) refl) refl

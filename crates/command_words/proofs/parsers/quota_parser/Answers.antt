@@ -1,0 +1,12 @@
+use Rattle.std.proofs.Common.{ap₂, refl, ◌∙◌}
+use Rattle.clap.specs.Words.{with_rule}
+use Rattle.command_words.specs.Words.{quota_app}
+use Rattle.command_words.proofs.parsers.quota_parser.Goals as goal
+
+pub returns : goal.returns
+unfolding quota_app
+returns c =
+    c.in_ok-command.ensures ∙ ap₂ with_rule (
+    c.in_ok-two.ensures ∙ ap₂ with_rule (
+    c.in_ok-one.ensures ∙ ap₂ with_rule (
+    c.new.ensures.app) refl) refl) refl

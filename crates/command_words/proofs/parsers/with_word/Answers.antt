@@ -1,0 +1,6 @@
+use Rattle.std.proofs.Common.{ap₂, refl, ◌∙◌}
+use Rattle.clap.specs.Words.{with_rule}
+use Rattle.command_words.proofs.parsers.with_word.Goals as goal
+
+pub returns : goal.returns
+returns c = c.in_ok-more.ensures.shape c.word_arg.ensures.local ∙ ap₂ with_rule refl c.word_arg.ensures.rule
