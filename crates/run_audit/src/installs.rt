@@ -15,7 +15,13 @@ use std::collections::BTreeMap;
 pub fn installs(records: &[Record]) -> usize
     ensures { result ≡ installs records.now }
 {
-    records.iter().filter(|r| is_installed(&r.outcome)).count()
+    let mut count = 0usize;
+    'records: for rec in records {
+        if is_installed(&rec.outcome) {
+            count += 1;
+        }
+    }
+    count
 }
 
 fn has_installed(rec: &Record) -> bool
