@@ -1,5 +1,6 @@
 pub mod Answer
 pub mod Shown
 pub mod Texts
+pub mod Short
 pub mod FieldNames
 pub mod ReadRequest

@@ -24,7 +24,7 @@ mod total_json;
 
 pub use array::array_value;
 pub use record::{Outcome, Record, Records};
-pub use record_json::{put_record, record_text};
+pub use record_json::{LONGEST_SHORT_RECORD, is_short, put_record, record_text};
 pub use refused::refused_value;
 pub use reply::{put_reply, reply_body};
 pub use request::read_request;

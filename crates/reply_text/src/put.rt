@@ -1,5 +1,5 @@
 // Numbers and texts behind what a text holds. After want of memory a first part may stand there.
-ghost use Rattle.std.specs.Prelude.{◌≡◌, ◌++◌, decimal, true, OnOk, string_bytes};
+ghost use Rattle.std.specs.Prelude.{◌≡◌, ◌++◌, ◌+◌, ◌≤◌, ◌<◌, length, OnErr, string_len, string_capacity, decimal, true, OnOk, string_bytes};
 ghost use Rattle.json.specs.Print.{quoted};
 ghost use Rattle.serde_json.specs.Written.{comma_if, members_text};
 ghost use Rattle.reply_text.specs.Texts as texts;
@@ -11,7 +11,10 @@ use std::alloc::Global;
 
 /// A literal, and then a number.
 pub fn put_number(out: &mut String, before: &str, number: u64) -> Result<(), OutOfMemory>
-    ensures { OnOk result (string_bytes out.new ≡ string_bytes out.old ++ (before.now ++ decimal number)) }
+    ensures text { OnOk result (string_bytes out.new ≡ string_bytes out.old ++ (before.now ++ decimal number)) }
+    ensures full { OnErr result (string_capacity out.old < string_len out.old + (length before.now + 20)) }
+    ensures grown { OnOk result (string_len out.new ≤ string_len out.old + (length before.now + 20)) }
+    ensures capacity { string_capacity out.old ≤ string_capacity out.new }
 {
     out.push_str(before)?;
     let mut buffer = Buffer::new();
@@ -31,7 +34,10 @@ pub fn put_quoted(alloc: Global, out: &mut String, text: &str) -> Result<(), Out
 
 /// A comma, where something stands before.
 pub fn put_comma(out: &mut String, later: bool) -> Result<(), OutOfMemory>
-    ensures { OnOk result (string_bytes out.new ≡ string_bytes out.old ++ comma_if later) }
+    ensures text { OnOk result (string_bytes out.new ≡ string_bytes out.old ++ comma_if later) }
+    ensures full { OnErr result (string_capacity out.old < string_len out.old + 1) }
+    ensures grown { OnOk result (string_len out.new ≤ string_len out.old + 1) }
+    ensures capacity { string_capacity out.old ≤ string_capacity out.new }
 {
     if later {
         out.push_str(",")?;
@@ -42,7 +48,10 @@ pub fn put_comma(out: &mut String, later: bool) -> Result<(), OutOfMemory>
 /// The last two members of a record, and its end.
 #[tactic(auto, unfolding(serde_json::proofs::OnLiterals::serde_json_on_literals))]
 pub fn put_worker(out: &mut String, version: u32, worker: u32) -> Result<(), OutOfMemory>
-    ensures { OnOk result (string_bytes out.new ≡ string_bytes out.old ++ members_text true (texts.by_worker version worker)) }
+    ensures text { OnOk result (string_bytes out.new ≡ string_bytes out.old ++ members_text true (texts.by_worker version worker)) }
+    ensures full { OnErr result (string_capacity out.old < string_len out.old + 62) }
+    ensures grown { OnOk result (string_len out.new ≤ string_len out.old + 62) }
+    ensures capacity { string_capacity out.old ≤ string_capacity out.new }
 {
     put_number(out, ",\"version\":", u64::from(version))?;
     put_number(out, ",\"worker\":", u64::from(worker))?;

@@ -1,8 +1,10 @@
 // The texts of records.
-ghost use Rattle.std.specs.Prelude.{◌≡◌, ◌++◌, IfOk, OnOk, string_bytes};
+ghost use Rattle.std.specs.Prelude.{◌≡◌, ◌++◌, ◌+◌, ◌≤◌, ◌<◌, ◌↔◌, IfOk, OnOk, OnErr, string_bytes, string_len, string_capacity};
+ghost use Rattle.std.specs.Bool.{IsTrue};
 ghost use Rattle.serde_json.specs.Data.{Data};
 ghost use Rattle.serde_json.specs.Written.{compact_text};
 ghost use Rattle.reply_text.specs.Texts as texts;
+ghost use Rattle.reply_text.specs.Short.{IsShort};
 
 use crate::put::{put_number, put_worker};
 use crate::refused::{full_text, refused_text, spent_text, versions_full_text};
@@ -10,6 +12,9 @@ use crate::reply::{put_counts, put_reply};
 use crate::{Outcome, Record, Statuses};
 use rate_types::OutOfMemory;
 use std::alloc::Global;
+
+/// The text of a short record has at most so many bytes.
+pub const LONGEST_SHORT_RECORD: usize = 6_871;
 
 // What each record has besides its outcome.
 #[derive(Clone, Copy)]
@@ -22,9 +27,12 @@ struct Head {
 
 #[tactic(auto, unfolding(serde_json::proofs::OnLiterals::serde_json_on_literals, crate::specs::Texts::checked_line_data))]
 fn put_checked(out: &mut String, head: Head, answer: &Statuses) -> Result<(), OutOfMemory>
-    ensures { OnOk result (string_bytes out.new ≡ string_bytes out.old
+    ensures text { OnOk result (string_bytes out.new ≡ string_bytes out.old
         ++ compact_text (texts.checked_line_data head.line head.moment head.version head.worker (texts.counts_data answer.now.statuses)
         (texts.reply_data answer.now))) }
+    ensures full { OnErr result (string_capacity out.old < string_len out.old + LONGEST_SHORT_RECORD) }
+    ensures grown { OnOk result (string_len out.new ≤ string_len out.old + LONGEST_SHORT_RECORD) }
+    ensures capacity { string_capacity out.old ≤ string_capacity out.new }
 {
     out.push_str("{\"counts\":")?;
     put_counts(out, answer.items())?;
@@ -37,8 +45,11 @@ fn put_checked(out: &mut String, head: Head, answer: &Statuses) -> Result<(), Ou
 
 #[tactic(auto, unfolding(serde_json::proofs::OnLiterals::serde_json_on_literals, crate::specs::Texts::ticked_line_data))]
 fn put_ticked(out: &mut String, head: Head, ticked: u64) -> Result<(), OutOfMemory>
-    ensures { OnOk result (string_bytes out.new ≡ string_bytes out.old
+    ensures text { OnOk result (string_bytes out.new ≡ string_bytes out.old
         ++ compact_text (texts.ticked_line_data head.line head.moment head.version head.worker ticked)) }
+    ensures full { OnErr result (string_capacity out.old < string_len out.old + 150) }
+    ensures grown { OnOk result (string_len out.new ≤ string_len out.old + 150) }
+    ensures capacity { string_capacity out.old ≤ string_capacity out.new }
 {
     put_number(out, "{\"line\":", u64::from(head.line))?;
     put_number(out, ",\"moment\":", head.moment)?;
@@ -48,8 +59,11 @@ fn put_ticked(out: &mut String, head: Head, ticked: u64) -> Result<(), OutOfMemo
 
 #[tactic(auto, unfolding(serde_json::proofs::OnLiterals::serde_json_on_literals, crate::specs::Texts::installed_line_data))]
 fn put_installed(out: &mut String, head: Head) -> Result<(), OutOfMemory>
-    ensures { OnOk result (string_bytes out.new ≡ string_bytes out.old
+    ensures text { OnOk result (string_bytes out.new ≡ string_bytes out.old
         ++ compact_text (texts.installed_line_data head.line head.moment head.version head.worker)) }
+    ensures full { OnErr result (string_capacity out.old < string_len out.old + 153) }
+    ensures grown { OnOk result (string_len out.new ≤ string_len out.old + 153) }
+    ensures capacity { string_capacity out.old ≤ string_capacity out.new }
 {
     put_number(out, "{\"installed\":", u64::from(head.version))?;
     put_number(out, ",\"line\":", u64::from(head.line))?;
@@ -61,8 +75,9 @@ fn put_installed(out: &mut String, head: Head) -> Result<(), OutOfMemory>
 // The record of a refused line, from the text of its reason.
 #[tactic(auto, unfolding(serde_json::proofs::OnLiterals::serde_json_on_literals, crate::specs::Texts::refused_line_data))]
 fn put_refused(out: &mut String, head: Head, why: &str) -> Result<(), OutOfMemory>
-    ensures { OnOk result ((d : Data) → why.now ≡ compact_text d → string_bytes out.new ≡ string_bytes out.old
+    ensures text { OnOk result ((d : Data) → why.now ≡ compact_text d → string_bytes out.new ≡ string_bytes out.old
         ++ compact_text (texts.refused_line_data head.line head.moment head.version head.worker d)) }
+    ensures capacity { string_capacity out.old ≤ string_capacity out.new }
 {
     put_number(out, "{\"line\":", u64::from(head.line))?;
     put_number(out, ",\"moment\":", head.moment)?;
@@ -72,10 +87,26 @@ fn put_refused(out: &mut String, head: Head, why: &str) -> Result<(), OutOfMemor
     Ok(())
 }
 
+/// Whether a record is that of an answered check, a tick or an installed configuration, whose text is short.
+pub fn is_short(rec: &Record) -> bool
+    ensures { IsTrue result ↔ IsShort rec.now.outcome }
+{
+    match &rec.outcome {
+        Outcome::Checked(_) => true,
+        Outcome::Ticked(_) => true,
+        Outcome::Installed => true,
+        _ => false,
+    }
+}
+
 /// Writes the text of a record behind what a text holds, without a line feed. After want of memory a first part of it may stand there.
+/// A short record needs no more memory where the text has room for it.
 #[tactic(auto, unfolding(crate::specs::Texts::record_data))]
 pub fn put_record(alloc: Global, out: &mut String, rec: &Record) -> Result<(), OutOfMemory>
-    ensures { OnOk result (string_bytes out.new ≡ string_bytes out.old ++ texts.record_text_of rec.now) }
+    ensures text { OnOk result (string_bytes out.new ≡ string_bytes out.old ++ texts.record_text_of rec.now) }
+    ensures full { IsShort rec.now.outcome → OnErr result (string_capacity out.old < string_len out.old + LONGEST_SHORT_RECORD) }
+    ensures grown { IsShort rec.now.outcome → OnOk result (string_len out.new ≤ string_len out.old + LONGEST_SHORT_RECORD) }
+    ensures capacity { string_capacity out.old ≤ string_capacity out.new }
 {
     let head = Head {
         line: rec.line,

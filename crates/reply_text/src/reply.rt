@@ -1,5 +1,5 @@
 // The texts of replies (Envoy's `RateLimitResponse` in the proto3 JSON mapping), and of their counts.
-ghost use Rattle.std.specs.Prelude.{◌≡◌, ◌++◌, true, map, IfOk, OnOk, string_bytes};
+ghost use Rattle.std.specs.Prelude.{◌≡◌, ◌++◌, ◌+◌, ◌*◌, ◌≤◌, ◌<◌, length, OnErr, string_len, string_capacity, true, map, IfOk, OnOk, string_bytes};
 ghost use Rattle.serde_json.specs.Data.{Items, item, array};
 ghost use Rattle.serde_json.specs.View.{items_of};
 ghost use Rattle.serde_json.specs.Written.{compact_text, items_text};
@@ -14,8 +14,11 @@ use std::alloc::Global;
 
 // One more count of a list, of which more may come.
 fn put_next_count(out: &mut String, later: bool, count: Count) -> Result<(), OutOfMemory>
-    ensures { OnOk result ((ds : Items) → string_bytes out.new ++ items_text true ds
+    ensures text { OnOk result ((ds : Items) → string_bytes out.new ++ items_text true ds
         ≡ string_bytes out.old ++ items_text later (item (texts.count_data count) ds)) }
+    ensures full { OnErr result (string_capacity out.old < string_len out.old + 32) }
+    ensures grown { OnOk result (string_len out.new ≤ string_len out.old + 32) }
+    ensures capacity { string_capacity out.old ≤ string_capacity out.new }
 {
     put_comma(out, later)?;
     put_count(out, count)?;
@@ -25,7 +28,10 @@ fn put_next_count(out: &mut String, later: bool, count: Count) -> Result<(), Out
 /// The text of what each status found, in order.
 #[tactic(auto, unfolding(crate::specs::Texts::counts_data))]
 pub fn put_counts(out: &mut String, statuses: &[Status]) -> Result<(), OutOfMemory>
-    ensures { OnOk result (string_bytes out.new ≡ string_bytes out.old ++ compact_text (texts.counts_data statuses.now)) }
+    ensures text { OnOk result (string_bytes out.new ≡ string_bytes out.old ++ compact_text (texts.counts_data statuses.now)) }
+    ensures full { OnErr result (string_capacity out.old < string_len out.old + (2 + 32 * length statuses.now)) }
+    ensures grown { OnOk result (string_len out.new ≤ string_len out.old + (2 + 32 * length statuses.now)) }
+    ensures capacity { string_capacity out.old ≤ string_capacity out.new }
 {
     out.push_str("[")?;
     'statuses: for index in 0..statuses.len() {
@@ -37,8 +43,11 @@ pub fn put_counts(out: &mut String, statuses: &[Status]) -> Result<(), OutOfMemo
 
 // One more status of a list, of which more may come.
 fn put_next_status(out: &mut String, later: bool, status: &Status) -> Result<(), OutOfMemory>
-    ensures { OnOk result ((ds : Items) → string_bytes out.new ++ items_text true ds
+    ensures text { OnOk result ((ds : Items) → string_bytes out.new ++ items_text true ds
         ≡ string_bytes out.old ++ items_text later (item (texts.status_data status.now) ds)) }
+    ensures full { OnErr result (string_capacity out.old < string_len out.old + 177) }
+    ensures grown { OnOk result (string_len out.new ≤ string_len out.old + 177) }
+    ensures capacity { string_capacity out.old ≤ string_capacity out.new }
 {
     put_comma(out, later)?;
     put_status(out, status)?;
@@ -46,8 +55,11 @@ fn put_next_status(out: &mut String, later: bool, status: &Status) -> Result<(),
 }
 
 fn put_statuses(out: &mut String, statuses: &[Status]) -> Result<(), OutOfMemory>
-    ensures { OnOk result (string_bytes out.new
+    ensures text { OnOk result (string_bytes out.new
         ≡ string_bytes out.old ++ compact_text (array (items_of (map texts.status_data statuses.now)))) }
+    ensures full { OnErr result (string_capacity out.old < string_len out.old + (2 + 177 * length statuses.now)) }
+    ensures grown { OnOk result (string_len out.new ≤ string_len out.old + (2 + 177 * length statuses.now)) }
+    ensures capacity { string_capacity out.old ≤ string_capacity out.new }
 {
     out.push_str("[")?;
     'statuses: for index in 0..statuses.len() {
@@ -67,7 +79,10 @@ fn overall_code(over: bool) -> Code
 /// Writes the text of a reply behind what a text holds. After want of memory a first part of it may stand there.
 #[tactic(auto, unfolding(serde_json::proofs::OnLiterals::serde_json_on_literals, crate::specs::Texts::reply_data))]
 pub fn put_reply(out: &mut String, answer: &Statuses) -> Result<(), OutOfMemory>
-    ensures { OnOk result (string_bytes out.new ≡ string_bytes out.old ++ texts.reply_text_of answer.now) }
+    ensures text { OnOk result (string_bytes out.new ≡ string_bytes out.old ++ texts.reply_text_of answer.now) }
+    ensures full { OnErr result (string_capacity out.old < string_len out.old + (42 + 177 * length answer.now.statuses)) }
+    ensures grown { OnOk result (string_len out.new ≤ string_len out.old + (42 + 177 * length answer.now.statuses)) }
+    ensures capacity { string_capacity out.old ≤ string_capacity out.new }
 {
     out.push_str("{\"overallCode\":")?;
     put_code(out, overall_code(answer.over()))?;

@@ -1,7 +1,9 @@
-ghost use Rattle.std.specs.Prelude.{◌≡◌, IfOk};
+ghost use Rattle.std.specs.Prelude.{◌≡◌, ◌≤◌, IfOk, length};
+ghost use Rattle.rate_types.specs.declared.limits.TheConstants.{MOST_DESCRIPTORS};
 
 use rate_types::OutOfMemory;
 use rls_core::{Reply, Status};
+use smallvec::SmallVec;
 use std::alloc::Global;
 use std::marker::Model;
 
@@ -9,15 +11,20 @@ use std::marker::Model;
 #[derive(Drop)]
 pub struct Statuses {
     over: bool,
-    items: Vec<Status>,
+    // One status is the usual case, and stands inline.
+    items: SmallVec<Status, 1>,
 }
 
 impl Model for Statuses {
+    ghost use Rattle.std.specs.Prelude.{◌≤◌, length};
+    ghost use Rattle.rate_types.specs.declared.limits.TheConstants.{MOST_DESCRIPTORS};
     ghost use Rattle.reply_text.specs.Answer.{Answer};
 
     ghost Value = { Answer };
 
     ghost view = { λ s. record { over = s.over; statuses = s.items.items } };
+
+    ghost invariant = { λ s. length s.items.items ≤ MOST_DESCRIPTORS };
 }
 
 impl Statuses {
@@ -27,7 +34,7 @@ impl Statuses {
     {
         Ok(Statuses {
             over: reply.over,
-            items: reply.statuses.as_slice().to_vec(alloc)?,
+            items: SmallVec::from_slice(alloc, reply.statuses.as_slice())?,
         })
     }
 
@@ -40,8 +47,9 @@ impl Statuses {
 
     /// The statuses in order.
     pub fn items(&self) -> &[Status]
-        ensures { result.now ≡ self.now.statuses }
+        ensures all { result.now ≡ self.now.statuses }
+        ensures few { length self.now.statuses ≤ MOST_DESCRIPTORS }
     {
-        &self.items
+        self.items.as_slice()
     }
 }

@@ -4,15 +4,15 @@ use Rattle.reply_text.specs.Texts.{refused_line_data}
 use Rattle.reply_text.proofs.Growing.{grown_by_5}
 use Rattle.reply_text.proofs.record_json.put_refused.Goals as goal
 
-pub returns : goal.returns
+pub returns-clause-text : goal.returns-clause-text
 unfolding serde_json_on_literals refused_line_data
-returns c = λ d why.
+returns-clause-text c = λ d why.
     rw (
-      c.in_ok-put_worker.ensures,
+      c.in_ok-put_worker.ensures.text,
       c.in_ok-push_str-2.ensures.bytes,
       c.in_ok-push_str.ensures.bytes,
-      c.in_ok-put_number-2.ensures,
-      c.in_ok-put_number.ensures,
+      c.in_ok-put_number-2.ensures.text,
+      c.in_ok-put_number.ensures.text,
       why,
       c.from.ensures,
     )

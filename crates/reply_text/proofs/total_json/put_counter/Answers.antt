@@ -8,9 +8,9 @@ pub returns : goal.returns
 unfolding serde_json_on_literals counter_data
 returns c = rw (
   c.in_ok-push_str-4.ensures.bytes,
-  c.in_ok-put_unit.ensures,
+  c.in_ok-put_unit.ensures.text,
   c.in_ok-push_str-3.ensures.bytes,
-  c.in_ok-put_number.ensures,
+  c.in_ok-put_number.ensures.text,
   c.in_ok-put_entries.ensures,
   c.in_ok-push_str-2.ensures.bytes,
   c.in_ok-put_quoted.ensures,
