@@ -13,4 +13,5 @@ pub mod Sequential
 pub mod Totals
 pub mod Run
 pub mod Merged
+pub mod Lone
 pub mod Places

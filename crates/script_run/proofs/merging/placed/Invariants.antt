@@ -2,7 +2,7 @@ use Rattle.std.proofs.Common.{◌≡◌, ◌≤◌, None, replicate, vec_len}
 use Rattle.std.specs.List.{AllByRecursion}
 use Rattle.script_run.specs.Merged.{joined}
 use Rattle.script_run.specs.Places.{all_placed}
-use Rattle.script_run.proofs.merging.merge.Given as goal
+use Rattle.script_run.proofs.merging.placed.Given as goal
 
 abbrev pub invariant-loop-journal : goal.invariant-loop-journal
 invariant-loop-journal l = record {

@@ -7,7 +7,7 @@ use Rattle.reply_text.specs.declared.record.Record.{Record}
 use Rattle.script_run.specs.Merged.{joined, EachLineOnce, Merges}
 use Rattle.script_run.specs.Places.{all_placed}
 use Rattle.script_run.proofs.Placing.{put_each, all_filled, merges, placed_append, placed_length, all_left, all_right}
-use Rattle.script_run.proofs.merging.merge.Goals as goal
+use Rattle.script_run.proofs.merging.placed.Goals as goal
 
 pub loop-journal-preserved : goal.loop-journal-preserved
 loop-journal-preserved c =
