@@ -23,7 +23,7 @@ ghost use Rattle.counter_cells.specs.Opened.{table_of, setup_of};
 ghost use Rattle.told_list.specs.Tokens.{list_of};
 
 use counter_cells::{CellNaming, CellPass, Cells, OpenedCells};
-use counter_directory::{Directory, DirectoryPass, give_back};
+use counter_directory::{Acquired, Directory, DirectoryPass, give_back};
 use rate_types::{CounterName, Entries, Entry, Seconds, Text, Unit};
 use std::alloc::Global;
 use std::collections::HashMap;
@@ -93,13 +93,15 @@ fn take_each<N: CellNaming, R: Wait>(
     ensures pass { list_of worker.new.pass ≡ directory.now.list_id }
     ensures cell_pass { worker.new.cell_pass.good ≡ [] }
 {
+    let mut acquired = Acquired::new();
     for place in 0..names.len() {
-        let Ok(acquired) = directory.acquire(
+        let Ok(()) = directory.acquire(
             rt,
             &mut worker.pass,
             cells,
             &mut worker.cell_pass,
             &names[place..place + 1],
+            &mut acquired,
         ) else {
             return false;
         };

@@ -1,6 +1,6 @@
 -- What pins a cell pass holds after a call.
 use Rattle.std.proofs.Common.{◌≡◌, ℕ, zero, suc, ◌+◌, ◌<◌, ◌==◌, List, [], ◌∷◌, ◌++◌, length, get_or, refl, ap, ◌∙◌, arith}
-use Rattle.std.specs.Prelude.{All, Result, Ok, Err, IfOk, OnErr}
+use Rattle.std.specs.Prelude.{All, Result, Ok, Err, IfOk, OnOk, OnErr}
 use mathlib.Core.Option.{some}
 use lib.ListN.{get_elem?}
 use Rattle.rate_types.specs.declared.counter_key.CounterKey.{CounterKey}
@@ -17,6 +17,7 @@ use Rattle.counter_directory.specs.Claims.{IsLawfulClaims}
 use Rattle.counter_directory.specs.Keys.{keys_at}
 use Rattle.counter_directory.specs.Spots.{pinned_on, spots_on}
 use Rattle.counter_directory.specs.Acquired.{Bounds, ClaimTableView, HasTicked, Acquires}
+use Rattle.counter_directory.specs.Answered.{answered}
 use Rattle.counter_directory.proofs.Lists.{at_read}
 use Rattle.counter_directory.proofs.Pinning.{cell_bound}
 use Rattle.counter_directory.proofs.KeyLists.{len_keys}
@@ -62,3 +63,8 @@ cells_held b most names cell_pass cell_pass' found left (Ok a) did law = λ i d 
     let s = get_or a.spots.items i d in
     cell_bound b.cells most k.0 s.cell s.claim left.claims law (h.bound i k.0 s k.1 (at_read a.spots.items i d lt))
 cells_held b most names cell_pass cell_pass' found left (Err f) did law = tt
+
+-- what holds of an answer holds of what was written, where there is no fault
+pub ok_written : (r : Result (Unit {0}) AcquireFault) (a : Acquired) (P : Acquired → Type 0) → IfOk (answered r a) P → OnOk r (P a)
+ok_written (Ok _) a P h = h
+ok_written (Err f) a P h = tt

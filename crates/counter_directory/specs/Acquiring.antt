@@ -16,7 +16,6 @@ use Rattle.counter_cells.specs.declared.answers.Spot.{Spot}
 use Rattle.counter_directory.specs.declared.claim.Claim.{Claim}
 use Rattle.counter_directory.specs.Claims.{claims_of}
 use Rattle.counter_directory.specs.Keys.{key_count}
-use Rattle.counter_directory.specs.declared.acquired.Acquired.{Acquired}
 use Rattle.counter_directory.specs.declared.acquired.AcquireFault.{AcquireFault}
 use Rattle.counter_directory.specs.declared.acquired.AcquireFault.TheVariants.{OutOfMemory, ClaimsSpent, CountersFull}
 use Rattle.counter_directory.specs.Acquired.{OffersNothing, ClaimTableView, AreSpent, AreFull, HasBound, Bounds}
@@ -51,11 +50,6 @@ OnlyTicked v w = (t : TicksSoFar v w) × (1 ≤ length t.added)
 -- the pass was told which cells were found pinned for it, and nothing else changed
 abbrev pub HasBeenTold : CellView → CellView → Type 0
 HasBeenTold v w = (told : List (ℕ × ℕ)) × (w ≡ record v { held = v.held ++ told })
-
--- the answer of a call that wrote the moment and the spots of its pins
-abbrev pub answered : Result (Unit {0}) AcquireFault → Acquired → Result Acquired AcquireFault
-answered (Ok _) a = Ok a
-answered (Err fault) a = Err fault
 
 -- the counters were bound at the moment, or why not; meanwhile the cell pass was told which cells were found pinned for it
 abbrev pub Binds : Bounds → ℕ → List CounterKey → ClaimTableView → Result (Unit {0}) AcquireFault → ClaimTableView → CellView → CellView

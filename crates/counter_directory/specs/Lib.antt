@@ -10,4 +10,5 @@ pub mod Open
 pub mod Acquiring
 pub mod Spots
 pub mod Acquired
+pub mod Answered
 pub mod Turns

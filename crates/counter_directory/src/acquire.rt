@@ -26,7 +26,7 @@ impl<'a, N: CellNaming, R: Wait> Act<KeptTable<N>> for Acquire<'a, N, R> {
     ghost use Rattle.std.specs.Prelude.{◌≡◌, ◌≤◌, [], length};
     ghost use Rattle.counter_directory.specs.Claims.{IsLawfulClaims, last_of};
     ghost use Rattle.counter_directory.specs.Acquired.{Acquires};
-    ghost use Rattle.counter_directory.specs.Acquiring.{answered};
+    ghost use Rattle.counter_directory.specs.Answered.{answered};
 
     type Out = Result<(), AcquireFault>;
 

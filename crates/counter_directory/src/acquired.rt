@@ -1,15 +1,29 @@
+ghost use Rattle.std.specs.Prelude.{◌≡◌, []};
+
 use arrayvec::ArrayVec;
 use counter_cells::Spot;
 use rate_types::Seconds;
 use thiserror::Error;
 
-/// What a call has pinned.
+/// What a call has pinned. A caller lends one to each call, so that none is moved.
 #[derive(Drop)]
 pub struct Acquired {
     /// The moment of the cell pass, in whose windows the counters are.
     pub moment: Seconds,
     /// For each name the cell and the number of its counter, in order. The cell pass has one pin for each.
     pub spots: ArrayVec<Spot, 32>,
+}
+
+impl Acquired {
+    /// No spots.
+    pub fn new() -> Acquired
+        ensures { (result.moment ≡ 0) × (result.spots.items ≡ []) }
+    {
+        Acquired {
+            moment: Seconds::capped(0),
+            spots: ArrayVec::new(),
+        }
+    }
 }
 
 /// Why a call has pinned nothing. They are tried in the order ClaimsSpent, CountersFull; OutOfMemory may come in place

@@ -7,10 +7,9 @@ use crate::acquired::{AcquireFault, Acquired};
 use crate::claim::Claim;
 use crate::claim_table::{ClaimTable, KeptTable};
 use crate::closed::ClosedDirectory;
-use arrayvec::ArrayVec;
 use counter_cells::{CellClaimer, CellNaming, CellPass, Cells};
 use rate_types::limits::MOST_PINS;
-use rate_types::{CounterName, OutOfMemory, Seconds};
+use rate_types::{CounterName, OutOfMemory};
 use std::alloc::Global;
 use std::boxed::Box;
 use std::hash::RandomState;
@@ -55,7 +54,7 @@ pub fn claims<N: CellNaming>(pass: &DirectoryPass<N>) -> u64
 }
 
 impl<N: CellNaming> Directory<N> {
-    ghost use Rattle.std.specs.Prelude.{◌≡◌, ◌-◌, ◌*◌, ◌≤◌, ◌<◌, ◌^◌, ℕ, [], length, All, IfOk, OnErr, vec_len};
+    ghost use Rattle.std.specs.Prelude.{◌≡◌, ◌-◌, ◌*◌, ◌≤◌, ◌<◌, ◌^◌, ℕ, [], length, All, IfOk, OnOk, OnErr, vec_len};
     ghost use Rattle.counter_cells.specs.Views.{good_on};
     ghost use mathlib.Core.List.{IsPrefix};
     ghost use Rattle.rate_types.specs.Sums.{total, times};
@@ -65,6 +64,7 @@ impl<N: CellNaming> Directory<N> {
     ghost use Rattle.counter_directory.specs.Gates.{AreOpen};
     ghost use Rattle.counter_directory.specs.Spots.{spots_on};
     ghost use Rattle.counter_directory.specs.Turns.{Turned};
+    ghost use Rattle.counter_directory.specs.Answered.{answered};
 
     /// No claims yet on the claimer's cells, at most `claims_max` of them, 1 to 2^40, and as many passes as the cells have.
     /// The claimer has taken no cell yet. The hashes of the index go by `seed`, so that nobody can choose names that collide.
@@ -91,8 +91,9 @@ impl<N: CellNaming> Directory<N> {
     }
 
     /// Pins with `cell_pass`, for each name in order, the cell of its counter in the window of a moment, which becomes
-    /// that of the cell pass and isn't earlier than that of the last claim. A counter without a claim gets one. The cell
-    /// pass holds no pin before, and after a refusal. It may wait for other calls on this directory.
+    /// that of the cell pass and isn't earlier than that of the last claim. A counter without a claim gets one. That moment
+    /// and the spots of the pins are written to `acquired`; what it held before is dropped. The cell pass holds no pin
+    /// before, and after a refusal. It may wait for other calls on this directory.
     pub fn acquire<R: Wait>(
         &self,
         rt: &R,
@@ -100,34 +101,28 @@ impl<N: CellNaming> Directory<N> {
         cells: &Cells<N>,
         cell_pass: &mut CellPass<N>,
         names: &[CounterName],
-    ) -> Result<Acquired, AcquireFault>
+        acquired: &mut Acquired,
+    ) -> Result<(), AcquireFault>
         requires pass { list_of pass.old ≡ self.now.list_id }
         requires cell_pass { cell_pass.old.good ≡ [] }
         requires names { (1 ≤ length names.now) × (length names.now ≤ MOST_PINS) }
         ensures pass { list_of pass.new ≡ self.now.list_id }
-        ensures within { IfOk result (λ a. All (λ s. s.cell < N.setup.cells) a.spots.items) }
-        ensures pins { IfOk result (λ a. (cell : ℕ) → good_on cell cell_pass.new ≡ spots_on cell a.spots.items) }
+        ensures within { OnOk result (All (λ s. s.cell < N.setup.cells) acquired.new.spots.items) }
+        ensures pins { OnOk result ((cell : ℕ) → good_on cell cell_pass.new ≡ spots_on cell acquired.new.spots.items) }
         ensures none { OnErr result (cell_pass.new.good ≡ []) }
         ensures turn { Turned (record { cells = N.setup.cells; claims = self.now.claims_max; held = MOST_PINS * (self.now.passes - 1) })
-            names.now cell_pass.old result cell_pass.new (view pass.old) (view pass.new) }
+            names.now cell_pass.old (answered result acquired.new) cell_pass.new (view pass.old) (view pass.new) }
     {
         let most_held = MOST_PINS as usize * (self.passes as usize - 1);
-        let mut acquired = Acquired {
-            moment: Seconds::capped(0),
-            spots: ArrayVec::new(),
-        };
         let mut act = Acquire {
             rt,
             cells,
             cell_pass,
             names,
             most_held,
-            acquired: &mut acquired,
+            acquired,
         };
-        match self.told.with(rt, pass, &mut act) {
-            Ok(()) => Ok(acquired),
-            Err(fault) => Err(fault),
-        }
+        self.told.with(rt, pass, &mut act)
     }
 
     /// The claims and the claimer, for which all passes are given back. What each pass knew is a prefix of the claims,

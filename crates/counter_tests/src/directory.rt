@@ -108,7 +108,18 @@ fn pin<N: CellNaming, R: Wait>(
     ensures pins { IfOk result (λ a. (cell : ℕ) → good_on cell worker.new.cell_pass ≡ spots_on cell a.spots.items) }
     ensures none { OnErr result (worker.new.cell_pass.good ≡ []) }
 {
-    directory.acquire(rt, &mut worker.pass, cells, &mut worker.cell_pass, names)
+    let mut acquired = Acquired::new();
+    match directory.acquire(
+        rt,
+        &mut worker.pass,
+        cells,
+        &mut worker.cell_pass,
+        names,
+        &mut acquired,
+    ) {
+        Ok(()) => Ok(acquired),
+        Err(fault) => Err(fault),
+    }
 }
 
 // Acquires the names, and gives the pins back.

@@ -55,11 +55,12 @@ impl<N: CellNaming> Limiter<N> {
         if names.is_empty() {
             return Ok(ArrayVec::new());
         }
+        let mut acquired = Acquired::new();
         match self
             .directory
-            .acquire(rt, claims, &self.cells, cell_pass, names)
+            .acquire(rt, claims, &self.cells, cell_pass, names, &mut acquired)
         {
-            Ok(Acquired { moment: _, spots }) => Ok(spots),
+            Ok(()) => Ok(acquired.spots),
             Err(fault) => Err(fault),
         }
     }

@@ -3,7 +3,8 @@ ghost use Rattle.std.specs.Prelude.{◌≡◌, ◌≤◌, [], length};
 ghost use Rattle.rate_types.specs.declared.limits.TheConstants.{MOST_PINS};
 ghost use Rattle.counter_directory.specs.Claims.{last_of};
 ghost use Rattle.counter_directory.specs.Acquired.{Acquires};
-ghost use Rattle.counter_directory.specs.Acquiring.{OnlyTicked, answered};
+ghost use Rattle.counter_directory.specs.Acquiring.{OnlyTicked};
+ghost use Rattle.counter_directory.specs.Answered.{answered};
 
 use crate::acquired::{AcquireFault, Acquired};
 use crate::claim_table::ClaimTable;

@@ -1,4 +1,4 @@
-use Rattle.std.proofs.Common.{◌∙◌, ap, sym, arith, length-drop, length}
+use Rattle.std.proofs.Common.{◌∙◌, ap, arith, length-drop, length}
 use Rattle.told_list.proofs.Sums.{prefix_rest}
 use Rattle.told_list.proofs.turn.add_kept.Goals as goal
 

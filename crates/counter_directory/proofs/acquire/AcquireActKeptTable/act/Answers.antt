@@ -2,7 +2,7 @@ use Rattle.std.proofs.Common.{◌≡◌, ◌≤◌, List, length, refl, ap, subs
 use Rattle.counter_directory.specs.declared.claim.Claim.{Claim}
 use Rattle.counter_directory.specs.Claims.{IsLawfulClaims, last_of}
 use Rattle.counter_directory.specs.Acquired.{Bounds, ClaimTableView, Acquires}
-use Rattle.counter_directory.specs.Acquiring.{answered}
+use Rattle.counter_directory.specs.Answered.{answered}
 use Rattle.counter_directory.proofs.acquire.AcquireActKeptTable.act.Goals as goal
 
 pub returns-clause-did : goal.returns-clause-did
