@@ -42,3 +42,31 @@ run_program() {
     bash "$top/tools/build.sh" "$1" "$work" || exit 1
     "$work/crates/$1/out/$1"
 }
+
+# build_peer: builds bench/peer.rs with cargo, offline where Debian's crates are there (librust-dashmap-dev). It sets `peer`, which is
+# empty where there is no cargo or no dashmap.
+build_peer() {
+    local debian=/usr/share/cargo/registry options=()
+    peer=
+    command -v cargo >/dev/null || return 0
+    mkdir -p "$work/peer/src"
+    cp "$top/bench/peer.rs" "$work/peer/src/main.rs"
+    cat >"$work/peer/Cargo.toml" <<'TOML'
+[package]
+name = "peer"
+version = "0.1.0"
+edition = "2021"
+
+[dependencies]
+dashmap = "5"
+
+[profile.release]
+panic = "abort"
+TOML
+    [ ! -d "$debian" ] || options=(--offline --config 'source.crates-io.replace-with="debian"' --config "source.debian.directory=\"$debian\"")
+    if (cd "$work/peer" && CARGO_TARGET_DIR=$work/peer/target cargo build --release --quiet "${options[@]}") 2>"$work/cargo.txt"; then
+        peer=$work/peer/target/release/peer
+    else
+        cat "$work/cargo.txt" >&2
+    fi
+}

@@ -1,0 +1,392 @@
+#!/usr/bin/env bash
+# Nanoseconds of one check of a counter that its pass knows, by check_open and by check of rate_limiter: from one thread, from four threads
+# that count on one key, and from four threads of which each has a key of its own. Beside them the same work over a dashmap in Rust
+# (bench/peer.rs; no ratio where there is no cargo): the rule by its domain and key, the counter by its bytes, one look, one addition and
+# a status. Each is the least of five tries, in turns.
+# Then, where there is valgrind, what 1,000 of these checks a thread take beyond what one takes: allocations of the whole program, and
+# locked instructions for each check.
+# Run it at the top of the repository: bench/known.sh [CHECKS of each thread, 1000000 unless given]
+set -e
+. "$(dirname "$0")/lib.sh"
+checks=${1:-1000000}
+bench_program known_bench rate_types descriptor_tree counter_cells rls_core rate_limiter
+bench="$work/crates/known_bench"
+cat > "$bench/src/main.rt" <<'RT'
+//! Times checks of known counters.
+#![tactic(auto)]
+ghost use Rattle.std.specs.Prelude.{◌≡◌, ◌≤◌, All, IfOk, IfSome};
+ghost use Rattle.descriptor_tree.specs.Trees.{node_view};
+ghost use Rattle.descriptor_tree.specs.Config.{IsWellFormedBranch};
+ghost use Rattle.counter_cells.specs.Opened.{table_of, setup_of};
+
+use counter_cells::{CellNaming, OpenedCells};
+use descriptor_tree::{Config, Forest, Node, Policy, Texts, Tree};
+use rate_limiter::{Limiter, Limits, Pass};
+use rate_types::{Descriptor, Entries, Entry, Request, Seconds, Text, Unit};
+use std::alloc::Global;
+use std::hash::RandomState;
+use std::marker::Brand;
+use std::random::RandomSource;
+use std::sync::atomic::{AtomicU64, Ordering};
+use std::sync::{Arc, Wait};
+use std::thread::{Threads, map_vec, yield_now};
+use std::time::{Clock, Instant};
+
+fn node(alloc: Global) -> Option<Node>
+    ensures { IfSome result (λ n. IsWellFormedBranch (node_view n)) }
+{
+    Some(Node {
+        key: Text::new(alloc, "k").ok()?,
+        value: None,
+        policy: Some(Policy::Limited {
+            limit: 4_000_000_000,
+            unit: Unit::Hour,
+        }),
+        name: None,
+        replaces: Texts::new(alloc),
+        shadow: false,
+        below: Forest::of(Vec::new(alloc)),
+    })
+}
+
+fn config(alloc: Global) -> Option<Arc<Config>> {
+    let mut nodes = Vec::new(alloc);
+    nodes.push(node(alloc)?).ok()?;
+    let mut trees = Vec::new(alloc);
+    trees.push(Tree {
+        domain: Text::new(alloc, "d").ok()?,
+        forest: Forest::of(nodes),
+    }).ok()?;
+    Arc::new(alloc, Config::build(alloc, trees).ok()?).ok()
+}
+
+fn request(alloc: Global, value: &str) -> Option<Request> {
+    let mut entries = Vec::new(alloc);
+    entries.push(Entry {
+        key: Text::new(alloc, "k").ok()?,
+        value: Text::new(alloc, value).ok()?,
+    }).ok()?;
+    let mut descriptors = Vec::new(alloc);
+    descriptors.push(Descriptor {
+        entries: Entries::build(entries).ok()?,
+        own: None,
+        hits: None,
+    }).ok()?;
+    Request::build(Text::new(alloc, "d").ok()?, descriptors, 1).ok()
+}
+
+// What the threads of a run share: their limiter and how many they are, whether each has a key of its own, whether they check by
+// check_open, and how often each.
+#[derive(Drop)]
+struct Run<'a, N: CellNaming> {
+    limiter: &'a Limiter<N>,
+    threads: u64,
+    is_apart: bool,
+    is_open: bool,
+    each: u32,
+    numbers: AtomicU64,
+    come: AtomicU64,
+}
+
+// How many of so many checks were refused.
+fn open_rounds<N: CellNaming>(limiter: &Limiter<N>, pass: &mut Pass<N>, request: &Request, rounds: u32) -> u64
+    requires pass { pass.old.limiter ≡ limiter.now.id }
+{
+    let mut refused = 0u64;
+    for _round in 0..rounds {
+        if limiter.check_open(pass, request, Seconds::capped(5)).is_err() {
+            refused = refused.wrapping_add(1);
+        }
+    }
+    refused
+}
+
+fn rounds<N: CellNaming, R: Wait>(rt: &R, alloc: Global, limiter: &Limiter<N>, pass: &mut Pass<N>, request: &Request, rounds: u32) -> u64
+    requires pass { pass.old.limiter ≡ limiter.now.id }
+{
+    let mut refused = 0u64;
+    for _round in 0..rounds {
+        if limiter.check(rt, alloc, pass, request, Seconds::capped(5)).is_err() {
+            refused = refused.wrapping_add(1);
+        }
+    }
+    refused
+}
+
+// Waits until so many threads have come.
+fn meet(come: &AtomicU64, threads: u64) {
+    come.fetch_add(1, Ordering::SeqCst);
+    for _ in 0..10_000_000_000u64 {
+        if come.load(Ordering::SeqCst) >= threads {
+            return;
+        }
+        yield_now();
+    }
+}
+
+// The nanoseconds of the checks of a thread, after one that makes its counter known.
+fn work<N: CellNaming, R: Wait + Clock>(rt: &R, alloc: Global, run: &Run<'_, N>, mut pass: Pass<N>) -> Option<u64>
+    requires pass { pass.limiter ≡ run.now.limiter.now.id }
+{
+    let mut number = 0;
+    if run.is_apart {
+        number = run.numbers.fetch_add(1, Ordering::SeqCst);
+    }
+    let value = format!(in alloc; "v{number}").ok()?;
+    let request = request(alloc, &value)?;
+    let limiter = run.limiter;
+    if limiter.check(rt, alloc, &mut pass, &request, Seconds::capped(5)).is_err() {
+        return None;
+    }
+    meet(&run.come, run.threads);
+    let start = Instant::now(rt).ok()?;
+    let refused = if run.is_open {
+        open_rounds(limiter, &mut pass, &request, run.each)
+    } else {
+        rounds(rt, alloc, limiter, &mut pass, &request, run.each)
+    };
+    let spent = start.elapsed(rt).ok()?;
+    if refused > 0 {
+        return None;
+    }
+    u64::try_from(spent.as_nanos()).ok()
+}
+
+fn sum(spent: &[Option<u64>]) -> Option<u64> {
+    let mut sum = 0u64;
+    for one in spent {
+        sum = sum.wrapping_add((*one)?);
+    }
+    Some(sum)
+}
+
+// The nanoseconds of each thread.
+fn work_each<N: CellNaming + Send + Sync, R: Threads + Wait + Clock + Sync>(
+    rt: &R,
+    alloc: Global,
+    run: &Run<'_, N>,
+    passes: Vec<Pass<N>>,
+) -> Option<Vec<Option<u64>>>
+    requires passes { All (λ p. p.limiter ≡ run.now.limiter.now.id) passes.items }
+{
+    map_vec(
+        rt,
+        passes,
+        &|pass: Pass<N>| -> Option<u64>
+            requires { pass.limiter ≡ run.now.limiter.now.id }
+        { work(rt, alloc, run, pass) },
+    )
+    .ok()
+}
+
+// The nanoseconds of all threads together.
+fn timed<N: CellNaming + Send + Sync, R: Threads + Wait + Clock + RandomSource + Sync>(
+    rt: &R,
+    alloc: Global,
+    opened: OpenedCells,
+    threads: u32,
+    is_apart: bool,
+    is_open: bool,
+    each: u32,
+) -> Option<u64>
+    requires name { (table_of opened ≡ N.table) × (setup_of opened ≡ N.setup) }
+    requires passes { (1 ≤ N.setup.passes) × (N.setup.passes ≤ 4) }
+{
+    let seed = RandomState::new(rt).ok()?;
+    let limits = Limits {
+        claims_max: 100,
+        global_shadow: false,
+    };
+    let (limiter, passes) = Limiter::<N>::make(alloc, config(alloc)?, opened, limits, seed).ok()?;
+    let run = Run {
+        limiter: &limiter,
+        threads: u64::from(threads),
+        is_apart,
+        is_open,
+        each,
+        numbers: AtomicU64::new(0),
+        come: AtomicU64::new(0),
+    };
+    let spent = work_each(rt, alloc, &run, passes)?;
+    sum(spent.as_slice())
+}
+
+fn one<R: Threads + Wait + Clock + RandomSource + Sync>(
+    rt: &R,
+    alloc: Global,
+    threads: u32,
+    is_apart: bool,
+    is_open: bool,
+    each: u32,
+) -> u64
+    requires { (1 ≤ threads) × (threads ≤ 4) }
+{
+    let Ok(opened) = OpenedCells::make(alloc, 64, threads, Seconds::capped(0)) else {
+        return 0;
+    };
+    timed::<Brand, R>(rt, alloc, opened, threads, is_apart, is_open, each).unwrap_or(0)
+}
+
+// How many checks a thread makes: the number among the program's words.
+fn checks(rt: &HostRuntime) -> std::io::Result<Option<u32>> {
+    for word in std::env::args(rt)?.skip(1) {
+        if let Ok(checks) = word.parse::<u32>() {
+            return Ok(Some(checks));
+        }
+    }
+    Ok(None)
+}
+
+fn main(rt: HostRuntime) -> std::io::Result<()> {
+    let Some(each) = checks(&rt)? else {
+        return Ok(());
+    };
+    let a = one(&rt, rt.alloc(), 1, false, true, each);
+    let b = one(&rt, rt.alloc(), 1, false, false, each);
+    let c = one(&rt, rt.alloc(), 4, false, true, each);
+    let d = one(&rt, rt.alloc(), 4, false, false, each);
+    let e = one(&rt, rt.alloc(), 4, true, true, each);
+    let f = one(&rt, rt.alloc(), 4, true, false, each);
+    println!(rt; "{a} {b} 1\n{c} {d} 4\n{e} {f} 4")?;
+    Ok(())
+}
+RT
+mkdir -p "$bench/proofs/one" "$bench/proofs/rounds" "$bench/proofs/open_rounds" "$bench/proofs/work_each"
+cat > "$bench/proofs/one/Invariants.antt" <<'PF'
+use Rattle.counter_cells.specs.Opened.{table_of, setup_of}
+use Rattle.known_bench.proofs.one.Given as goal
+
+abbrev pub ghosts-timed : goal.ghosts-timed
+ghosts-timed g a = record { table = table_of a.opened; setup = setup_of a.opened }
+PF
+for each in rounds open_rounds; do
+    cat > "$bench/proofs/$each/Invariants.antt" <<PF
+use Rattle.std.proofs.Common.{◌≡◌}
+use Rattle.known_bench.proofs.$each.Given as goal
+
+abbrev pub invariant-loop-round : goal.invariant-loop-round
+invariant-loop-round g l = l.pass.limiter ≡ l.limiter.id
+PF
+done
+cat > "$bench/proofs/Crossing.antt" <<'PF'
+-- Threads may share what a run shares.
+use denote.RattleType.{RattleType}
+use denote.Param.Send.{IsSync, sendable}
+use denote.Param.SendFields.{declared_sync}
+use denote.Ref.{NamedLft}
+use denote.Struct.Tuple.{TupleAt}
+use mir.Syntax.{Sym}
+use mathlib.Core.List.{[], ◌∷◌}
+use Rattle.std.proofs.Crossing.{crosses}
+use Rattle.counter_cells.specs.declared.naming.CellNaming.{Ghosts}
+use Rattle.rate_limiter.proofs.Sent.{limiter_sync}
+use Rattle.known_bench.specs.contracts.Run as shared
+
+pub run_sync : (l : NamedLft) (N : RattleType) (naming : Ghosts N.Denot) → IsSync (shared.the_row l N naming)
+run_sync l N naming = declared_sync (shared.the_type l N naming) (search (sendable, crosses, limiter_sync) depth 30)
+
+-- what a closure captures
+pub captured_sync : (name : Sym) (A B C : RattleType) → IsSync A → IsSync B → IsSync C → IsSync (TupleAt name (A ∷ B ∷ C ∷ []))
+captured_sync name A B C a b c = search sendable depth 20
+PF
+printf 'mod Crossing\n' > "$bench/proofs/Lib.antt"
+cat > "$bench/proofs/work_each/Answers.antt" <<'PF'
+use mir.Syntax.{named}
+use denote.Param.{param}
+use denote.Param.Send.{IsSync, sendable, shr_sync}
+use denote.Struct.Field.{shr_ref_field}
+use Rattle.std.specs.Prelude.{codes}
+use Rattle.std.specs.contracts.alloc.Global as heap
+use Rattle.rate_limiter.proofs.Sent.{pass_send}
+use Rattle.known_bench.specs.contracts.Run as shared
+use Rattle.known_bench.proofs.Crossing.{run_sync, captured_sync}
+use Rattle.known_bench.proofs.work_each.Goals as goal
+
+pub map_vec-requires-send-J : goal.map_vec-requires-send-J
+map_vec-requires-send-J g c κs within = search (sendable, pass_send) depth 30
+
+-- the closure captures three references: the runtime, the allocator, and what the run shares
+pub map_vec-requires-sync-F : goal.map_vec-requires-sync-F
+map_vec-requires-sync-F g c κs within =
+    let runtime : IsSync (param 1 g.row.R) = c.type_bounds.sync-R in
+    let allocator : IsSync heap.the_row = search sendable depth 20 in
+    record {
+      shared = (captured_sync (codes "known_bench::fn::work_each::map_vec+Self")
+          ((shr_ref_field (record { mir = named 7; lft = κs.1.1.1.1.1.1.1.0 }) (param 1 g.row.R) tt).row)
+          ((shr_ref_field (record { mir = named 8; lft = κs.1.1.1.1.1.1.1.1.0 }) heap.the_row tt).row)
+          ((shr_ref_field (record { mir = named 9; lft = κs.1.1.1.1.1.1.1.1.1.0 })
+          (shared.the_row (record { mir = named 10; lft = κs.1.1.1.1.1.1.1.1.1.1.0 }) (param 0 g.row.N) g.N.CellNaming) tt).row)
+          (shr_sync _ _ _ runtime) (shr_sync _ _ _ allocator) (shr_sync _ _ _ (run_sync _ _ _))).shared;
+    }
+PF
+
+build_peer
+: > "$work/peer.txt"
+run_program known_bench > /dev/null
+for attempt in 1 2 3 4 5; do
+    "$bench/out/known_bench" "$checks" >> "$work/run.txt"
+    [ -z "$peer" ] || "$peer" known "$checks" >> "$work/peer.txt"
+done
+grep -E '^[0-9]+ [0-9]+ [0-9]+$' "$work/run.txt" | paste -d ' ' - "$work/peer.txt" | awk -v n="$checks" '
+{
+    row = (NR - 1) % 3
+    threads[row] = $3
+    if (NR <= 3 || $1 < open[row]) open[row] = $1
+    if (NR <= 3 || $2 < all[row]) all[row] = $2
+    if (NR <= 3 || $4 < peer[row]) peer[row] = $4
+}
+END {
+    print "threads keys       check_open ns ratio   check ns ratio   dashmap ns"
+    for (row = 0; row < 3; row++) {
+        per = n * threads[row]
+        printf "%7d %-10s %13.1f %5.2f %10.1f %5.2f %12.1f\n", threads[row], row == 2 ? "each its" : "one",
+            open[row] / per, peer[row] ? open[row] / peer[row] : 0, all[row] / per, peer[row] ? all[row] / peer[row] : 0, peer[row] / per
+    }
+}'
+if command -v valgrind > /dev/null; then
+    cat > "$work/locked.py" <<'PY'
+# How often the locked instructions of a program were executed, by what callgrind counted for each address: those with the prefix `lock`,
+# and exchanges with memory, which are locked without it.
+import re
+import subprocess
+import sys
+
+program, counted = sys.argv[1:]
+code, locked = set(), set()
+for line in subprocess.run(["objdump", "-d", "--no-show-raw-insn", program], capture_output=True, text=True, check=True).stdout.splitlines():
+    at = re.match(r" *([0-9a-f]+):\t(.*)", line)
+    if at:
+        code.add(int(at[1], 16))
+        if re.search(r"\block\b|\bxchg\b.*\(", at[2]):
+            locked.add(int(at[1], 16))
+executed, is_own_object, is_own, is_call, last = {}, {}, False, False, 0
+for line in open(counted, encoding="utf-8"):
+    named = re.match(r"c?ob=\((\d+)\)(.*)", line)
+    at = re.match(r"(0x[0-9a-f]+|\+\d+|-\d+|\*) \S+ (\d+)$", line)
+    if named:
+        if named[2]:
+            is_own_object[named[1]] = named[2].strip().endswith(program.rsplit("/", 1)[-1])
+        if line.startswith("ob="):
+            is_own = is_own_object[named[1]]
+    elif line.startswith("calls="):
+        is_call = True
+    elif at:
+        word = at[1]
+        last = int(word, 16) if word.startswith("0x") else last if word == "*" else last + int(word)
+        if is_own and not is_call:
+            executed[last] = executed.get(last, 0) + int(at[2])
+        is_call = False
+# (valgrind puts a program that may lie anywhere at one of the latter two)
+base = max((0, 0x108000, 0x400000), key=lambda it: sum(at - it in code for at in executed))
+print(sum(times for at, times in executed.items() if at - base in locked))
+PY
+    locked=()
+    for each in 1 1000; do
+        printf '%5d checks a thread and kind: %s\n' "$each" \
+            "$(valgrind "$bench/out/known_bench" "$each" 2>&1 > /dev/null | sed -n 's/.*total heap usage: *//p')"
+        valgrind --tool=callgrind --dump-instr=yes --callgrind-out-file="$work/counted" "$bench/out/known_bench" "$each" > /dev/null 2>&1
+        locked+=("$(python3 "$work/locked.py" "$bench/out/known_bench" "$work/counted")")
+    done
+    # Six runs, two of one thread and four of four: 18 threads.
+    awk -v one="${locked[0]}" -v all="${locked[1]}" 'BEGIN { printf "locked instructions a check: %.2f\n", (all - one) / (999 * 18) }'
+fi
