@@ -2,7 +2,7 @@
 # Nanoseconds of one tick that changes nothing, and one pin, look, charge and unpin of counter_cells, from 1, 2 and 4
 # threads on 1 and on 64 cells, and from 2 threads of which each has a cell of its own beside the other's. Beside them the
 # load and the three atomic additions that these make, in a bare loop of C with as many threads on words that lie alike.
-# Each is the least of three tries.
+# Each is the least of three tries in each of three runs, which the two have in turn.
 # Run it at the top of the repository: bench/cells.sh [ROUNDS of each thread, 2000000 unless given]
 set -e
 . "$(dirname "$0")/lib.sh"
@@ -230,8 +230,11 @@ int main(int argc, char **argv) {
 }
 C
 clang -O2 -pthread -o "$work/bare" "$work/bare.c"
-"$work/bare" "$rounds" > "$work/bare.txt"
-run_program cells_bench > "$work/run.txt"
+run_program cells_bench > /dev/null
+for attempt in 1 2 3; do
+    "$work/bare" "$rounds" >> "$work/bare.txt"
+    "$work/crates/cells_bench/out/cells_bench" >> "$work/run.txt"
+done
 grep -E '^[0-9]+ [0-9]+ [0-9]+$' "$work/run.txt" > "$work/cells.txt"
 echo "threads cells  ns/round  bare ns/round  ratio    (2 threads on 2 cells: each has its own)"
 paste -d ' ' "$work/cells.txt" "$work/bare.txt" | awk -v n="$rounds" '

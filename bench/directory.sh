@@ -1,9 +1,10 @@
 #!/usr/bin/env bash
 # Nanoseconds a name that counter_directory takes to bind new names, one a call, to 1,024 up to 1,048,576 cells: at first
 # to cells that were never taken, then to find them again while their windows are open, and, when these have ended, to bind
-# them to the same cells again, each the least of three tries. The column 'in turns' is of 1,048,576 names in as many windows
-# as that takes, so that as many claims are made whatever the number of cells. Behind each column stands its ratio to a peer
-# that runs beside it: the same steps in plain Rust, without refusals (rustc -O; no ratio where there is no rustc).
+# them to the same cells again. The column 'in turns' is of 1,048,576 names in as many windows as that takes, so that as many
+# claims are made whatever the number of cells. Behind each column stands its ratio to a peer: the same steps in plain Rust,
+# without refusals (rustc -O; no ratio where there is no rustc). The program and the peer run three times in turn, and the
+# least of each counts.
 # Then 16,384 names that collide where the seed of a hash is fixed, and as many others: in the directory, whose seed is drawn
 # at the start, and, as a peer, in a HashMap of std with its fixed seed.
 # Then the resident memory of a process that makes so many claims on 1,024 cells, in KiB, and that of the peer, which keeps a
@@ -550,18 +551,35 @@ RS
 : > "$work/peer.txt"
 if command -v rustc > /dev/null; then
     rustc --edition 2021 -O -o "$work/peer" "$work/peer.rs"
-    "$work/peer" > "$work/peer.txt"
 fi
-run_program directory_bench > "$work/run.txt"
-grep -E '^[0-9]+ [0-9]+ [0-9]+ [0-9]+ [0-9]+$' "$work/run.txt" | paste -d ' ' - "$work/peer.txt" | awk '
-BEGIN { print "    cells   new ns ratio  known ns ratio  again ns ratio  in turns ns ratio" }
-{
-    cells = $1 * 1024
-    printf "%9d", cells
-    for (i = 2; i <= 5; i++) printf " %8.1f %5.2f ", $i / (i == 5 ? 1048576 : cells), $(i + 5) ? $i / $(i + 5) : 0
-    printf "\n"
-}'
-awk '/^chosen/ {
+run_program directory_bench > /dev/null
+for attempt in 1 2 3; do
+    [ ! -x "$work/peer" ] || "$work/peer" >> "$work/peer.txt"
+    "$bench/out/directory_bench" >> "$work/run.txt"
+done
+awk '
+FNR == 1 { file++ }
+/^[0-9]+ [0-9]+ [0-9]+ [0-9]+ [0-9]+$/ {
+    if (!seen[$1]++) order[++rows] = $1
+    for (i = 2; i <= 5; i++) {
+        place = file " " $1 " " i
+        if (!(place in least) || $i < least[place]) least[place] = $i
+    }
+}
+END {
+    print "    cells   new ns ratio  known ns ratio  again ns ratio  in turns ns ratio"
+    for (row = 1; row <= rows; row++) {
+        cells = order[row] * 1024
+        printf "%9d", cells
+        for (i = 2; i <= 5; i++) {
+            ours = least["1 " order[row] " " i]
+            peer = least["2 " order[row] " " i]
+            printf " %8.1f %5.2f ", ours / (i == 5 ? 1048576 : cells), peer ? ours / peer : 0
+        }
+        printf "\n"
+    }
+}' "$work/run.txt" "$work/peer.txt"
+awk '/^chosen/ && !done++ {
     printf "names that collide under a fixed seed: %.1f ns, %.2f times others; in a HashMap with such a seed: %.1f ns, %.2f times others\n",
         $2 / 16384, $2 / $3, $4 / 16384, $4 / $5
 }' "$work/run.txt"
