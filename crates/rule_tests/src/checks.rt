@@ -86,6 +86,28 @@ fn total(alloc: Global, total: &Total) -> Result<String, Fail> {
     )?)
 }
 
+// The script of these lines.
+fn script_of(alloc: Global, lines: &[&str]) -> Result<Script, Fail> {
+    let mut bytes = String::new(alloc);
+    for line in lines {
+        bytes.push_str(line)?;
+        bytes.push('\n')?;
+    }
+    Ok(Script::read(alloc, bytes.as_bytes())?)
+}
+
+// What came of each line, and then the totals.
+fn told(alloc: Global, records: &[Record], totals: &[Total]) -> Result<String, Fail> {
+    let mut text = String::new(alloc);
+    for record in records {
+        text.push_str(shown(alloc, record)?.as_str())?;
+    }
+    for one in totals {
+        text.push_str(total(alloc, one)?.as_str())?;
+    }
+    Ok(text)
+}
+
 // What comes of the lines of a script, and then the totals, where one worker runs it from moment 65 over so many cells, and domain
 // `d` limits each value of key `k` to so many hits a minute.
 fn run<R: RandomSource + Threads + Wait + Sync>(
@@ -97,12 +119,6 @@ fn run<R: RandomSource + Threads + Wait + Sync>(
 ) -> Result<String, Fail>
     requires { (1 ≤ cells) × (cells ≤ MOST_CELLS) }
 {
-    let mut bytes = String::new(alloc);
-    for line in script {
-        bytes.push_str(line)?;
-        bytes.push('\n')?;
-    }
-    let script = Script::read(alloc, bytes.as_bytes())?;
     let setup = Setup {
         workers: 1,
         cells,
@@ -110,15 +126,10 @@ fn run<R: RandomSource + Threads + Wait + Sync>(
         global_shadow: false,
         seed: RandomState::new(rt)?,
     };
-    let driven = drive_script(rt, alloc, script, config(alloc, limit)?, setup, &Open)?;
-    let mut text = String::new(alloc);
-    for record in driven.records.items() {
-        text.push_str(shown(alloc, record)?.as_str())?;
-    }
-    for one in driven.totals.items() {
-        text.push_str(total(alloc, one)?.as_str())?;
-    }
-    Ok(text)
+    let script = script_of(alloc, script)?;
+    let config = config(alloc, limit)?;
+    let driven = drive_script(rt, alloc, script, config, setup, &Open)?;
+    told(alloc, driven.records.items(), driven.totals.items())
 }
 
 const A: &str = r#"{"check":{"domain":"d","descriptors":[{"entries":[{"key":"k","value":"a"}]}]}}"#;

@@ -28,7 +28,7 @@ fn shown(alloc: Global, files: &Blobs) -> Result<String, Fail> {
 
 #[test]
 fn files_are_refused_at_their_first_fault(rt: HostRuntime) -> Result<(), Fail> {
-    let rows = [
+    const ROWS: &[(&str, &str)] = &[
         ("", "1 at 0:"),
         ("[]", "2 at 0:"),
         (r#"{"domain":"d"}"#, "1 trees"),
@@ -100,7 +100,7 @@ fn files_are_refused_at_their_first_fault(rt: HostRuntime) -> Result<(), Fail> {
             "12 at 0:/descriptors/0/descriptors/1",
         ),
     ];
-    for (text, want) in rows {
+    for &(text, want) in ROWS {
         let found = said(rt.alloc(), text)?;
         assert_eq!(rt; found.as_str(), want, "at {text}");
     }
@@ -181,11 +181,12 @@ fn limits_are_exact(rt: HostRuntime) -> Result<(), Fail> {
 fn a_domain_stands_in_one_file(rt: HostRuntime) -> Result<(), Fail> {
     let alloc = rt.alloc();
     let mut files = Vec::new(alloc);
-    for text in [
+    const ROWS: &[&str] = &[
         r#"{"domain":"d"}"#,
         r#"{"domain":"e"}"#,
         r#"{"domain":"d"}"#,
-    ] {
+    ];
+    for &text in ROWS {
         files.push(Blob::of(Vec::from_slice(alloc, text.as_bytes())?))?;
     }
     let found = shown(alloc, &Blobs::of(files))?;
@@ -208,7 +209,7 @@ fn printed(alloc: Global, text: &str) -> Result<Vec<String>, Fail> {
 
 #[test]
 fn configurations_print_in_one_form(rt: HostRuntime) -> Result<(), Fail> {
-    let rows = [
+    const ROWS: &[(&str, &str)] = &[
         (
             r#"{"domain":"d","descriptors":[{"key":"k","rateLimit":{"unit":"MINUTE","requestsPerUnit":2}}]}"#,
             r#"{"descriptors":[{"key":"k","rateLimit":{"requestsPerUnit":2,"unit":"MINUTE"}}],"domain":"d"}"#,
@@ -223,7 +224,7 @@ fn configurations_print_in_one_form(rt: HostRuntime) -> Result<(), Fail> {
             r#"{"descriptors":[{"key":"a"},{"descriptors":[{"key":"b","rateLimit":{"unlimited":true}}],"key":"a","value":"x"},{"key":"c","rateLimit":{"unlimited":true}}],"domain":"d"}"#,
         ),
     ];
-    for (text, want) in rows {
+    for &(text, want) in ROWS {
         let first = printed(rt.alloc(), text)?;
         let second = printed(rt.alloc(), want)?;
         match (first.as_slice(), second.as_slice()) {

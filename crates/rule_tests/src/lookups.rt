@@ -88,23 +88,35 @@ fn limited(limit: u32, rule: u32) -> Found {
     }
 }
 
+// The rule of a descriptor of these entries.
+fn rule_at(alloc: Global, index: &Index, entries: &[(&str, &str)]) -> Result<Found, Fail> {
+    let domain = Text::new(alloc, "d")?;
+    let descriptor = descriptor(alloc, entries, None)?;
+    Ok(lookup(index, &domain, &descriptor))
+}
+
 #[test]
 fn a_rule_is_that_of_the_last_entrys_node(rt: HostRuntime) -> Result<(), Fail> {
-    let alloc = rt.alloc();
-    let index = index(alloc)?;
-    let domain = Text::new(alloc, "d")?;
-    for (entries, want) in [
-        ([("n", "user")].as_slice(), limited(1, 0)),
-        ([("n", "us*")].as_slice(), limited(2, 1)),
-        ([("n", "x")].as_slice(), limited(3, 2)),
-        ([("m", "x")].as_slice(), limited(4, 3)),
-        ([("m", "x"), ("n", "a")].as_slice(), limited(5, 4)),
-        ([("m", "x"), ("n", "b")].as_slice(), Found::NoRule),
-        ([("n", "user"), ("n", "a")].as_slice(), Found::NoRule),
-        ([("k", "x")].as_slice(), Found::NoRule),
-    ] {
-        let descriptor = descriptor(alloc, entries, None)?;
-        assert_eq!(rt; lookup(&index, &domain, &descriptor), want);
+    const LIMITED: &[(&[(&str, &str)], u32, u32)] = &[
+        (&[("n", "user")], 1, 0),
+        (&[("n", "us*")], 2, 1),
+        (&[("n", "x")], 3, 2),
+        (&[("m", "x")], 4, 3),
+        (&[("m", "x"), ("n", "a")], 5, 4),
+    ];
+    const FREE: &[&[(&str, &str)]] = &[
+        &[("m", "x"), ("n", "b")],
+        &[("n", "user"), ("n", "a")],
+        &[("k", "x")],
+    ];
+    let index = index(rt.alloc())?;
+    for &(entries, limit, rule) in LIMITED {
+        let found = rule_at(rt.alloc(), &index, entries)?;
+        assert_eq!(rt; found, limited(limit, rule));
+    }
+    for &entries in FREE {
+        let found = rule_at(rt.alloc(), &index, entries)?;
+        assert_eq!(rt; found, Found::NoRule);
     }
     Ok(())
 }
@@ -161,44 +173,70 @@ fn replacing(alloc: Global) -> Result<Index, Fail> {
     }
 }
 
+// The rule of each of two descriptors of a request, by the one key of each; the second has its own limit.
+fn both_rules(
+    alloc: Global,
+    index: &Index,
+    one: &str,
+    other: &str,
+    own: Option<OwnLimit>,
+) -> Result<String, Fail> {
+    let domain = Text::new(alloc, "d")?;
+    let mut descriptors = Vec::new(alloc);
+    descriptors.push(descriptor(alloc, &[(one, "x")], None)?)?;
+    descriptors.push(descriptor(alloc, &[(other, "x")], own)?)?;
+    if descriptors.len() > 32 {
+        return Err(Fail::new("two descriptors"));
+    }
+    let found = find_rules(index, &domain, &descriptors);
+    Ok(format!(in alloc; "{:?}", found.as_slice())?)
+}
+
 #[test]
 fn a_rule_replaces_those_that_it_names(rt: HostRuntime) -> Result<(), Fail> {
-    let alloc = rt.alloc();
-    let index = replacing(alloc)?;
-    let domain = Text::new(alloc, "d")?;
+    const ROWS: &[(&str, &str, &str)] = &[
+        (
+            "a",
+            "b",
+            "[NoRule, Limited { limit: 9, unit: Day, shadow: true, rule: Some(RuleId(1)) }]",
+        ),
+        ("u", "a", "[Unlimited { rule: RuleId(2) }, NoRule]"),
+        (
+            "b",
+            "u",
+            "[Limited { limit: 9, unit: Day, shadow: true, rule: Some(RuleId(1)) }, Unlimited { rule: RuleId(2) }]",
+        ),
+        (
+            "a",
+            "a",
+            "[Limited { limit: 9, unit: Day, shadow: true, rule: Some(RuleId(0)) }, Limited { limit: 9, unit: Day, shadow: true, rule: Some(RuleId(0)) }]",
+        ),
+    ];
+    let index = replacing(rt.alloc())?;
+    for &(one, other, want) in ROWS {
+        let found = both_rules(rt.alloc(), &index, one, other, None)?;
+        assert_eq!(rt; found.as_str(), want, "{one} and {other}");
+    }
+    Ok(())
+}
+
+#[test]
+fn a_limit_of_its_own_replaces_no_rule(rt: HostRuntime) -> Result<(), Fail> {
     let own = OwnLimit {
         limit: 1,
         unit: Unit::Hour,
     };
-    let day = |rule| Found::Limited {
-        limit: 9,
-        unit: Unit::Day,
-        shadow: true,
-        rule: Some(RuleId(rule)),
-    };
-    let free = Found::Unlimited { rule: RuleId(2) };
-    let hour = Found::Limited {
-        limit: 1,
-        unit: Unit::Hour,
-        shadow: false,
-        rule: None,
-    };
-    for (one, other, own, want) in [
-        ("a", "b", None, [Found::NoRule, day(1)]),
-        ("u", "a", None, [free, Found::NoRule]),
-        ("b", "u", None, [day(1), free]),
-        ("a", "a", None, [day(0), day(0)]),
-        ("a", "b", Some(own), [day(0), hour]),
-    ] {
-        let mut descriptors = Vec::new(alloc);
-        descriptors.push(descriptor(alloc, &[(one, "x")], None)?)?;
-        descriptors.push(descriptor(alloc, &[(other, "x")], own)?)?;
-        if descriptors.len() > 32 {
-            return Ok(());
-        }
-        let found = find_rules(&index, &domain, &descriptors);
-        assert_eq!(rt; found.as_slice(), want.as_slice(), "{one} and {other}");
-    }
+    let index = replacing(rt.alloc())?;
+    let found = both_rules(rt.alloc(), &index, "a", "b", Some(own))?;
+    let want =
+        "[Limited { limit: 9, unit: Day, shadow: true, rule: Some(RuleId(0)) }, Limited { limit: 1, unit: Hour, shadow: false, rule: None }]";
+    assert_eq!(rt; found.as_str(), want);
+    Ok(())
+}
+
+#[test]
+fn an_index_tells_which_rule_replaces_which(rt: HostRuntime) -> Result<(), Fail> {
+    let index = replacing(rt.alloc())?;
     assert!(rt; index.replaces(RuleId(1), RuleId(0)));
     assert!(rt; !index.replaces(RuleId(0), RuleId(1)));
     assert!(rt; !index.replaces(RuleId(1), RuleId(9)));

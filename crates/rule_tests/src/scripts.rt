@@ -27,7 +27,7 @@ fn lines(alloc: Global, text: &str) -> Result<String, Fail> {
 
 #[test]
 fn scripts_are_cut_at_each_line_feed(rt: HostRuntime) -> Result<(), Fail> {
-    for (text, want) in [
+    const ROWS: &[(&str, &str)] = &[
         ("", ""),
         ("\n", "1 at ;"),
         ("\n\n", "1 at ;1 at ;"),
@@ -46,7 +46,8 @@ fn scripts_are_cut_at_each_line_feed(rt: HostRuntime) -> Result<(), Fail> {
             "check d;",
         ),
         ("{\"check\":{\"domain\":\"d\"}}", "21 at /check;"),
-    ] {
+    ];
+    for &(text, want) in ROWS {
         let found = lines(rt.alloc(), text)?;
         assert_eq!(rt; found.as_str(), want, "at {text}");
     }

@@ -13,7 +13,7 @@ fn said_of_policy(rt: &HostRuntime, policy: &str) -> Result<String, Fail> {
 
 #[test]
 fn fields_of_a_file_are_read_in_order(rt: HostRuntime) -> Result<(), Fail> {
-    let rows = [
+    const ROWS: &[(&str, &str)] = &[
         (r#"{"domain":5,"name":5}"#, "5 at 0:/name"),
         (r#"{"descriptors":5,"domain":5}"#, "5 at 0:/domain"),
         (
@@ -25,7 +25,7 @@ fn fields_of_a_file_are_read_in_order(rt: HostRuntime) -> Result<(), Fail> {
         (r#"{"domain":null}"#, "10 at 0:"),
         (r#"{"domain":"","descriptors":[{"key":""}]}"#, "10 at 0:"),
     ];
-    for (text, want) in rows {
+    for &(text, want) in ROWS {
         let found = said(rt.alloc(), text)?;
         assert_eq!(rt; found.as_str(), want, "at {text}");
     }
@@ -34,7 +34,7 @@ fn fields_of_a_file_are_read_in_order(rt: HostRuntime) -> Result<(), Fail> {
 
 #[test]
 fn fields_of_a_node_are_read_in_order(rt: HostRuntime) -> Result<(), Fail> {
-    let rows = [
+    const ROWS: &[(&str, &str)] = &[
         (r#"{"value":5,"key":5}"#, "5 at 0:/descriptors/0/key"),
         (
             r#"{"rateLimit":5,"value":5}"#,
@@ -67,7 +67,7 @@ fn fields_of_a_node_are_read_in_order(rt: HostRuntime) -> Result<(), Fail> {
             "13 at 0:/descriptors/1",
         ),
     ];
-    for (nodes, want) in rows {
+    for &(nodes, want) in ROWS {
         let text = format!(in rt.alloc(); r#"{{"domain":"d","descriptors":[{nodes}]}}"#)?;
         let found = said(rt.alloc(), &text)?;
         assert_eq!(rt; found.as_str(), want, "at {nodes}");
@@ -77,7 +77,7 @@ fn fields_of_a_node_are_read_in_order(rt: HostRuntime) -> Result<(), Fail> {
 
 #[test]
 fn fields_of_a_policy_are_read_in_order(rt: HostRuntime) -> Result<(), Fail> {
-    let rows = [
+    const ROWS: &[(&str, &str, &str)] = &[
         (r#"{"requestsPerUnit":"x","unit":5}"#, "5 at", "/unit"),
         (
             r#"{"unlimited":5,"requestsPerUnit":"x"}"#,
@@ -116,7 +116,7 @@ fn fields_of_a_policy_are_read_in_order(rt: HostRuntime) -> Result<(), Fail> {
         (r#"{"requestsPerUnit":true}"#, "5 at", "/requestsPerUnit"),
         (r#"{"unit":"Week"}"#, "8 at", "/unit"),
     ];
-    for (policy, number, field) in rows {
+    for &(policy, number, field) in ROWS {
         let found = said_of_policy(&rt, policy)?;
         let want = format!(in rt.alloc(); "{number} 0:/descriptors/0/rateLimit{field}")?;
         assert_eq!(rt; found.as_str(), want.as_str(), "at {policy}");
@@ -166,11 +166,11 @@ fn a_rule_replaces_at_most_32_names(rt: HostRuntime) -> Result<(), Fail> {
 #[test]
 fn a_later_file_is_read_before_trees_are_checked(rt: HostRuntime) -> Result<(), Fail> {
     let alloc = rt.alloc();
-    let rows = [
+    const ROWS: &[(&str, &str)] = &[
         (r#"{"domain":"e","a":1}"#, "3 at 1:/a"),
         (r#"{"domain":"e"}"#, "10 at 0:"),
     ];
-    for (second, want) in rows {
+    for &(second, want) in ROWS {
         let mut files = Vec::new(alloc);
         for text in [r#"{"domain":""}"#, second] {
             files.push(Blob::of(Vec::from_slice(alloc, text.as_bytes())?))?;

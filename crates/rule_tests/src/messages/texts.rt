@@ -100,7 +100,7 @@ fn recorded(alloc: Global, moment: u64, outcome: Outcome) -> Result<String, Fail
 }
 
 #[test]
-fn records_are_printed(rt: HostRuntime) -> Result<(), Fail> {
+fn records_of_checks_are_printed(rt: HostRuntime) -> Result<(), Fail> {
     let alloc = rt.alloc();
     let before = answer(alloc, false, status(Code::Ok, 2, 1, Count::Before(0)))?;
     let text = recorded(alloc, 65, Outcome::Checked(before))?;
@@ -119,6 +119,12 @@ fn records_are_printed(rt: HostRuntime) -> Result<(), Fail> {
         text.as_str(),
         r#"{"counts":[null],"line":2,"moment":65,"reply":{"overallCode":"OK","statuses":[{"code":"OK"}]},"version":0,"worker":0}"#
     );
+    Ok(())
+}
+
+#[test]
+fn records_of_other_lines_are_printed(rt: HostRuntime) -> Result<(), Fail> {
+    let alloc = rt.alloc();
     let text = recorded(alloc, 100, Outcome::Ticked(Seconds::capped(50)))?;
     assert_eq!(rt;
         text.as_str(),
@@ -146,10 +152,28 @@ fn records_are_printed(rt: HostRuntime) -> Result<(), Fail> {
     Ok(())
 }
 
+// The total of a counter of key `k` with this value, printed.
+fn total_of(alloc: Global, value: &str, unit: Unit, charged: u64) -> Result<String, Fail> {
+    let mut items = Vec::new(alloc);
+    items.push(Entry {
+        key: Text::new(alloc, "k")?,
+        value: Text::new(alloc, value)?,
+    })?;
+    let name = CounterName {
+        domain: Text::new(alloc, "d")?,
+        entries: Entries::build(items)?,
+        unit,
+    };
+    let key = CounterKey {
+        name,
+        start: Seconds::capped(60),
+    };
+    Ok(total_text(alloc, &Total { key, charged })?)
+}
+
 #[test]
 fn totals_are_printed(rt: HostRuntime) -> Result<(), Fail> {
-    let alloc = rt.alloc();
-    for (value, unit, charged, want) in [
+    const ROWS: &[(&str, Unit, u64, &str)] = &[
         (
             "a",
             Unit::Minute,
@@ -168,22 +192,9 @@ fn totals_are_printed(rt: HostRuntime) -> Result<(), Fail> {
             u64::MAX,
             r#"{"charged":18446744073709551615,"counter":{"domain":"d","entries":[{"key":"k","value":"\"é\""}],"start":60,"unit":"DAY"}}"#,
         ),
-    ] {
-        let mut items = Vec::new(alloc);
-        items.push(Entry {
-            key: Text::new(alloc, "k")?,
-            value: Text::new(alloc, value)?,
-        })?;
-        let name = CounterName {
-            domain: Text::new(alloc, "d")?,
-            entries: Entries::build(items)?,
-            unit,
-        };
-        let key = CounterKey {
-            name,
-            start: Seconds::capped(60),
-        };
-        let text = total_text(alloc, &Total { key, charged })?;
+    ];
+    for &(value, unit, charged, want) in ROWS {
+        let text = total_of(rt.alloc(), value, unit, charged)?;
         assert_eq!(rt; text.as_str(), want);
     }
     Ok(())
