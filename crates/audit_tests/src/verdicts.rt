@@ -85,7 +85,7 @@ fn verdict(alloc: Global, run: &[&str]) -> Result<Verdict, Fail> {
         text.push('\n')?;
     }
     let first = Arc::new(alloc, config)?;
-    let lines = script.into_lines();
+    let lines = script.read_lines(alloc)?;
     let setup = Setup {
         workers: 1,
         cells: 16,

@@ -1,4 +1,5 @@
 pub mod Plain
 pub mod Reloads
 pub mod Firsts
+mod Lines
 mod UsualLine

@@ -1,14 +1,11 @@
-ghost use Rattle.std.specs.Prelude.{◌≡◌, ◌≤◌, IfOk, length, map};
+ghost use Rattle.std.specs.Prelude.{◌≡◌, ◌≤◌, IfOk, length};
 ghost use Rattle.std.specs.Arc.{arc_value};
 ghost use Rattle.rate_types.specs.declared.limits.TheConstants.{MOST_CELLS, MOST_LINES, MOST_WORKERS};
 ghost use Rattle.descriptor_tree.specs.Views.{config_view};
 ghost use Rattle.counter_cells.specs.Opened.{table_of, setup_of};
-ghost use Rattle.script_run.specs.Views.{line_view};
 ghost use Rattle.script_run.specs.Run.{IsRun};
 ghost use Rattle.script_run.specs.Totals.{AreTotalsOf};
-ghost use Rattle.drive_run.specs.Views.{script_view};
 
-use crate::Script;
 use counter_cells::{CellNaming, OpenedCells};
 use descriptor_tree::Config;
 use rate_limiter::{Limiter, Limits};
@@ -16,13 +13,12 @@ use rate_types::limits::MOST_CLAIMS;
 use rate_types::{OutOfMemory, Seconds};
 use reply_text::Records;
 use rls_core::Totals;
-use script_run::Line;
 use std::alloc::Global;
 use std::hash::RandomState;
 use std::marker::Brand;
 use std::sync::{Arc, Wait};
 use std::thread::Threads;
-use worker_run::{Gate, run_script};
+use worker_run::{Gate, ScriptLines, run_script};
 
 /// How a script is run.
 #[derive(Clone, Copy)]
@@ -48,11 +44,11 @@ pub struct Driven {
 }
 
 // The run of these lines by a limiter on these cells.
-fn drive_on<N: CellNaming + Send + Sync, G: Gate, R: Threads + Wait + Sync>(
+fn drive_on<N: CellNaming + Send + Sync, L: ScriptLines, G: Gate, R: Threads + Wait + Sync>(
     rt: &R,
     alloc: Global,
     opened: OpenedCells,
-    lines: &[Line],
+    lines: &L,
     config: Arc<Config>,
     setup: Setup,
     gate: &G,
@@ -61,11 +57,11 @@ fn drive_on<N: CellNaming + Send + Sync, G: Gate, R: Threads + Wait + Sync>(
     requires cells { N.setup.cells ≡ setup.cells }
     requires passes { N.setup.passes ≡ setup.workers }
     requires start { N.setup.start ≡ setup.start }
-    requires lines { length lines.now ≤ MOST_LINES }
+    requires lines { length (L.lines lines.now) ≤ MOST_LINES }
     ensures run { IfOk result
-        (λ d. IsRun (config_view (arc_value config)) setup.workers setup.cells setup.start setup.global_shadow (map line_view lines.now)
+        (λ d. IsRun (config_view (arc_value config)) setup.workers setup.cells setup.start setup.global_shadow (L.lines lines.now)
         d.records) }
-    ensures totals { IfOk result (λ d. AreTotalsOf setup.start (map line_view lines.now) d.records d.totals) }
+    ensures totals { IfOk result (λ d. AreTotalsOf setup.start (L.lines lines.now) d.records d.totals) }
 {
     let limits = Limits {
         claims_max: MOST_CLAIMS,
@@ -79,21 +75,22 @@ fn drive_on<N: CellNaming + Send + Sync, G: Gate, R: Threads + Wait + Sync>(
     })
 }
 
-/// The run of a script, whose version 0 is the configuration: its records, and the totals at its end. Each worker is a thread.
-pub fn drive_script<G: Gate, R: Threads + Wait + Sync>(
+/// The run of a script, whose version 0 is the configuration: its records, and the totals at its end. Each worker is a thread, and
+/// reads the lines that it draws.
+pub fn drive_script<L: ScriptLines, G: Gate, R: Threads + Wait + Sync>(
     rt: &R,
     alloc: Global,
-    script: Script,
+    script: &L,
     config: Arc<Config>,
     setup: Setup,
     gate: &G,
 ) -> Result<Driven, OutOfMemory>
     ensures run { IfOk result
-        (λ d. IsRun (config_view (arc_value config)) setup.workers setup.cells setup.start setup.global_shadow (script_view script)
+        (λ d. IsRun (config_view (arc_value config)) setup.workers setup.cells setup.start setup.global_shadow (L.lines script.now)
         d.records) }
-    ensures totals { IfOk result (λ d. AreTotalsOf setup.start (script_view script) d.records d.totals) }
+    ensures totals { IfOk result (λ d. AreTotalsOf setup.start (L.lines script.now) d.records d.totals) }
 {
-    let lines = script.into_lines();
+    let _few = script.count();
     let opened = OpenedCells::make(alloc, setup.cells, setup.workers, setup.start)?;
-    drive_on::<Brand, _, _>(rt, alloc, opened, lines.as_slice(), config, setup, gate)
+    drive_on::<Brand, _, _, _>(rt, alloc, opened, script, config, setup, gate)
 }

@@ -5,11 +5,13 @@ ghost use Rattle.drive_run.specs.declared.script.ScriptFault.TheVariants.{TooMan
 
 use crate::reading::read_line;
 use json::Scratch;
+use rate_types::OutOfMemory;
 use rate_types::limits::MOST_LINES;
 use script_run::Line;
 use std::alloc::Global;
 use text_lines::cut_line;
 use thiserror::Error;
+use worker_run::ScriptLines;
 
 /// Why a script isn't read.
 #[derive(Clone, Copy, Debug, PartialEq, Eq, Error)]
@@ -22,28 +24,27 @@ pub enum ScriptFault {
     OutOfMemory,
 }
 
-/// The lines of a script, in order: at most 1,048,576.
+/// A script: its lines in order, at most 1,048,576. It keeps their bytes, from which each is read when it is run.
 #[derive(Drop)]
-pub struct Script {
-    lines: Vec<Line>,
+pub struct Script<'a> {
+    lines: Vec<&'a [u8]>,
     ghost few: { length lines.items ≤ MOST_LINES },
 }
 
-impl Script {
+impl<'a> Script<'a> {
     ghost use Rattle.script_run.specs.Views.{line_view};
     ghost use Rattle.drive_run.specs.Views.{script_view};
     ghost use Rattle.drive_run.specs.Script as scripts;
 
     /// The script of these bytes: one line per line feed, and one for what stands behind the last line feed.
     #[tactic(auto, unfolding(crate::specs::Views::script_view))]
-    pub fn read(alloc: Global, bytes: &[u8]) -> Result<Script, ScriptFault>
+    pub fn read(alloc: Global, bytes: &'a [u8]) -> Result<Script<'a>, ScriptFault>
         ensures script { IfOk result (λ s. script_view s ≡ scripts.script_of bytes.now) }
         ensures within { IfOk result (λ s. length (script_view s) ≤ MOST_LINES) }
         ensures many { (lines : ℕ) → result ≡ Err (TooManyLines lines) → MOST_LINES < lines }
         ensures more { (lines : ℕ) → result ≡ Err (TooManyLines lines) → lines ≤ length (cut bytes.now) }
     {
         let mut lines = Vec::new(alloc);
-        let mut scratch = Scratch::new(alloc);
         let mut rest = bytes;
         'lines: while rest.len() > 0 {
             if lines.len() >= MOST_LINES as usize {
@@ -52,10 +53,7 @@ impl Script {
                 });
             }
             let (first, after) = cut_line(rest);
-            let Ok(line) = read_line(alloc, &mut scratch, first) else {
-                return Err(ScriptFault::OutOfMemory);
-            };
-            if lines.push(line).is_err() {
+            if lines.push(first).is_err() {
                 return Err(ScriptFault::OutOfMemory);
             }
             rest = after;
@@ -63,21 +61,39 @@ impl Script {
         Ok(Script { lines })
     }
 
-    /// The script of these lines, which are not too many.
+    /// What each line says, in order.
     #[tactic(auto, unfolding(crate::specs::Views::script_view))]
-    pub fn of(lines: Vec<Line>) -> Script
-        requires { length lines.items ≤ MOST_LINES }
-        ensures { script_view result ≡ map line_view lines.items }
+    pub fn read_lines(&self, alloc: Global) -> Result<Vec<Line>, OutOfMemory>
+        ensures lines { IfOk result (λ v. map line_view v.items ≡ script_view self.now) }
+        ensures within { length (script_view self.now) ≤ MOST_LINES }
     {
-        Script { lines }
+        let mut lines = Vec::with_capacity(alloc, self.lines.len())?;
+        let mut scratch = Scratch::new(alloc);
+        'lines: for index in 0..self.lines.len() {
+            let line = read_line(alloc, &mut scratch, self.lines[index])?;
+            lines.push_reserved(line);
+        }
+        Ok(lines)
+    }
+}
+
+impl ScriptLines for Script<'_> {
+    ghost use Rattle.drive_run.specs.Views.{script_view};
+
+    ghost lines = { script_view };
+
+    #[tactic(auto, unfolding(crate::specs::Views::script_view))]
+    fn count(&self) -> u32 {
+        self.lines.len() as u32
     }
 
-    /// The lines in order, which are moved.
-    #[tactic(auto, unfolding(crate::specs::Views::script_view))]
-    pub fn into_lines(self) -> Vec<Line>
-        ensures lines { map line_view result.items ≡ script_view self }
-        ensures within { length result.items ≤ MOST_LINES }
-    {
-        self.lines
+    #[tactic(auto, using(crate::proofs::Lines::line_at), unfolding(crate::specs::Views::script_view))]
+    fn read(
+        &self,
+        alloc: Global,
+        scratch: &mut Scratch,
+        index: usize,
+    ) -> Result<Line, OutOfMemory> {
+        read_line(alloc, scratch, self.lines[index])
     }
 }

@@ -4,12 +4,12 @@ ghost use Rattle.counter_cells.specs.Opened.{table_of, setup_of};
 
 use crate::configs::config;
 use counter_cells::{CellNaming, OpenedCells};
+use drive_run::Script;
 use rate_limiter::{Limiter, Limits};
 use rate_types::limits::MOST_CLAIMS;
-use rate_types::{Descriptor, Entries, Entry, Place, Refused, Request, Seconds, Text};
+use rate_types::Seconds;
 use reply_text::{Outcome, Record, Records};
 use rls_core::{Count, Status};
-use script_run::Line;
 use std::alloc::Global;
 use std::hash::RandomState;
 use std::marker::Brand;
@@ -21,34 +21,21 @@ use std::thread::Threads;
 use worker_run::{Gate, Open, run_script};
 
 // A check of one hit on k=a.
-fn check(alloc: Global) -> Result<Line, Fail> {
-    let mut entries = Vec::new(alloc);
-    entries.push(Entry {
-        key: Text::new(alloc, "k")?,
-        value: Text::new(alloc, "a")?,
-    })?;
-    let mut descriptors = Vec::new(alloc);
-    descriptors.push(Descriptor {
-        entries: Entries::build(entries)?,
-        own: None,
-        hits: None,
-    })?;
-    Ok(Line::Check(Request::build(Text::new(alloc, "d")?, descriptors, 1)?))
-}
+const CHECK: &str =
+    r#"{"check":{"domain":"d","descriptors":[{"entries":[{"key":"k","value":"a"}]}]}}"#;
 
-// tick 65, a check, a check, a reload with limit 5, a check, a bad line.
-fn script(alloc: Global) -> Result<Vec<Line>, Fail> {
-    let mut lines = Vec::new(alloc);
-    lines.push(Line::Tick(Seconds::capped(65)))?;
-    lines.push(check(alloc)?)?;
-    lines.push(check(alloc)?)?;
-    lines.push(Line::Reload(config(alloc, 5)?))?;
-    lines.push(check(alloc)?)?;
-    lines.push(Line::Bad(Refused {
-        at: Place::empty(alloc),
-        number: 1,
-    }))?;
-    Ok(lines)
+// A limit of 5 a minute.
+const RELOAD: &str =
+    r#"{"reload":[{"domain":"d","descriptors":[{"key":"k","rateLimit":{"unit":"MINUTE","requestsPerUnit":5}}]}]}"#;
+
+// The bytes of these lines.
+fn bytes_of(alloc: Global, lines: &[&str]) -> Result<String, Fail> {
+    let mut bytes = String::new(alloc);
+    for line in lines {
+        bytes.push_str(line)?;
+        bytes.push('\n')?;
+    }
+    Ok(bytes)
 }
 
 // What a record shows: the hits before a check, or a number for each other outcome.
@@ -75,7 +62,7 @@ fn run<N: CellNaming + Send + Sync, G: Gate, R: Abort + RandomSource + Threads +
     rt: &R,
     alloc: Global,
     opened: OpenedCells,
-    lines: Vec<Line>,
+    lines: &[&str],
     charged: u64,
     gate: &G,
 ) -> Result<Records, Fail>
@@ -88,15 +75,14 @@ fn run<N: CellNaming + Send + Sync, G: Gate, R: Abort + RandomSource + Threads +
     };
     let seed = RandomState::new(rt)?;
     let (limiter, passes) = Limiter::<N>::make(alloc, config(alloc, 1)?, opened, limits, seed)?;
-    if lines.len() > 100 {
-        return Err(Fail::new("a short script"));
-    }
+    let bytes = bytes_of(alloc, lines)?;
+    let script = Script::read(alloc, bytes.as_bytes())?;
     let finished = run_script(
         rt,
         alloc,
         limiter,
         passes,
-        lines.as_slice(),
+        &script,
         Seconds::capped(0),
         gate,
     )?;
@@ -110,7 +96,8 @@ fn run<N: CellNaming + Send + Sync, G: Gate, R: Abort + RandomSource + Threads +
 #[test]
 fn one_worker_runs_line_after_line(rt: HostRuntime) -> Result<(), Fail> {
     let opened = OpenedCells::make(rt.alloc(), 8, 1, Seconds::capped(0))?;
-    let records = run::<Brand, _, _>(&rt, rt.alloc(), opened, script(rt.alloc())?, 3, &Open)?;
+    let lines = [r#"{"tick":65}"#, CHECK, CHECK, RELOAD, CHECK, "{"];
+    let records = run::<Brand, _, _>(&rt, rt.alloc(), opened, &lines, 3, &Open)?;
     let records = records.items();
     assert_eq!(rt; records.len(), 6);
     for (i, (moment, version, outcome)) in [
@@ -136,11 +123,8 @@ fn one_worker_runs_line_after_line(rt: HostRuntime) -> Result<(), Fail> {
 #[test]
 fn two_workers_run_each_line_once(rt: HostRuntime) -> Result<(), Fail> {
     let opened = OpenedCells::make(rt.alloc(), 8, 2, Seconds::capped(0))?;
-    let mut lines = Vec::new(rt.alloc());
-    lines.push(check(rt.alloc())?)?;
-    lines.push(Line::Reload(config(rt.alloc(), 5)?))?;
-    lines.push(check(rt.alloc())?)?;
-    let records = run::<Brand, _, _>(&rt, rt.alloc(), opened, lines, 2, &Open)?;
+    let lines = [CHECK, RELOAD, CHECK];
+    let records = run::<Brand, _, _>(&rt, rt.alloc(), opened, &lines, 2, &Open)?;
     let [first, reload, last] = records.items() else {
         return Err(Fail::new("three records"));
     };

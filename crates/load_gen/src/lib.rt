@@ -18,5 +18,5 @@ mod run;
 
 pub use config::load_config;
 pub use counts::summary;
-pub use lines::load_lines;
+pub use lines::Load;
 pub use run::run_load;

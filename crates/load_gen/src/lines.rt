@@ -1,16 +1,16 @@
 // The lines of a made-up load.
-ghost use Rattle.std.specs.Prelude.{◌≡◌, ◌≤◌, ◌<◌, ◌∷◌, [], length, map, IfOk};
+ghost use Rattle.std.specs.Prelude.{◌≡◌, ◌≤◌, ◌<◌, ◌∷◌, [], length, IfOk};
 ghost use Rattle.rate_types.specs.declared.limits.TheConstants.{MOST_LINES};
-ghost use Rattle.script_run.specs.ScriptLine.{check};
-ghost use Rattle.script_run.specs.Views.{line_view};
 ghost use Rattle.load_gen.specs.declared.constants.TheConstants.{VALUES};
 ghost use Rattle.load_gen.specs.Load as spec;
 
 use crate::config::short_text;
 use crate::constants::{DOMAIN, KEY, STEP, VALUES};
+use json::Scratch;
 use rate_types::{Descriptor, Entries, Entry, OutOfMemory, Request, Text};
 use script_run::Line;
 use std::alloc::Global;
+use worker_run::ScriptLines;
 
 // The value of the check of this index, counted from 0.
 #[tactic(auto, using(crate::proofs::Values::value_same))]
@@ -75,15 +75,26 @@ fn request_for(alloc: Global, value: u32) -> Result<Request, OutOfMemory>
     }
 }
 
-/// The lines of the load of a number: so many checks.
-#[tactic(auto, using(crate::proofs::Pushed::lines_none, crate::proofs::Pushed::lines_more))]
-pub fn load_lines(alloc: Global, number: u64, checks: u32) -> Result<Vec<Line>, OutOfMemory>
-    ensures { IfOk result (λ v. map line_view v.items ≡ spec.load_lines number checks) }
-{
-    let mut lines = Vec::with_capacity(alloc, checks as usize)?;
-    for index in 0..checks {
-        let request = request_for(alloc, value_at(number, index))?;
-        lines.push_reserved(Line::Check(request));
+/// The load of a number: so many checks, each of which is made when it is run.
+#[derive(Clone, Copy)]
+pub struct Load {
+    pub number: u64,
+    /// At most 1,048,576.
+    pub checks: u32,
+    ghost few: { checks ≤ MOST_LINES },
+}
+
+impl ScriptLines for Load {
+    ghost lines = { λ l. spec.load_lines l.number l.checks };
+
+    #[tactic(auto, using(crate::proofs::Runs::lines_length))]
+    fn count(&self) -> u32 {
+        self.checks
     }
-    Ok(lines)
+
+    #[tactic(auto, using(crate::proofs::Runs::lines_length))]
+    fn read(&self, alloc: Global, _: &mut Scratch, index: usize) -> Result<Line, OutOfMemory> {
+        let request = request_for(alloc, value_at(self.number, index as u32))?;
+        Ok(Line::Check(request))
+    }
 }

@@ -3,8 +3,8 @@ ghost use Rattle.std.specs.Prelude.{◌≡◌, ◌≤◌, IfOk, string_bytes};
 ghost use Rattle.rate_types.specs.declared.limits.TheConstants.{MOST_LINES, MOST_WORKERS};
 ghost use Rattle.load_gen.specs.Summary.{summary_of};
 
-use crate::{load_config, load_lines, summary};
-use drive_run::{Script, Setup, drive_script};
+use crate::{Load, load_config, summary};
+use drive_run::{Setup, drive_script};
 use rate_types::{OutOfMemory, Seconds};
 use std::alloc::Global;
 use std::hash::RandomState;
@@ -30,7 +30,7 @@ pub fn run_load<G: Gate, R: Threads + Wait + Sync>(
     requires workers { (1 ≤ workers) × (workers ≤ MOST_WORKERS) }
     ensures { IfOk result (λ t. string_bytes t ≡ summary_of number checks) }
 {
-    let lines = load_lines(alloc, number, checks)?;
+    let load = Load { number, checks };
     let config = load_config(alloc)?;
     let config = Arc::new(alloc, config)?;
     let setup = Setup {
@@ -40,7 +40,7 @@ pub fn run_load<G: Gate, R: Threads + Wait + Sync>(
         global_shadow: false,
         seed,
     };
-    let driven = drive_script(rt, alloc, Script::of(lines), config, setup, gate)?;
+    let driven = drive_script(rt, alloc, &load, config, setup, gate)?;
     let text = summary(alloc, driven.records.items())?;
     Ok(text)
 }

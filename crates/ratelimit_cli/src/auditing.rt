@@ -70,11 +70,12 @@ fn verdict_of(
     requires { length (cut bytes.now) ≤ MOST_LINES }
     ensures { IfOk result (IsVerdict (config_view config) (spec.setup_of job.now) (script_of bytes.now) run.now) }
 {
-    let lines = match Script::read(alloc, bytes) {
-        Ok(script) => script.into_lines(),
+    let script = match Script::read(alloc, bytes) {
+        Ok(script) => script,
         Err(ScriptFault::TooManyLines { .. }) => unreachable!(),
         Err(ScriptFault::OutOfMemory) => return Err(OutOfMemory),
     };
+    let lines = script.read_lines(alloc)?;
     let first = Arc::new(alloc, config)?;
     let setup = Setup {
         workers: job.workers,

@@ -23,6 +23,7 @@ mod output_lines;
 mod pool;
 mod quota;
 mod report;
+mod run_writing;
 mod serve;
 mod top;
 mod work;

@@ -5,32 +5,29 @@ ghost use Rattle.descriptor_tree.specs.Views.{config_view};
 ghost use Rattle.text_lines.specs.Lines.{cut};
 ghost use Rattle.ratelimit_cli.specs.Configured.{IsRunText};
 ghost use Rattle.ratelimit_cli.specs.Lookup.{lookup_output};
-ghost use Rattle.ratelimit_cli.specs.Parts.{IsOfWork};
 
 use crate::lookup::lookup_lines;
-use crate::output::all_lines;
-use crate::work::Work;
 use descriptor_tree::Config;
 use drive_run::{Script, ScriptFault, Setup, drive_script};
 use rate_types::OutOfMemory;
 use rule_lookup::Index;
+use run_lines::RunLines;
 use std::alloc::Global;
 use std::sync::{Arc, Wait};
 use std::thread::Threads;
 use worker_run::Gate;
 
-// The lines of a run of an input as a script.
-fn run_lines<R: Threads + Wait + Sync, G: Gate>(
+/// The lines of a run of an input as a script.
+pub fn driven_lines<R: Threads + Wait + Sync, G: Gate>(
     rt: &R,
     alloc: Global,
     config: Config,
     bytes: &[u8],
     setup: Setup,
     gate: &G,
-) -> Result<Vec<String>, OutOfMemory>
+) -> Result<RunLines, OutOfMemory>
     requires { length (cut bytes.now) ≤ MOST_LINES }
-    ensures { IfOk result (λ v. IsRunText (config_view config) setup.workers setup.cells setup.start setup.global_shadow bytes.now
-        (map (λ t. string_bytes t) v.items)) }
+    ensures { IfOk result (λ r. IsRunText (config_view config) setup.workers setup.cells setup.start setup.global_shadow bytes.now r.rest) }
 {
     let script = match Script::read(alloc, bytes) {
         Ok(script) => script,
@@ -38,13 +35,13 @@ fn run_lines<R: Threads + Wait + Sync, G: Gate>(
         Err(ScriptFault::OutOfMemory) => return Err(OutOfMemory),
     };
     let config = Arc::new(alloc, config)?;
-    let driven = drive_script(rt, alloc, script, config, setup, gate)?;
-    let lines = all_lines(alloc, driven.records.items(), driven.totals.items())?;
+    let driven = drive_script(rt, alloc, &script, config, setup, gate)?;
+    let lines = RunLines::make(alloc, driven.records, driven.totals.items())?;
     Ok(lines)
 }
 
-// The lines of the look-ups of an input.
-fn found_lines(alloc: Global, config: Config, bytes: &[u8]) -> Result<Vec<String>, OutOfMemory>
+/// The lines of the look-ups of an input.
+pub fn found_lines(alloc: Global, config: Config, bytes: &[u8]) -> Result<Vec<String>, OutOfMemory>
     requires { length (cut bytes.now) ≤ MOST_LINES }
     ensures { IfOk result (λ v. map (λ t. string_bytes t) v.items ≡ lookup_output (config_view config) bytes.now) }
 {
@@ -52,22 +49,4 @@ fn found_lines(alloc: Global, config: Config, bytes: &[u8]) -> Result<Vec<String
     let index = Index::make(alloc, config)?;
     let lines = lookup_lines(alloc, &index, bytes)?;
     Ok(lines)
-}
-
-/// The lines of the output of this work, each with its line feed.
-pub fn made_lines<R: Threads + Wait + Sync, G: Gate>(
-    rt: &R,
-    alloc: Global,
-    work: Work,
-    config: Config,
-    bytes: &[u8],
-    gate: &G,
-) -> Result<Vec<String>, OutOfMemory>
-    requires { length (cut bytes.now) ≤ MOST_LINES }
-    ensures { IfOk result (λ v. IsOfWork work (config_view config) bytes.now (map (λ t. string_bytes t) v.items)) }
-{
-    match work {
-        Work::Lookup => found_lines(alloc, config, bytes),
-        Work::Drive(setup) => run_lines(rt, alloc, config, bytes, setup, gate),
-    }
 }

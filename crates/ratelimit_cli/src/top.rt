@@ -9,16 +9,19 @@ ghost use Rattle.ratelimit_cli.specs.Exits.{Explains, ExplainsCall, IsExitOf};
 ghost use Rattle.ratelimit_cli.specs.Jobs.{command_with};
 ghost use Rattle.command_words.specs.Words.{command_of};
 ghost use Rattle.ratelimit_cli.specs.Parts.{IsOfOutput, IsOfWork};
+ghost use Rattle.ratelimit_cli.specs.Configured.{IsRunText};
+ghost use Rattle.ratelimit_cli.specs.Lookup.{lookup_output};
 
 use crate::Exit;
 use crate::auditing::audit_files;
 use crate::configs::{configuration, read_files};
 use crate::generated::run_gen;
 use crate::input::read_input;
-use crate::making::made_lines;
+use crate::making::{driven_lines, found_lines};
 use crate::output::{write_line, write_lines};
 use crate::pool::run_pool;
 use crate::quota::run_quota;
+use crate::run_writing::write_run;
 use crate::serve::run_serve;
 use crate::work::Work;
 use command_words::{Command, HELP, ThreadJob, VERSION, WordsFault, read_words};
@@ -31,6 +34,57 @@ use std::hash::RandomState;
 use std::sync::Wait;
 use std::thread::Threads;
 use worker_run::Gate;
+
+// Looks the requests of an input up, writes the lines of what is found, and flushes.
+fn find_and_write<K: Sink>(
+    alloc: Global,
+    config: Config,
+    bytes: &[u8],
+    sink: &mut K,
+) -> Result<(), Exit>
+    requires { length (cut bytes.now) ≤ MOST_LINES }
+    ensures { Grew (K.history sink.old) (K.history sink.new)
+        (IsOfOutput (λ pieces. pieces ≡ lookup_output (config_view config) bytes.now) (record {
+          written = K.written sink.old;
+          after = K.written sink.new;
+          faults = (K.faults sink.old, K.faults sink.new);
+        }) (exit_of result)) }
+{
+    let Ok(lines) = found_lines(alloc, config, bytes) else {
+        return Err(Exit::OutOfMemory);
+    };
+    match write_lines(sink, &lines) {
+        Ok(()) => Ok(()),
+        Err(_) => Err(Exit::WriteFault),
+    }
+}
+
+// Runs an input as a script, writes the lines of the run, and flushes. All memory is taken before the first line is written.
+fn drive_and_write<R: Threads + Wait + Sync, K: Sink, G: Gate>(
+    rt: &R,
+    alloc: Global,
+    setup: Setup,
+    config: Config,
+    bytes: &[u8],
+    sink: &mut K,
+    gate: &G,
+) -> Result<(), Exit>
+    requires { length (cut bytes.now) ≤ MOST_LINES }
+    ensures { Grew (K.history sink.old) (K.history sink.new)
+        (IsOfOutput (IsRunText (config_view config) setup.workers setup.cells setup.start setup.global_shadow bytes.now) (record {
+          written = K.written sink.old;
+          after = K.written sink.new;
+          faults = (K.faults sink.old, K.faults sink.new);
+        }) (exit_of result)) }
+{
+    let Ok(mut lines) = driven_lines(rt, alloc, config, bytes, setup, gate) else {
+        return Err(Exit::OutOfMemory);
+    };
+    match write_run(alloc, &mut lines, sink) {
+        Ok(()) => Ok(()),
+        Err(_) => Err(Exit::WriteFault),
+    }
+}
 
 // Makes the lines of the output of this work, writes them, and flushes.
 fn make_and_write<R: Threads + Wait + Sync, K: Sink, G: Gate>(
@@ -49,12 +103,9 @@ fn make_and_write<R: Threads + Wait + Sync, K: Sink, G: Gate>(
       faults = (K.faults sink.old, K.faults sink.new);
     }) (exit_of result)) }
 {
-    let Ok(lines) = made_lines(rt, alloc, work, config, bytes, gate) else {
-        return Err(Exit::OutOfMemory);
-    };
-    match write_lines(sink, &lines) {
-        Ok(()) => Ok(()),
-        Err(_) => Err(Exit::WriteFault),
+    match work {
+        Work::Lookup => find_and_write(alloc, config, bytes, sink),
+        Work::Drive(setup) => drive_and_write(rt, alloc, setup, config, bytes, sink, gate),
     }
 }
 

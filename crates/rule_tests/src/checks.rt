@@ -86,14 +86,14 @@ fn total(alloc: Global, total: &Total) -> Result<String, Fail> {
     )?)
 }
 
-// The script of these lines.
-fn script_of(alloc: Global, lines: &[&str]) -> Result<Script, Fail> {
+// The bytes of a script of these lines.
+fn bytes_of(alloc: Global, lines: &[&str]) -> Result<String, Fail> {
     let mut bytes = String::new(alloc);
     for line in lines {
         bytes.push_str(line)?;
         bytes.push('\n')?;
     }
-    Ok(Script::read(alloc, bytes.as_bytes())?)
+    Ok(bytes)
 }
 
 // What came of each line, and then the totals.
@@ -126,9 +126,10 @@ fn run<R: RandomSource + Threads + Wait + Sync>(
         global_shadow: false,
         seed: RandomState::new(rt)?,
     };
-    let script = script_of(alloc, script)?;
+    let bytes = bytes_of(alloc, script)?;
+    let script = Script::read(alloc, bytes.as_bytes())?;
     let config = config(alloc, limit)?;
-    let driven = drive_script(rt, alloc, script, config, setup, &Open)?;
+    let driven = drive_script(rt, alloc, &script, config, setup, &Open)?;
     told(alloc, driven.records.items(), driven.totals.items())
 }
 

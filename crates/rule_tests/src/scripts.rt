@@ -19,7 +19,7 @@ fn shown(alloc: Global, line: &Line) -> Result<String, Fail> {
 // The lines of a script.
 fn lines(alloc: Global, text: &str) -> Result<String, Fail> {
     let mut out = String::new(alloc);
-    for line in Script::read(alloc, text.as_bytes())?.into_lines() {
+    for line in Script::read(alloc, text.as_bytes())?.read_lines(alloc)? {
         out.push_str(&shown(alloc, &line)?)?;
     }
     Ok(out)

@@ -1,5 +1,4 @@
 -- Workers may go to other threads, which may share what a run shares.
-use Rattle.std.proofs.Crossing.{crosses}
 use denote.RattleType.{RattleType}
 use denote.Param.Send.{IsSend, IsSync, sendable}
 use denote.Param.SendFields.{declared_send, declared_sync}
@@ -7,14 +6,12 @@ use denote.Ref.{NamedLft}
 use denote.Struct.Tuple.{TupleAt}
 use mir.Syntax.{Sym}
 use mathlib.Core.List.{[], ◌∷◌}
-use Rattle.rate_types.proofs.request.Request.TheSendSync as request
 use Rattle.rate_types.proofs.seconds.Seconds.TheSendSync as seconds
 use Rattle.counter_cells.specs.declared.naming.CellNaming.{Ghosts}
-use Rattle.rate_limiter.proofs.Sent.{config_send, config_sync, pass_send, limiter_sync}
+use Rattle.rate_limiter.proofs.Sent.{pass_send, limiter_sync}
 use Rattle.line_numbers.proofs.drawer.Drawer.TheSendSync as drawer
 use Rattle.reply_text.proofs.record.Record.TheSendSync as one_record
 use Rattle.rate_types.proofs.items.Items.TheSendSync as items
-use Rattle.script_run.specs.contracts.line.Line as line
 use Rattle.line_numbers.proofs.numbers.LineNumbers.TheSendSync as numbers
 use Rattle.worker_run.specs.contracts.working.Shared as shared
 use Rattle.worker_run.specs.contracts.working.Worker as worker
@@ -28,18 +25,14 @@ worker_send N naming = declared_send (worker.the_type N naming) (search sendable
 pub worked_send : (N : RattleType) (naming : Ghosts N.Denot) → IsSend (worked.the_row N naming)
 worked_send N naming = declared_send (worked.the_type N naming) (pass_send N naming, (drawer.the_send, (items.the_send _ one_record.the_send, tt)))
 
--- threads may share a line
-pub line_sync : IsSync line.the_row
-line_sync = search (sendable, crosses, config_send, config_sync, request.the_sync, seconds.the_sync) depth 30
-
 -- threads may share what a run shares
-pub shared_sync : (l : NamedLft) (N G : RattleType) (naming : Ghosts N.Denot) → IsSync G → IsSync (shared.the_row l N G naming)
-shared_sync l N G naming y = declared_sync (shared.the_type l N G naming) (
+pub shared_sync : (l : NamedLft) (N L G : RattleType) (naming : Ghosts N.Denot) → IsSync L → IsSync G → IsSync (shared.the_row l N L G naming)
+shared_sync l N L G naming x y = declared_sync (shared.the_type l N L G naming) (
   search (sendable, limiter_sync) depth 12,
   (
     search (sendable, numbers.the_sync) depth 12,
     (
-      search (sendable, line_sync) depth 12,
+      search (sendable, x) depth 12,
       (search (sendable, y) depth 12, (seconds.the_sync, tt)),
     ),
   ),

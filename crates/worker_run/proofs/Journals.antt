@@ -1,13 +1,11 @@
 -- A journal with one record more, and how many numbers there are below a bound.
 use Rattle.std.proofs.Common.{◌≡◌, ℕ, zero, suc, ◌+◌, ◌-◌, ◌≤◌, ◌<◌, List, [], ◌∷◌, ◌++◌, length, map, refl, sym, ap, subst, arith}
-use Rattle.std.specs.Prelude.{All, slice_index, slice_index_or, slice_get, Some}
+use Rattle.std.specs.Prelude.{All, slice_index, slice_get, Some}
 use Rattle.counter_directory.specs.Acquired.{Bounds}
 use Rattle.line_numbers.specs.Rising.{IsRising}
 use Rattle.rate_limiter.specs.Passes.{LimiterView, PassView}
 use Rattle.reply_text.specs.declared.record.Record.{Record}
 use Rattle.script_run.specs.ScriptLine.{ScriptLine}
-use Rattle.script_run.specs.Views.{line_view}
-use Rattle.script_run.specs.declared.line.Line.{Line}
 use Rattle.worker_run.specs.LineSteps.{IsRecordStep}
 use Rattle.worker_run.specs.Journal.{Journal}
 
@@ -39,13 +37,8 @@ pub map_push : (rs : List Record) (r : Record) → map (λ (x : Record). x.line 
 map_push [] r = refl
 map_push (x ∷ xs) r = ap (λ (l : List ℕ). (x.line - 1) ∷ l) (map_push xs r)
 
-pub line_there : (xs : List Line) (k : ℕ) (d : Line) → k < length xs → slice_get (map line_view xs) (k + 1 - 1) ≡ Some (line_view (slice_index_or xs k d))
-line_there xs k d h = let e : k + 1 - 1 ≡ k = omega arith in subst (λ (n : ℕ). slice_get (map line_view xs) n ≡ Some (line_view (slice_index_or xs k d))) (sym e) (there xs k d h)
-  where
-    there : (xs : List Line) (k : ℕ) (d : Line) → k < length xs → slice_get (map line_view xs) k ≡ Some (line_view (slice_index_or xs k d))
-    there [] k d h = absurd (omega arith)
-    there (x ∷ xs) zero d h = refl
-    there (x ∷ xs) (suc k) d h = there xs k d (omega arith)
+pub line_there : (lines : List ScriptLine) (k : ℕ) (line : ScriptLine) → slice_get lines k ≡ Some line → slice_get lines (k + 1 - 1) ≡ Some line
+line_there lines k line h = let e : k + 1 - 1 ≡ k = omega arith in subst (λ (n : ℕ). slice_get lines n ≡ Some line) (sym e) h
 
 pub one_before : (m n : ℕ) → m ≡ n + 1 → n ≡ m - 1
 one_before m n e = omega arith

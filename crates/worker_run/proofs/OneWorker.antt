@@ -19,7 +19,7 @@ use Rattle.script_run.specs.Lines.{EachLine, IsAtLeastEarlier}
 use Rattle.script_run.specs.Kinds.{OneRecordPerLine}
 use Rattle.script_run.specs.Versions.{is_installed, installs, IsAbove, VersionsNumbered, VersionsNeverFall}
 use Rattle.script_run.specs.Moments.{tick_of, moment_after, offer_of, offers, IsTimely, MomentsNeverFall}
-use Rattle.script_run.specs.Charges.{ledger_of, charged_in, ChargesFormLedger, SightsLawful}
+use Rattle.script_run.specs.Charges.{ledger_of, ChargesFormLedger, SightsLawful}
 use Rattle.script_run.specs.Replies.{RepliesByRule}
 use Rattle.script_run.specs.Values.{ValuesNeverFall}
 use Rattle.worker_run.proofs.Places.{all_of_each, at_each, below, front_at, here, of_elem, take_at, take_next, to_elem}

@@ -5,17 +5,16 @@ ghost use Rattle.counter_cells.specs.Steps.{new_passes};
 ghost use Rattle.rate_limiter.specs.Passes.{IsNewPass};
 ghost use Rattle.script_run.specs.Run.{IsRun};
 ghost use Rattle.script_run.specs.Totals.{AreTotalsOf};
-ghost use Rattle.script_run.specs.Views.{line_view};
 ghost use Rattle.worker_run.specs.Clauses.{first_version};
 
 use crate::gate::Gate;
 use crate::running::run_lines;
+use crate::script_lines::ScriptLines;
 use counter_cells::CellNaming;
 use rate_limiter::{Limiter, Pass};
 use rate_types::{OutOfMemory, Seconds};
 use reply_text::Records;
 use rls_core::Totals;
-use script_run::Line;
 use std::alloc::Global;
 use std::sync::Wait;
 use std::thread::Threads;
@@ -29,12 +28,12 @@ pub struct Finished {
 
 /// Runs the lines of a script on all passes of a limiter, which have done nothing yet, each in a thread of its own, and closes the
 /// limiter. The records are those of a lawful run.
-pub fn run_script<N: CellNaming + Send + Sync, G: Gate, R: Threads + Wait + Sync>(
+pub fn run_script<N: CellNaming + Send + Sync, L: ScriptLines, G: Gate, R: Threads + Wait + Sync>(
     rt: &R,
     alloc: Global,
     limiter: Limiter<N>,
     passes: Vec<Pass<N>>,
-    lines: &[Line],
+    lines: &L,
     start: Seconds,
     gate: &G,
 ) -> Result<Finished, OutOfMemory>
@@ -45,10 +44,10 @@ pub fn run_script<N: CellNaming + Send + Sync, G: Gate, R: Threads + Wait + Sync
     requires claims_max { MOST_CLAIMS ≤ limiter.claims_max }
     requires every { vec_len passes ≡ limiter.passes }
     requires workers { (1 ≤ vec_len passes) × (vec_len passes ≤ MOST_WORKERS) }
-    requires lines { length lines.now ≤ MOST_LINES }
+    requires lines { length (L.lines lines.now) ≤ MOST_LINES }
     ensures run { IfOk result (λ f. IsRun (first_version passes.items) (vec_len passes) N.setup.cells start limiter.global_shadow
-        (map line_view lines.now) f.records) }
-    ensures totals { IfOk result (λ f. AreTotalsOf start (map line_view lines.now) f.records f.totals) }
+        (L.lines lines.now) f.records) }
+    ensures totals { IfOk result (λ f. AreTotalsOf start (L.lines lines.now) f.records f.totals) }
 {
     let (records, passes) = run_lines(rt, alloc, &limiter, passes, lines, start, gate)?;
     let closed = limiter.close(alloc, passes)?;

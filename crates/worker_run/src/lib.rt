@@ -1,7 +1,7 @@
 //! Workers that run the lines of a script side by side on one limiter.
 //!
-//! Each [`Worker`] owns a pass and a drawer of line numbers. It draws a line, runs it through its pass, and writes the record
-//! into its own journal, until there are no more lines ([`work`]). A [`Gate`] is told before and after each line.
+//! Each [`Worker`] owns a pass and a drawer of line numbers. It draws a line, reads it ([`ScriptLines`]), runs it through its pass, and
+//! writes the record into its own journal, until there are no more lines ([`work`]). A [`Gate`] is told before and after each line.
 //!
 //! [`run_lines`] runs a worker for each pass, each in a thread of its own where threads can be made, joins them, and puts the
 //! records of all journals in the order of their lines.
@@ -18,9 +18,11 @@ mod finishing;
 mod gate;
 mod lines;
 mod running;
+mod script_lines;
 mod working;
 
 pub use finishing::{Finished, run_script};
 pub use gate::{Gate, Open};
 pub use running::run_lines;
+pub use script_lines::ScriptLines;
 pub use working::{Shared, Worked, Worker, work};

@@ -3,20 +3,20 @@ ghost use Rattle.std.specs.Prelude.{◌≡◌, ◌≤◌, ◌<◌, ◌+◌, ℕ,
 ghost use Rattle.rate_types.specs.declared.limits.TheConstants.{MOST_LINES, MOST_WORKERS};
 ghost use Rattle.rate_limiter.specs.Passes.{bounds_of};
 ghost use Rattle.line_numbers.specs.Drawers.{numbers_id, numbers_of, lines_of, drawers_of, IsFresh};
-ghost use Rattle.script_run.specs.Views.{line_view};
 ghost use Rattle.worker_run.specs.Work.{HaveRun};
 ghost use Rattle.worker_run.specs.Clauses.{AreInOrder};
 ghost use Rattle.std.specs.List.{AllByRecursion};
 ghost use Rattle.worker_run.specs.Parts.{IsReady, IsDone, AreWorkers, AreDone};
 
 use crate::gate::Gate;
+use crate::script_lines::ScriptLines;
 use crate::working::{Shared, Worked, Worker, work};
 use counter_cells::CellNaming;
 use line_numbers::{Drawer, LineNumbers};
 use rate_limiter::{Limiter, Pass};
 use rate_types::{OutOfMemory, Seconds};
 use reply_text::Records;
-use script_run::{Line, merge};
+use script_run::merge;
 use std::alloc::{AllocError, Global};
 use std::sync::Wait;
 use std::thread::{Threads, map_vec};
@@ -55,28 +55,28 @@ fn workers_of<N: CellNaming>(
 }
 
 // Runs each worker in a thread of its own, and joins them.
-fn work_each<N: CellNaming + Send + Sync, G: Gate, R: Threads + Wait + Sync>(
+fn work_each<N: CellNaming + Send + Sync, L: ScriptLines, G: Gate, R: Threads + Wait + Sync>(
     rt: &R,
     alloc: Global,
-    run: &Shared<'_, N, G>,
+    run: &Shared<'_, N, L, G>,
     workers: Vec<Worker<N>>,
 ) -> Result<Vec<Result<Worked<N>, OutOfMemory>>, AllocError>
-    requires lines { (length run.now.lines.now ≤ MOST_LINES) × (lines_of run.now.numbers.now ≡ length run.now.lines.now) }
+    requires lines { (length (L.lines run.now.lines.now) ≤ MOST_LINES) × (lines_of run.now.numbers.now ≡ length (L.lines run.now.lines.now)) }
     requires ready { All (λ w. IsReady run.now.limiter.now.id (numbers_id run.now.numbers.now) w) workers.items }
     ensures len { IfOk result (λ v. vec_len v ≡ vec_len workers) }
     ensures each { IfOk result (λ v. (i : ℕ) (d : _) (e : _) → i < vec_len workers → IfOk (slice_index_or v.items i d)
-        (λ w. IsDone (bounds_of N.setup.cells run.now.limiter.now) run.now.limiter.now run.now.start (map line_view run.now.lines.now)
+        (λ w. IsDone (bounds_of N.setup.cells run.now.limiter.now) run.now.limiter.now run.now.start (L.lines run.now.lines.now)
         (numbers_id run.now.numbers.now) (slice_index_or workers.items i e) w)) }
 {
     map_vec(
         rt,
         workers,
         &|worker: Worker<N>| -> Result<Worked<N>, OutOfMemory>
-            requires { (length run.now.lines.now ≤ MOST_LINES) × (lines_of run.now.numbers.now ≡ length run.now.lines.now)
+            requires { (length (L.lines run.now.lines.now) ≤ MOST_LINES) × (lines_of run.now.numbers.now ≡ length (L.lines run.now.lines.now))
                 × IsReady run.now.limiter.now.id (numbers_id run.now.numbers.now) worker }
             ensures { IfOk result (λ w. IsDone (bounds_of N.setup.cells run.entry.now.limiter.now) run.entry.now.limiter.now
                 run.entry.now.start
-                (map line_view run.entry.now.lines.now) (numbers_id run.entry.now.numbers.now) worker w) }
+                (L.lines run.entry.now.lines.now) (numbers_id run.entry.now.numbers.now) worker w) }
         { work(rt, alloc, run, worker) },
     )
 }
@@ -97,16 +97,16 @@ fn done_all<N: CellNaming>(
 }
 
 // Runs the workers side by side.
-fn work_all<N: CellNaming + Send + Sync, G: Gate, R: Threads + Wait + Sync>(
+fn work_all<N: CellNaming + Send + Sync, L: ScriptLines, G: Gate, R: Threads + Wait + Sync>(
     rt: &R,
     alloc: Global,
-    run: &Shared<'_, N, G>,
+    run: &Shared<'_, N, L, G>,
     workers: Vec<Worker<N>>,
 ) -> Result<Vec<Worked<N>>, OutOfMemory>
-    requires lines { (length run.now.lines.now ≤ MOST_LINES) × (lines_of run.now.numbers.now ≡ length run.now.lines.now) }
+    requires lines { (length (L.lines run.now.lines.now) ≤ MOST_LINES) × (lines_of run.now.numbers.now ≡ length (L.lines run.now.lines.now)) }
     requires ready { AllByRecursion (λ w. IsReady run.now.limiter.now.id (numbers_id run.now.numbers.now) w) workers.items }
     ensures done { IfOk result (λ v. AreDone (bounds_of N.setup.cells run.now.limiter.now) run.now.limiter.now run.now.start
-        (map line_view run.now.lines.now) (numbers_id run.now.numbers.now) workers.items v.items) }
+        (L.lines run.now.lines.now) (numbers_id run.now.numbers.now) workers.items v.items) }
 {
     let done = work_each(rt, alloc, run, workers)?;
     let workers = done_all(alloc, done)?;
@@ -148,25 +148,25 @@ fn parts_of<N: CellNaming>(alloc: Global, workers: Vec<Worked<N>>) -> Result<Par
 
 /// Runs the lines of a script on these passes, each in a thread of its own: the records in the order of the lines, and the passes.
 /// Checks offer `start`, ticks their number.
-pub fn run_lines<N: CellNaming + Send + Sync, G: Gate, R: Threads + Wait + Sync>(
+pub fn run_lines<N: CellNaming + Send + Sync, L: ScriptLines, G: Gate, R: Threads + Wait + Sync>(
     rt: &R,
     alloc: Global,
     limiter: &Limiter<N>,
     passes: Vec<Pass<N>>,
-    lines: &[Line],
+    lines: &L,
     start: Seconds,
     gate: &G,
 ) -> Result<(Records, Vec<Pass<N>>), OutOfMemory>
     requires passes { All (λ p. p.limiter ≡ limiter.now.id) passes.items }
     requires started { All (λ p. start ≤ p.cells.moment) passes.items }
     requires workers { (1 ≤ vec_len passes) × (vec_len passes ≤ MOST_WORKERS) }
-    requires lines { length lines.now ≤ MOST_LINES }
-    ensures run { IfOk result (λ r. HaveRun (bounds_of N.setup.cells limiter.now) limiter.now start (map line_view lines.now) passes.items
+    requires lines { length (L.lines lines.now) ≤ MOST_LINES }
+    ensures run { IfOk result (λ r. HaveRun (bounds_of N.setup.cells limiter.now) limiter.now start (L.lines lines.now) passes.items
         r.1.items r.0) }
-    ensures records { IfOk result (λ r. AreInOrder (vec_len passes) start (map line_view lines.now) r.0) }
+    ensures records { IfOk result (λ r. AreInOrder (vec_len passes) start (L.lines lines.now) r.0) }
     ensures passes { IfOk result (λ r. All (λ p. p.limiter ≡ limiter.now.id) r.1.items) }
 {
-    let count = lines.len() as u32;
+    let count = lines.count();
     let (numbers, drawers) = LineNumbers::make(alloc, u64::from(count), passes.len() as u32)?;
     let workers = workers_of(alloc, limiter, &numbers, passes, drawers)?;
     let run = Shared {

@@ -4,18 +4,18 @@ ghost use Rattle.rate_types.specs.declared.limits.TheConstants.{MOST_LINES};
 ghost use Rattle.descriptor_tree.specs.Trees.{DomainTree};
 ghost use Rattle.rate_limiter.specs.Passes.{bounds_of};
 ghost use Rattle.line_numbers.specs.Drawers.{numbers_id, numbers_of, lines_of, IsFresh};
-ghost use Rattle.script_run.specs.Views.{line_view};
 ghost use Rattle.worker_run.specs.LineSteps.{IsRecordStep};
 ghost use Rattle.worker_run.specs.Journal.{HasWorked};
 
 use crate::gate::Gate;
 use crate::lines::run_line;
+use crate::script_lines::ScriptLines;
 use counter_cells::CellNaming;
+use json::Scratch;
 use line_numbers::{Drawer, LineNumbers};
 use rate_limiter::{Limiter, Pass};
 use rate_types::{OutOfMemory, Seconds};
 use reply_text::{Record, Records};
-use script_run::Line;
 use std::alloc::Global;
 use std::sync::Wait;
 
@@ -36,35 +36,37 @@ pub struct Worked<N: CellNaming> {
 }
 
 /// What all workers of a run share.
-pub struct Shared<'a, N: CellNaming, G: Gate> {
+pub struct Shared<'a, N: CellNaming, L: ScriptLines, G: Gate> {
     pub limiter: &'a Limiter<N>,
     pub numbers: &'a LineNumbers,
-    pub lines: &'a [Line],
+    pub lines: &'a L,
     pub gate: &'a G,
     pub start: Seconds,
 }
 
-// Runs the line with this number, counted from 0, and answers its record.
-fn run_drawn<N: CellNaming, G: Gate, R: Wait>(
+// Reads the line with this number, counted from 0, runs it, and answers its record.
+fn run_drawn<N: CellNaming, L: ScriptLines, G: Gate, R: Wait>(
     rt: &R,
     alloc: Global,
-    run: &Shared<'_, N, G>,
+    run: &Shared<'_, N, L, G>,
     worker: u32,
     pass: &mut Pass<N>,
+    scratch: &mut Scratch,
     number: u64,
 ) -> Result<Record, OutOfMemory>
     requires pass { pass.old.limiter ≡ run.now.limiter.now.id }
-    requires lines { length run.now.lines.now ≤ MOST_LINES }
-    requires number { number < length run.now.lines.now }
+    requires lines { length (L.lines run.now.lines.now) ≤ MOST_LINES }
+    requires number { number < length (L.lines run.now.lines.now) }
     ensures pass { pass.new.limiter ≡ run.now.limiter.now.id }
     ensures line { IfOk result (λ r. r.line ≡ number + 1) }
     ensures step { IfOk result (λ r. IsRecordStep (bounds_of N.setup.cells run.now.limiter.now) run.now.limiter.now run.now.start worker
-        (map line_view run.now.lines.now) pass.old r pass.new) }
+        (L.lines run.now.lines.now) pass.old r pass.new) }
 {
-    let line = &run.lines[number as usize];
+    let index = number as usize;
     let number = number as u32 + 1;
     run.gate.before(worker, number);
-    let outcome = run_line(rt, alloc, run.limiter, pass, line, run.start)?;
+    let line = run.lines.read(alloc, scratch, index)?;
+    let outcome = run_line(rt, alloc, run.limiter, pass, &line, run.start)?;
     let record = Record {
         line: number,
         worker,
@@ -72,33 +74,34 @@ fn run_drawn<N: CellNaming, G: Gate, R: Wait>(
         moment: pass.moment(),
         outcome,
     };
-    run.gate.after(worker, line, &record, pass);
+    run.gate.after(worker, &line, &record, pass);
     Ok(record)
 }
 
 /// Runs the lines that the worker draws, until there are no more.
-pub fn work<N: CellNaming, G: Gate, R: Wait>(
+pub fn work<N: CellNaming, L: ScriptLines, G: Gate, R: Wait>(
     rt: &R,
     alloc: Global,
-    run: &Shared<'_, N, G>,
+    run: &Shared<'_, N, L, G>,
     worker: Worker<N>,
 ) -> Result<Worked<N>, OutOfMemory>
     requires pass { worker.pass.limiter ≡ run.now.limiter.now.id }
     requires drawer { (numbers_of worker.drawer ≡ numbers_id run.now.numbers.now) × IsFresh worker.drawer }
-    requires lines { (length run.now.lines.now ≤ MOST_LINES) × (lines_of run.now.numbers.now ≡ length run.now.lines.now) }
+    requires lines { (length (L.lines run.now.lines.now) ≤ MOST_LINES) × (lines_of run.now.numbers.now ≡ length (L.lines run.now.lines.now)) }
     ensures drawer { IfOk result (λ w. numbers_of w.drawer ≡ numbers_id run.now.numbers.now) }
     ensures worked { IfOk result (λ w. HasWorked (bounds_of N.setup.cells run.now.limiter.now) run.now.limiter.now run.now.start
         worker.number
-        (map line_view run.now.lines.now) worker.pass w.journal w.pass w.drawer) }
+        (L.lines run.now.lines.now) worker.pass w.journal w.pass w.drawer) }
 {
     let Worker {
         number: worker,
         mut pass,
         mut drawer,
     } = worker;
+    let mut scratch = Scratch::new(alloc);
     let mut journal = Records::new(alloc);
     'lines: while let Some(number) = run.numbers.draw(&mut drawer) {
-        let record = run_drawn(rt, alloc, run, worker, &mut pass, number)?;
+        let record = run_drawn(rt, alloc, run, worker, &mut pass, &mut scratch, number)?;
         journal.push(record)?;
     }
     Ok(Worked {

@@ -1,10 +1,9 @@
-use Rattle.std.proofs.Common.{◌≡◌, ◌≤◌, ℕ, List, length, map, sym, ap₂, ◌∙◌, subst, slice_index_or, arith}
+use Rattle.std.proofs.Common.{◌≡◌, ◌≤◌, ℕ, List, length, sym, ap₂, ◌∙◌, subst, slice_index_or, arith}
 use Rattle.std.specs.Arc.{arc_value}
 use Rattle.descriptor_tree.specs.Trees.{DomainTree}
 use Rattle.descriptor_tree.specs.Views.{config_view}
 use Rattle.counter_cells.specs.Steps.{new_passes}
 use Rattle.rate_limiter.specs.Passes.{IsNewPass}
-use Rattle.script_run.specs.Views.{line_view}
 use Rattle.worker_run.specs.Clauses.{first_version}
 use Rattle.drive_run.proofs.Firsts.{first_is, run_of}
 use Rattle.drive_run.proofs.run.drive_on.Goals as goal
@@ -35,5 +34,5 @@ returns-clause-run g c =
     let some : 1 ≤ length ps = omega arith in
     let first : first_version ps ≡ config_view (arc_value c.args.config) = first_is _ _ _ ps some c.in_ok-limiter.ensures.passes in
     run_of (first_version ps) (config_view (arc_value c.args.config)) _ c.args.setup.workers _ c.args.setup.cells c.args.setup.start _ c.args.setup.global_shadow
-    (map line_view c.args.lines.now) c.in_ok-finished.finished.records first (count ∙ workers) c.requires.cells c.in_ok-limiter.ensures.limiter.2
+    (g.L.ScriptLines.lines c.args.lines.now) c.in_ok-finished.finished.records first (count ∙ workers) c.requires.cells c.in_ok-limiter.ensures.limiter.2
     c.in_ok-finished.ensures.run

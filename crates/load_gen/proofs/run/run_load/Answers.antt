@@ -1,31 +1,18 @@
-use Rattle.std.proofs.Common.{◌≡◌, ◌*◌, ◌≤◌, ℕ, List, length, false, map, sym, ap, ◌∙◌, subst, arith}
+use Rattle.std.proofs.Common.{◌≡◌, ◌*◌, ◌≤◌, ℕ, List, length, false, sym, ap, ◌∙◌, subst, arith}
 use Rattle.std.specs.Arc.{arc_value}
-use Rattle.std.proofs.lemmas.List.{length-map}
 use Rattle.rate_types.specs.declared.limits.TheConstants.{MOST_LINES}
 use Rattle.descriptor_tree.specs.Trees.{DomainTree}
 use Rattle.descriptor_tree.specs.Views.{config_view}
 use Rattle.reply_text.specs.declared.record.Record.{Record}
-use Rattle.script_run.specs.ScriptLine.{ScriptLine}
-use Rattle.script_run.specs.Views.{line_view}
 use Rattle.script_run.specs.Run.{IsRun}
-use Rattle.drive_run.specs.Views.{script_view}
 use Rattle.load_gen.specs.Load.{load_config, load_lines}
 use Rattle.load_gen.proofs.Runs.{lines_length}
 use Rattle.load_gen.proofs.run.run_load.Goals as goal
 
-pub of-requires : goal.of-requires
-of-requires g c =
-    let same : length (map line_view c.in_ok-lines.lines.items) ≡ length c.in_ok-lines.lines.items = length-map c.in_ok-lines.lines.items line_view in
-    let many : length (map line_view c.in_ok-lines.lines.items) ≡ c.args.checks =
-    ap length c.in_ok-lines.ensures ∙ lines_length c.args.number c.args.checks in
-    let bound : c.args.checks ≤ MOST_LINES = c.requires.checks in
-    omega (arith, same, many, bound)
-
 pub summary-requires : goal.summary-requires
 summary-requires g c =
-    let script : script_view c.of.result ≡ load_lines c.args.number c.args.checks = c.of.ensures ∙ c.in_ok-lines.ensures in
     let many : length c.in_ok-driven.driven.records ≡ c.args.checks =
-    c.in_ok-driven.ensures.run.one_record_per_line.as_many ∙ ap length script ∙ lines_length c.args.number c.args.checks in
+    c.in_ok-driven.ensures.run.one_record_per_line.as_many ∙ lines_length c.args.number c.args.checks in
     let shown : length c.items.result.now ≡ length c.in_ok-driven.driven.records = ap length c.items.ensures in
     let bound : c.args.checks ≤ MOST_LINES = c.requires.checks in
     omega (arith, many, shown, bound)
@@ -35,16 +22,13 @@ returns g c =
     let n : ℕ = c.args.number in
     let k : ℕ = c.args.checks in
     let w : ℕ = c.args.workers in
-    let script : script_view c.of.result ≡ load_lines n k = c.of.ensures ∙ c.in_ok-lines.ensures in
     let config : config_view (arc_value c.in_ok-config-2.config) ≡ load_config = ap config_view c.in_ok-config-2.ensures.ok ∙ c.in_ok-config.ensures in
-    let first : IsRun (config_view (arc_value c.in_ok-config-2.config)) w (64 * w) c.capped.result false (script_view c.of.result) c.in_ok-driven.driven.records =
+    let first : IsRun (config_view (arc_value c.in_ok-config-2.config)) w (64 * w) c.capped.result false (load_lines n k) c.in_ok-driven.driven.records =
     c.in_ok-driven.ensures.run in
-    let at_start : IsRun (config_view (arc_value c.in_ok-config-2.config)) w (64 * w) 0 false (script_view c.of.result) c.in_ok-driven.driven.records =
-    subst (λ (s : ℕ). IsRun (config_view (arc_value c.in_ok-config-2.config)) w (64 * w) s false (script_view c.of.result) c.in_ok-driven.driven.records) c.capped.ensures first in
-    let of_lines : IsRun (config_view (arc_value c.in_ok-config-2.config)) w (64 * w) 0 false (load_lines n k) c.in_ok-driven.driven.records =
-    subst (λ (ls : List ScriptLine). IsRun (config_view (arc_value c.in_ok-config-2.config)) w (64 * w) 0 false ls c.in_ok-driven.driven.records) script at_start in
+    let at_start : IsRun (config_view (arc_value c.in_ok-config-2.config)) w (64 * w) 0 false (load_lines n k) c.in_ok-driven.driven.records =
+    subst (λ (s : ℕ). IsRun (config_view (arc_value c.in_ok-config-2.config)) w (64 * w) s false (load_lines n k) c.in_ok-driven.driven.records) c.capped.ensures first in
     let by_config : IsRun load_config w (64 * w) 0 false (load_lines n k) c.in_ok-driven.driven.records =
-    subst (λ (trees : List DomainTree). IsRun trees w (64 * w) 0 false (load_lines n k) c.in_ok-driven.driven.records) config of_lines in
+    subst (λ (trees : List DomainTree). IsRun trees w (64 * w) 0 false (load_lines n k) c.in_ok-driven.driven.records) config at_start in
     let run : IsRun load_config w (64 * w) 0 false (load_lines n k) c.items.result.now =
     subst (λ (rs : List Record). IsRun load_config w (64 * w) 0 false (load_lines n k) rs) (sym c.items.ensures) by_config in
     c.in_ok-text.ensures.same n k w (64 * w) (omega arith) run

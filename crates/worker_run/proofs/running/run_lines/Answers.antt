@@ -8,7 +8,6 @@ use Rattle.line_numbers.specs.declared.drawer.Drawer.{Drawer}
 use Rattle.rate_limiter.specs.Passes.{bounds_of, PassView}
 use Rattle.reply_text.specs.declared.record.Record.{Record}
 use Rattle.script_run.specs.Merged.{joined, EachLineOnce, Merges}
-use Rattle.script_run.specs.Views.{line_view}
 use Rattle.worker_run.specs.Work.{HaveRun}
 use Rattle.worker_run.specs.Clauses.{AreInOrder}
 use Rattle.worker_run.proofs.Clauses.{ordered}
@@ -43,7 +42,6 @@ merge-requires g c =
     let vs = c.in_ok-done.field-0.items in
     let done = c.in_ok-done.ensures.done in
     let drawers = c.in_ok-passes.ensures.drawers in
-    let long : length (map line_view c.args.lines.now) ≡ length c.args.lines.now = length-map c.args.lines.now line_view in
     let some_worker : 1 ≤ length ws =
     let e = ap length c.in_ok-workers.ensures.passes in
     let f = length-map ws (λ w. w.pass) in
@@ -54,24 +52,23 @@ merge-requires g c =
     (subst (λ l. All (λ (d : Drawer). is_told d ≡ true → c.close.result ≡ lines_of c.in_ok-numbers.numbers) l) drawers c.close.ensures.whole) in
     let made = c.in_ok-numbers.ensures.numbers.0 in
     let from = c.from.ensures in
-    let count : c.close.result ≡ length (map line_view c.args.lines.now) = omega (arith, c.len.ensures) in
-    let once = lines_once _ _ _ (map line_view c.args.lines.now) _ ws vs c.close.result done count
+    let count : c.close.result ≡ length (g.L.ScriptLines.lines c.args.lines.now) = omega (arith, c.count-count.ensures.all) in
+    let once = lines_once _ _ _ (g.L.ScriptLines.lines c.args.lines.now) _ ws vs c.close.result done count
     (λ n. subst (λ (l : List Drawer). IsDrawnOnce c.close.result n (total (λ (d : Drawer). times n (drawn d)) l)) drawers (c.close.ensures.once n)) in
     record {
-      once = subst (λ (l : List (List Record)). EachLineOnce (length c.args.lines.now) (joined l)) (sym c.in_ok-passes.ensures.journals)
-          (subst (λ (n : ℕ). EachLineOnce n (joined (map (λ v. v.journal) vs))) long once);
+      once = subst (λ (l : List (List Record)). EachLineOnce c.count-count.result (joined l)) (sym c.in_ok-passes.ensures.journals)
+          (subst (λ (n : ℕ). EachLineOnce n (joined (map (λ v. v.journal) vs))) (sym c.count-count.ensures.all) once);
     }
 
 pub returns-clause-run : goal.returns-clause-run
 returns-clause-run g c =
     let ws = c.in_ok-workers.workers.items in
     let vs = c.in_ok-done.field-0.items in
-    let long : length c.args.lines.now ≡ length (map line_view c.args.lines.now) = sym (length-map c.args.lines.now line_view) in
-    let merged : Merges (length (map line_view c.args.lines.now)) (map (λ v. v.journal) vs) c.in_ok-records.records =
-    subst (λ (n : ℕ). Merges n (map (λ v. v.journal) vs) c.in_ok-records.records) long
-    (subst (λ (l : List (List Record)). Merges (length c.args.lines.now) l c.in_ok-records.records) c.in_ok-passes.ensures.journals c.in_ok-records.ensures.merged) in
+    let merged : Merges (length (g.L.ScriptLines.lines c.args.lines.now)) (map (λ v. v.journal) vs) c.in_ok-records.records =
+    subst (λ (n : ℕ). Merges n (map (λ v. v.journal) vs) c.in_ok-records.records) c.count-count.ensures.all
+    (subst (λ (l : List (List Record)). Merges c.count-count.result l c.in_ok-records.records) c.in_ok-passes.ensures.journals c.in_ok-records.ensures.merged) in
     let b = bounds_of g.N.CellNaming.setup.cells c.args.limiter.now in
-    let ls = map line_view c.args.lines.now in
+    let ls = g.L.ScriptLines.lines c.args.lines.now in
     subst (λ (l : List PassView). HaveRun b c.args.limiter.now c.args.start ls c.args.passes.items l c.in_ok-records.records) (sym c.in_ok-passes.ensures.passes)
     (subst (λ (l : List PassView). HaveRun b c.args.limiter.now c.args.start ls l (map (λ v. v.pass) vs) c.in_ok-records.records) c.in_ok-workers.ensures.passes
     (have_run b c.args.limiter.now c.args.start ls (numbers_id c.in_ok-numbers.numbers) ws vs c.in_ok-records.records c.in_ok-workers.ensures.workers c.in_ok-done.ensures.done
@@ -79,8 +76,8 @@ returns-clause-run g c =
 
 pub returns-clause-records : goal.returns-clause-records
 returns-clause-records g c =
-    subst (λ (n : ℕ). AreInOrder n c.args.start (map line_view c.args.lines.now) c.in_ok-records.records) (sym c.args.passes.ok.0)
-    (ordered (bounds_of g.N.CellNaming.setup.cells c.args.limiter.now) c.args.limiter.now c.args.start (map line_view c.args.lines.now) c.args.passes.items
+    subst (λ (n : ℕ). AreInOrder n c.args.start (g.L.ScriptLines.lines c.args.lines.now) c.in_ok-records.records) (sym c.args.passes.ok.0)
+    (ordered (bounds_of g.N.CellNaming.setup.cells c.args.limiter.now) c.args.limiter.now c.args.start (g.L.ScriptLines.lines c.args.lines.now) c.args.passes.items
     c.in_ok-passes.field-0.passes.items c.in_ok-records.records (returns-clause-run g c)
     (index_all (λ (p : PassView). c.args.start ≤ p.cells.moment) c.args.passes.items c.requires.started))
 

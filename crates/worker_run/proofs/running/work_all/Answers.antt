@@ -1,8 +1,7 @@
-use Rattle.std.proofs.Common.{length, map, Ok, sym, ap, ◌∙◌, arith}
+use Rattle.std.proofs.Common.{length, Ok, sym, ap, ◌∙◌, arith}
 use Rattle.std.proofs.lemmas.List.{length-map}
 use Rattle.line_numbers.specs.Drawers.{numbers_id}
 use Rattle.rate_limiter.specs.Passes.{bounds_of}
-use Rattle.script_run.specs.Views.{line_view}
 use Rattle.worker_run.specs.Parts.{IsReady}
 use Rattle.worker_run.proofs.Gathering.{all_index, all_done}
 use Rattle.worker_run.proofs.running.work_all.Goals as goal
@@ -19,6 +18,6 @@ returns g c =
     let rs = c.in_ok-done.done.items in
     let many = sym (length-map vs Ok) ∙ ap length c.in_ok-workers.ensures.same ∙ sym c.in_ok-done.done.ok.0 ∙ c.in_ok-done.ensures.len ∙ c.args.workers.ok.0 in
     record {
-      done = all_done (bounds_of g.N.CellNaming.setup.cells run.limiter.now) run.limiter.now run.start (map line_view run.lines.now) (numbers_id run.numbers.now) ws vs rs
+      done = all_done (bounds_of g.N.CellNaming.setup.cells run.limiter.now) run.limiter.now run.start (g.L.ScriptLines.lines run.lines.now) (numbers_id run.numbers.now) ws vs rs
           c.in_ok-workers.ensures.same many (λ i d e lt. c.in_ok-done.ensures.each i d e (omega (arith, lt, c.args.workers.ok.0)));
     }

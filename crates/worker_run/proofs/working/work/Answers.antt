@@ -1,7 +1,6 @@
 use Rattle.std.proofs.Common.{◌≡◌, ◌-◌, ◌+◌, ◌<◌, ◌∷◌, [], ◌++◌, All, ap, ◌∙◌, sym, arith, subst, map, length, length-append}
 use Rattle.line_numbers.specs.Drawers.{drawn}
 use Rattle.rate_limiter.specs.Passes.{bounds_of}
-use Rattle.script_run.specs.Views.{line_view}
 use Rattle.worker_run.specs.Journal.{Journal}
 use Rattle.worker_run.proofs.Journals.{journal_push, last_of, rising_length, map_push, one_before}
 use Rattle.worker_run.proofs.working.work.Goals as goal
@@ -9,15 +8,15 @@ use Rattle.worker_run.proofs.working.work.Goals as goal
 pub run_drawn-requires-clause-number : goal.run_drawn-requires-clause-number
 run_drawn-requires-clause-number g c κs within =
     let e = c.in-Some.ensures in
-    let below : All (λ x. x < length c.args.run.now.lines.now) (drawn c.draw.new.drawer) = subst (λ n. All (λ x. x < n) (drawn c.draw.new.drawer)) c.requires.lines.1 e.below in
-    last_of (λ x. x < length c.args.run.now.lines.now) (drawn c.lines.drawer) c.in-Some.number
-    (subst (All (λ x. x < length c.args.run.now.lines.now)) e.drawn below)
+    let below : All (λ x. x < length (g.L.ScriptLines.lines c.args.run.now.lines.now)) (drawn c.draw.new.drawer) = subst (λ n. All (λ x. x < n) (drawn c.draw.new.drawer)) c.requires.lines.1 e.below in
+    last_of (λ x. x < length (g.L.ScriptLines.lines c.args.run.now.lines.now)) (drawn c.lines.drawer) c.in-Some.number
+    (subst (All (λ x. x < length (g.L.ScriptLines.lines c.args.run.now.lines.now))) e.drawn below)
 
 pub lines-smaller : goal.lines-smaller
 lines-smaller g c =
     let e = c.draw.ensures in
-    let below : All (λ x. x < length c.args.run.now.lines.now) (drawn c.draw.new.drawer) = subst (λ n. All (λ x. x < n) (drawn c.draw.new.drawer)) c.requires.lines.1 e.below in
-    let few = rising_length (drawn c.draw.new.drawer) (length c.args.run.now.lines.now) e.rising below in
+    let below : All (λ x. x < length (g.L.ScriptLines.lines c.args.run.now.lines.now)) (drawn c.draw.new.drawer) = subst (λ n. All (λ x. x < n) (drawn c.draw.new.drawer)) c.requires.lines.1 e.below in
+    let few = rising_length (drawn c.draw.new.drawer) (length (g.L.ScriptLines.lines c.args.run.now.lines.now)) e.rising below in
     let more = ap length c.in-Some.ensures.drawn in
     omega (arith, length-append (drawn c.lines.drawer) (c.in-Some.number ∷ []))
 
@@ -31,7 +30,7 @@ lines-preserved g c =
       here = c.draw.ensures.drawer ∙ inv.here;
       same = c.in_ok-record.ensures.pass;
       journal = subst (λ l. Journal (bounds_of g.N.CellNaming.setup.cells c.args.run.now.limiter.now) c.args.run.now.limiter.now c.args.run.now.start c.args.worker.number
-          (map line_view c.args.run.now.lines.now) c.args.worker.pass l c.run_drawn.new.pass) (sym is)
+          (g.L.ScriptLines.lines c.args.run.now.lines.now) c.args.worker.pass l c.run_drawn.new.pass) (sym is)
           (journal_push _ _ _ _ _ c.args.worker.pass c.lines.journal c.lines.pass r c.run_drawn.new.pass inv.journal c.in_ok-record.ensures.step);
       drawn = c.in-Some.ensures.drawn ∙ ap (λ l. l ++ c.in-Some.number ∷ []) inv.drawn ∙ ap (λ n. map (λ x. x.line - 1) c.lines.journal ++ n ∷ [])
           (one_before r.line c.in-Some.number number)

@@ -2,7 +2,6 @@ use Rattle.std.proofs.Common.{◌≡◌, ◌+◌, ◌++◌, length, map, ap, sym
 use Rattle.std.proofs.lemmas.List.{length-map}
 use Rattle.text_lines.specs.Lines.{cut}
 use Rattle.drive_run.specs.Script.{line_of}
-use Rattle.script_run.specs.Views.{line_view}
 use Rattle.drive_run.specs.Views.{script_view}
 use Rattle.text_lines.proofs.Cutting.{cut_some, cut_none}
 use Rattle.drive_run.proofs.script.Script.read.Goals as goal
@@ -16,7 +15,7 @@ returns-then-len-clause-more c = λ n is.
 
 pub returns-clause-script : goal.returns-clause-script
 unfolding script_view
-returns-clause-script c = sym (append-nil (map line_view c.lines.lines.items))
-    ∙ ap (λ l. map line_view c.lines.lines.items ++ l)
+returns-clause-script c = sym (append-nil (map (λ line. line_of line.now) c.lines.lines.items))
+    ∙ ap (λ l. map (λ line. line_of line.now) c.lines.lines.items ++ l)
     (sym (ap (map line_of) (cut_none c.lines.rest.now (omega (arith, c.lines-test.false)))))
     ∙ c.lines.invariant.read

@@ -1,4 +1,4 @@
-use Rattle.std.proofs.Common.{◌≡◌, List, ap, ap₂, ◌∙◌, subst}
+use Rattle.std.proofs.Common.{◌≡◌, List, ap, ◌∙◌, subst}
 use Rattle.std.specs.Arc.{arc_value}
 use Rattle.descriptor_tree.specs.Trees.{DomainTree}
 use Rattle.descriptor_tree.specs.Views.{config_view}
@@ -8,7 +8,7 @@ use Rattle.drive_run.specs.Views.{script_view}
 use Rattle.script_run.specs.Run.{IsRun}
 use Rattle.script_run.specs.Totals.{AreTotalsOf}
 use Rattle.ratelimit_cli.specs.Output.{lines_of}
-use Rattle.ratelimit_cli.proofs.making.run_lines.Goals as goal
+use Rattle.ratelimit_cli.proofs.making.driven_lines.Goals as goal
 
 pub returns : goal.returns
 returns g c =
@@ -26,5 +26,5 @@ returns g c =
           c.in_ok-driven.driven.records) config by_script;
       sums = subst (λ (ls : List ScriptLine). AreTotalsOf c.args.setup.start ls c.in_ok-driven.driven.records c.in_ok-driven.driven.totals) script
           c.in_ok-driven.ensures.totals;
-      texts = c.in_ok-lines.ensures ∙ ap₂ lines_of c.items.ensures c.items-2.ensures;
+      texts = c.in_ok-lines.ensures ∙ ap (lines_of c.in_ok-driven.driven.records) c.items.ensures;
     }
