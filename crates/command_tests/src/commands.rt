@@ -62,6 +62,27 @@ const NONE: Failing = Failing {
     write: 0,
 };
 
+// The second call for a file fails.
+const SECOND_FILE: Failing = Failing {
+    file: 2,
+    read: 0,
+    write: 0,
+};
+
+// The first read fails.
+const FIRST_READ: Failing = Failing {
+    file: 0,
+    read: 1,
+    write: 0,
+};
+
+// The first call of the sink fails.
+const FIRST_WRITE: Failing = Failing {
+    file: 0,
+    read: 0,
+    write: 1,
+};
+
 fn word(alloc: Global, text: &str) -> Result<Word, Fail> {
     Ok(Word::of(String::from_str(alloc, text)?))
 }
@@ -150,6 +171,43 @@ fn said_to<R: Threads + Wait + RandomSource + Sync, G: Gate>(
     )
 }
 
+fn names_of(alloc: Global, words: &[&str]) -> Result<Names, Fail> {
+    let mut names = Vec::new(alloc);
+    for text in words {
+        names.push(word(alloc, text)?)?;
+    }
+    Ok(Names::of(names))
+}
+
+// Files with the names a, b and c and these contents, of which the call of a number fails.
+fn files_of(alloc: Global, contents: &[&str], failing: u64) -> Result<MemFiles, Fail> {
+    let mut files = Vec::new(alloc);
+    for (name, content) in ["a", "b", "c"].iter().zip(contents) {
+        files.push(MemFile {
+            name: word(alloc, name)?,
+            content: blob(alloc, content)?,
+        })?;
+    }
+    Ok(MemFiles::new(files, numbers(alloc, failing)?))
+}
+
+fn source_of(alloc: Global, script: &str, failing: u64) -> Result<MemSource, Fail> {
+    let bytes = Vec::from_slice(alloc, script.as_bytes())?;
+    Ok(MemSource::new(bytes, numbers(alloc, failing)?))
+}
+
+fn sink_of(alloc: Global, failing: u64) -> Result<MemSink, Fail> {
+    Ok(MemSink::new(alloc, numbers(alloc, failing)?))
+}
+
+// The exit, and behind it what was written.
+fn exit_and_output(alloc: Global, exit: &Exit, written: &[u8]) -> Result<String, Fail> {
+    let mut text = exit_text(alloc, exit)?;
+    text.push('\n')?;
+    text.push_str(str::from_utf8(written).unwrap_or("no UTF-8"))?;
+    Ok(text)
+}
+
 // The same over a listener, where the clock says 65.
 fn said_over<R: Threads + Wait + RandomSource + Sync, L: Listen, G: Gate>(
     rt: &R,
@@ -165,26 +223,16 @@ where
     L::Link: Send,
     requires { L.history listen.old ≡ [] }
 {
-    let mut names = Vec::new(alloc);
-    for text in words {
-        names.push(word(alloc, text)?)?;
-    }
-    let mut files = Vec::new(alloc);
-    for (name, content) in ["a", "b", "c"].iter().zip(contents) {
-        files.push(MemFile {
-            name: word(alloc, name)?,
-            content: blob(alloc, content)?,
-        })?;
-    }
-    let bytes = Vec::from_slice(alloc, script.as_bytes())?;
-    let mut files = MemFiles::new(files, numbers(alloc, failing.file)?);
-    let mut source = MemSource::new(bytes, numbers(alloc, failing.read)?);
-    let mut sink = MemSink::new(alloc, numbers(alloc, failing.write)?);
+    let seed = RandomState::new(rt)?;
+    let names = names_of(alloc, words)?;
+    let mut files = files_of(alloc, contents, failing.file)?;
+    let mut source = source_of(alloc, script, failing.read)?;
+    let mut sink = sink_of(alloc, failing.write)?;
     let exit = ratelimit(
         rt,
         alloc,
-        RandomState::new(rt)?,
-        &Names::of(names),
+        seed,
+        &names,
         &mut files,
         &mut source,
         &mut sink,
@@ -192,16 +240,12 @@ where
         &FixedClock { seconds: 65 },
         gate,
     );
-    let mut text = exit_text(alloc, &exit)?;
-    text.push('\n')?;
-    text.push_str(str::from_utf8(sink.bytes()).unwrap_or("no UTF-8"))?;
-    Ok(text)
+    exit_and_output(alloc, &exit, sink.bytes())
 }
 
 #[test]
 fn scripts_are_answered(rt: HostRuntime) -> Result<(), Fail> {
-    let alloc = rt.alloc();
-    let rows: [(&str, &[&str], &[&str]); 7] = [
+    const ROWS: &[(&str, &[&str], &[&str])] = &[
         (A, &[], &[]),
         (
             A,
@@ -255,7 +299,8 @@ fn scripts_are_answered(rt: HostRuntime) -> Result<(), Fail> {
             ],
         ),
     ];
-    for (config, script, want) in rows {
+    let alloc = rt.alloc();
+    for &(config, script, want) in ROWS {
         let script = joined(alloc, script)?;
         let mut text = String::from_str(alloc, "done\n")?;
         text.push_str(joined(alloc, want)?.as_str())?;
@@ -278,26 +323,28 @@ fn scripts_are_answered(rt: HostRuntime) -> Result<(), Fail> {
 
 #[test]
 fn each_exit_has_its_cause(rt: HostRuntime) -> Result<(), Fail> {
-    let alloc = rt.alloc();
-    let file = Failing { file: 2, ..NONE };
-    let read = Failing { read: 1, ..NONE };
-    let rows: [(&[&str], &[&str], Failing, &str); 9] = [
+    const ROWS: &[(&[&str], &[&str], Failing, &str)] = &[
         (&[], &[A], NONE, "usage\n"),
         (&["drive"], &[A], NONE, "usage\n"),
         (&["drive", "-a"], &[A], NONE, "usage\n"),
         (&["drive", "b"], &[A], NONE, "file 0: fault\n"),
-        (&["drive", "a", "b"], &[A, DOMAIN], file, "file 1: fault\n"),
+        (
+            &["drive", "a", "b"],
+            &[A, DOMAIN],
+            SECOND_FILE,
+            "file 1: fault\n",
+        ),
         (&["drive", "a", "b"], &[A, DOMAIN], NONE, "file 1: 11 at \n"),
         (&["drive", "a", "b"], &[DOMAIN, NESTED], NONE, "done\n"),
         (
             &["drive", "a"],
             &[KEYLESS],
-            read,
+            FIRST_READ,
             "file 0: 12 at /descriptors/0\n",
         ),
-        (&["drive", "a"], &[A], read, "read fault\n"),
+        (&["drive", "a"], &[A], FIRST_READ, "read fault\n"),
     ];
-    for (words, files, failing, want) in rows {
+    for &(words, files, failing, want) in ROWS {
         assert_eq!(rt;
             said(&rt, rt.alloc(), words, files, "", failing)?.as_str(),
             want

@@ -1,5 +1,5 @@
 // `audit`: printed runs and the verdicts on them.
-use super::{A, CHECK_A, Failing, KEYLESS, NONE, joined, said};
+use super::{A, CHECK_A, FIRST_READ, FIRST_WRITE, Failing, KEYLESS, NONE, joined, said};
 use std::test::Fail;
 
 const TICK: &str = r#"{"tick":65}"#;
@@ -27,8 +27,7 @@ const TOTAL_3: &str =
 
 #[test]
 fn printed_runs_are_judged(rt: HostRuntime) -> Result<(), Fail> {
-    let alloc = rt.alloc();
-    let rows: [(&[&str], &[&str], &str); 3] = [
+    const ROWS: &[(&[&str], &[&str], &str)] = &[
         (&[], &[], "done\n{\"lawful\":true,\"records\":0}\n"),
         (
             &[TICK, CHECK_A],
@@ -41,7 +40,8 @@ fn printed_runs_are_judged(rt: HostRuntime) -> Result<(), Fail> {
             "done\n{\"clause\":6,\"lawful\":false}\n",
         ),
     ];
-    for (script, run, want) in rows {
+    let alloc = rt.alloc();
+    for &(script, run, want) in ROWS {
         let script = joined(alloc, script)?;
         let run = joined(alloc, run)?;
         let files = [A, run.as_str()];
@@ -56,11 +56,8 @@ fn printed_runs_are_judged(rt: HostRuntime) -> Result<(), Fail> {
 
 #[test]
 fn each_exit_of_audit_has_its_cause(rt: HostRuntime) -> Result<(), Fail> {
-    let alloc = rt.alloc();
-    let read = Failing { read: 1, ..NONE };
-    let write = Failing { write: 1, ..NONE };
-    let wrong = "done\n{\"lawful\":false,\"line\":1}\n";
-    let rows: [(&[&str], &[&str], Failing, &str); 9] = [
+    const WRONG: &str = "done\n{\"lawful\":false,\"line\":1}\n";
+    const ROWS: &[(&[&str], &[&str], Failing, &str)] = &[
         (&["audit", "a"], &[A], NONE, "usage\n"),
         (&["audit", "--run", "b"], &[A, ""], NONE, "usage\n"),
         (
@@ -72,29 +69,29 @@ fn each_exit_of_audit_has_its_cause(rt: HostRuntime) -> Result<(), Fail> {
         (
             &["audit", "--run", "b", "a"],
             &[KEYLESS],
-            read,
+            FIRST_READ,
             "file 1: fault\n",
         ),
         (
             &["audit", "--run", "b", "a"],
             &[KEYLESS, ""],
-            read,
+            FIRST_READ,
             "file 0: 12 at /descriptors/0\n",
         ),
         (
             &["audit", "--run", "b", "a"],
             &[A, ""],
-            read,
+            FIRST_READ,
             "read fault\n",
         ),
         (
             &["audit", "--run", "b", "a"],
             &[A, ""],
-            write,
+            FIRST_WRITE,
             "write fault\n",
         ),
         // A record without its line feed, and a line that is neither record nor total.
-        (&["audit", "--run", "b", "a"], &[A, TICKED], NONE, wrong),
+        (&["audit", "--run", "b", "a"], &[A, TICKED], NONE, WRONG),
         (
             &[
                 "audit",
@@ -107,10 +104,11 @@ fn each_exit_of_audit_has_its_cause(rt: HostRuntime) -> Result<(), Fail> {
             ],
             &[A, "x\n"],
             NONE,
-            wrong,
+            WRONG,
         ),
     ];
-    for (words, files, failing, want) in rows {
+    let alloc = rt.alloc();
+    for &(words, files, failing, want) in ROWS {
         assert_eq!(rt; said(&rt, alloc, words, files, "", failing)?.as_str(), want);
     }
     Ok(())

@@ -6,7 +6,7 @@ const SERVE: &[&str] = &["serve", "--port", "7", "--connections", "0", "a"];
 // The call of the sink with this number is a flush, and it fails; with 0 none does.
 #[test]
 fn a_failed_flush_is_a_write_fault(rt: HostRuntime) -> Result<(), Fail> {
-    let rows: [(&[&str], u64, &str); 8] = [
+    const ROWS: &[(&[&str], u64, &str)] = &[
         (&["--version"], 2, "write fault\nratelimit 0.1.0\n"),
         (&["drive", "a"], 1, "write fault\n"),
         (&["lookup", "a"], 1, "write fault\n"),
@@ -24,7 +24,7 @@ fn a_failed_flush_is_a_write_fault(rt: HostRuntime) -> Result<(), Fail> {
         (SERVE, 3, "write fault\n{\"listening\":7}\n"),
         (SERVE, 0, "done\n{\"listening\":7}\n"),
     ];
-    for (words, number, want) in rows {
+    for &(words, number, want) in ROWS {
         let failing = Failing {
             write: number,
             ..NONE

@@ -45,7 +45,7 @@ fn lines_are_refused_by_number(rt: HostRuntime) -> Result<(), Fail> {
 
 #[test]
 fn the_greatest_tick_and_a_name_given_twice_are_read(rt: HostRuntime) -> Result<(), Fail> {
-    let rows = [
+    const ROWS: &[(&str, &str)] = &[
         (
             "{\"tick\":1000000000000}",
             "done\n{\"line\":1,\"moment\":1000000000000,\"ticked\":1000000000000,\"version\":0,\"worker\":0}\n",
@@ -55,7 +55,7 @@ fn the_greatest_tick_and_a_name_given_twice_are_read(rt: HostRuntime) -> Result<
             "done\n{\"line\":1,\"moment\":7,\"ticked\":7,\"version\":0,\"worker\":0}\n",
         ),
     ];
-    for (line, want) in rows {
+    for &(line, want) in ROWS {
         let answer = said(&rt, rt.alloc(), &["drive", "a"], &[A], line, NONE)?;
         assert_eq!(rt; answer.as_str(), want, "at {line}");
     }

@@ -1,5 +1,5 @@
 // `pool`: recorded reports and how a quota server answers them.
-use super::{Failing, NONE, said};
+use super::{FIRST_WRITE, Failing, NONE, SECOND_FILE, said};
 use std::alloc::Global;
 use std::test::Fail;
 
@@ -30,18 +30,18 @@ fn answer(alloc: Global, line: u32, at: &str, client: &str, count: &str) -> Resu
 
 #[test]
 fn clients_share_a_pool(rt: HostRuntime) -> Result<(), Fail> {
-    let alloc = rt.alloc();
-    let rows = [
+    const ROWS: &[(&str, &str, &str)] = &[
         ("0s", "c1", r#""requestsPerTimeUnit":"10","#),
         ("1s", "c2", ""),
         ("6s", "c1", r#""requestsPerTimeUnit":"5","#),
         ("8s", "c2", ""),
         ("11s", "c2", r#""requestsPerTimeUnit":"5","#),
     ];
+    let alloc = rt.alloc();
     let mut events = String::new(alloc);
     let mut want = String::from_str(alloc, "done\n")?;
     let mut line = 0u32;
-    for (at, client, count) in rows {
+    for &(at, client, count) in ROWS {
         line = line.saturating_add(1);
         events.push_str(report(alloc, at, client)?.as_str())?;
         events.push('\n')?;
@@ -88,10 +88,7 @@ fn refused_lines_change_nothing(rt: HostRuntime) -> Result<(), Fail> {
 
 #[test]
 fn each_exit_of_pool_has_its_cause(rt: HostRuntime) -> Result<(), Fail> {
-    let alloc = rt.alloc();
-    let write = Failing { write: 1, ..NONE };
-    let file = Failing { file: 2, ..NONE };
-    let rows: [(&[&str], &str, Failing, &str); 6] = [
+    const ROWS: &[(&[&str], &str, Failing, &str)] = &[
         (&["pool", "b"], POOLS, NONE, "usage\n"),
         (&["pool", "--pools", "a"], POOLS, NONE, "usage\n"),
         (&["pool", "--pools=a", "b", "c"], POOLS, NONE, "usage\n"),
@@ -104,17 +101,18 @@ fn each_exit_of_pool_has_its_cause(rt: HostRuntime) -> Result<(), Fail> {
         (
             &["pool", "--pools", "a", "b"],
             POOLS,
-            file,
+            SECOND_FILE,
             "file 1: fault\n",
         ),
         (
             &["pool", "b", "--pools", "a"],
             POOLS,
-            write,
+            FIRST_WRITE,
             "write fault\n",
         ),
     ];
-    for (words, pools, failing, want) in rows {
+    let alloc = rt.alloc();
+    for &(words, pools, failing, want) in ROWS {
         let files = [pools, EVENT];
         assert_eq!(rt;
             said(&rt, alloc, words, &files, "", failing)?.as_str(),

@@ -1,5 +1,5 @@
 // `quota`: recorded streams and what comes of them.
-use super::{Failing, NONE, joined, said};
+use super::{Failing, NONE, SECOND_FILE, joined, said};
 use std::alloc::Global;
 use std::test::Fail;
 
@@ -185,54 +185,55 @@ fn streams_follow_one_another_whatever_the_workers(rt: HostRuntime) -> Result<()
     Ok(())
 }
 
+// A row with no files of its own has the settings and a stream.
 #[test]
 fn each_exit_of_quota_has_its_cause(rt: HostRuntime) -> Result<(), Fail> {
-    let alloc = rt.alloc();
-    let stream = lost(alloc)?;
-    let files = [SETTINGS, stream.as_str()];
-    let second = Failing { file: 2, ..NONE };
-    let rows: [(&[&str], &[&str], Failing, &str); 9] = [
-        (&["quota"], &files, NONE, "usage\n"),
-        (&["quota", "--settings", "a"], &files, NONE, "usage\n"),
-        (&["quota", "b"], &files, NONE, "usage\n"),
+    const ROWS: &[(&[&str], Option<&[&str]>, Failing, &str)] = &[
+        (&["quota"], None, NONE, "usage\n"),
+        (&["quota", "--settings", "a"], None, NONE, "usage\n"),
+        (&["quota", "b"], None, NONE, "usage\n"),
         (
             &["quota", "--settings", "a", "--workers", "0", "b"],
-            &files,
+            None,
             NONE,
             "usage\n",
         ),
         (
             &["quota", "--settings", "a", "--workers", "65", "b"],
-            &files,
+            None,
             NONE,
             "usage\n",
         ),
         (
             &["quota", "--settings", "a", "b"],
-            &[REFUSED, ""],
+            Some(&[REFUSED, ""]),
             NONE,
             "settings: 31 at /buckets/0\n",
         ),
         (
             &["quota", "--settings", "x", "b"],
-            &files,
+            None,
             NONE,
             "file 0: fault\n",
         ),
         (
             &["quota", "--settings", "a", "b"],
-            &files,
-            second,
+            None,
+            SECOND_FILE,
             "file 1: fault\n",
         ),
         (
             &["quota", "--settings", "a", "b", "c"],
-            &[REFUSED, "", ""],
-            second,
+            Some(&[REFUSED, "", ""]),
+            SECOND_FILE,
             "file 1: fault\n",
         ),
     ];
-    for (words, files, failing, want) in rows {
+    let alloc = rt.alloc();
+    let stream = lost(alloc)?;
+    for &(words, own, failing, want) in ROWS {
+        let both = [SETTINGS, stream.as_str()];
+        let files = own.unwrap_or(&both);
         assert_eq!(rt; said(&rt, alloc, words, files, "", failing)?.as_str(), want);
     }
     Ok(())

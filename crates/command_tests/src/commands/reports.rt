@@ -51,8 +51,7 @@ fn each_exit_has_its_status_and_its_line(rt: HostRuntime) -> Result<(), Fail> {
 
 #[test]
 fn control_characters_of_a_place_are_escaped(rt: HostRuntime) -> Result<(), Fail> {
-    let alloc = rt.alloc();
-    let rows = [
+    const ROWS: &[(&str, &str)] = &[
         ("a b", "2 ratelimit: config 1: refused 3 at /a b"),
         (
             "a\nb\u{1b}[1m",
@@ -63,7 +62,8 @@ fn control_characters_of_a_place_are_escaped(rt: HostRuntime) -> Result<(), Fail
             "2 ratelimit: config 1: refused 3 at /\\u007f\\u009f\u{a0}\u{e9}",
         ),
     ];
-    for (name, want) in rows {
+    let alloc = rt.alloc();
+    for &(name, want) in ROWS {
         let exit = refused(alloc, name)?;
         let found = report(alloc, &exit)?;
         assert_eq!(rt; found.as_str(), want);

@@ -164,9 +164,7 @@ fn each_call_of_the_listener_can_fail(rt: HostRuntime) -> Result<(), Fail> {
 // The counter of the first check has the one cell, and the second check finds none.
 #[test]
 fn a_refused_request_leaves_the_connection_open(rt: HostRuntime) -> Result<(), Fail> {
-    let alloc = rt.alloc();
-    let (mut peer, mut want) = (String::new(alloc), String::new(alloc));
-    for (request, answer) in [
+    const ROWS: &[(&str, &str)] = &[
         (CHECK_A, FIRST),
         (CHECK_B, NO_CELL),
         (NO_DESCRIPTORS, REFUSED),
@@ -174,7 +172,10 @@ fn a_refused_request_leaves_the_connection_open(rt: HostRuntime) -> Result<(), F
         ("HEAD /json HTTP/1.1\r\n\r\n", NOT_POST_FOR_HEAD),
         (CHECK_A, SECOND),
         (HEALTH, HEALTHY),
-    ] {
+    ];
+    let alloc = rt.alloc();
+    let (mut peer, mut want) = (String::new(alloc), String::new(alloc));
+    for &(request, answer) in ROWS {
         peer.push_str(request)?;
         want.push_str(answer)?;
     }
