@@ -298,6 +298,18 @@ fn scripts_are_answered(rt: HostRuntime) -> Result<(), Fail> {
                 r#"{"line":1,"moment":0,"refused":{"at":"/tick","number":6},"version":0,"worker":0}"#,
             ],
         ),
+        (
+            A,
+            &[
+                r#"{"reload":[{"domain":"d","descriptors":[{"key":""}]}]}"#,
+                CHECK_A,
+            ],
+            &[
+                r#"{"line":1,"moment":0,"refused":{"at":"/reload/0/descriptors/0","number":12},"version":0,"worker":0}"#,
+                r#"{"counts":[{"before":0}],"line":2,"moment":0,"reply":{"overallCode":"OK","statuses":[{"code":"OK","currentLimit":{"requestsPerUnit":2,"unit":"MINUTE"},"durationUntilReset":"60s","limitRemaining":1}]},"version":0,"worker":0}"#,
+                r#"{"charged":1,"counter":{"domain":"d","entries":[{"key":"k","value":"a"}],"start":0,"unit":"MINUTE"}}"#,
+            ],
+        ),
     ];
     let alloc = rt.alloc();
     for &(config, script, want) in ROWS {

@@ -135,6 +135,44 @@ fn requests_are_looked_up(rt: HostRuntime) -> Result<(), Fail> {
     Ok(())
 }
 
+// Two nodes whose key and value join to the same text.
+const JOINED: &str =
+    r#"{"domain":"d","descriptors":[{"key":"a_b","value":"c","rateLimit":{"unit":"MINUTE","requestsPerUnit":1}},{"key":"a","value":"b_c","rateLimit":{"unit":"MINUTE","requestsPerUnit":2}}]}"#;
+
+const JOINED_REQUEST: &str =
+    r#"{"domain":"d","descriptors":[{"entries":[{"key":"a_b","value":"c"}]},{"entries":[{"key":"a","value":"b_c"}]}]}"#;
+
+#[test]
+fn texts_that_join_alike_are_two_counters(rt: HostRuntime) -> Result<(), Fail> {
+    let alloc = rt.alloc();
+    let (found, want) = run(
+        &rt,
+        alloc,
+        &["lookup", "a"],
+        JOINED,
+        &[JOINED_REQUEST],
+        &[
+            r#"{"found":[{"limit":1,"rule":0,"shadow":false,"unit":"MINUTE"},{"limit":2,"rule":1,"shadow":false,"unit":"MINUTE"}],"line":1}"#,
+        ],
+    )?;
+    assert_eq!(rt; found.as_str(), want.as_str());
+    let check = format!(in alloc; r#"{{"check":{JOINED_REQUEST}}}"#)?;
+    let (found, want) = run(
+        &rt,
+        alloc,
+        &["drive", "a"],
+        JOINED,
+        &[check.as_str()],
+        &[
+            r#"{"counts":[{"before":0},{"before":0}],"line":1,"moment":0,"reply":{"overallCode":"OK","statuses":[{"code":"OK","currentLimit":{"requestsPerUnit":1,"unit":"MINUTE"},"durationUntilReset":"60s"},{"code":"OK","currentLimit":{"requestsPerUnit":2,"unit":"MINUTE"},"durationUntilReset":"60s","limitRemaining":1}]},"version":0,"worker":0}"#,
+            r#"{"charged":1,"counter":{"domain":"d","entries":[{"key":"a","value":"b_c"}],"start":0,"unit":"MINUTE"}}"#,
+            r#"{"charged":1,"counter":{"domain":"d","entries":[{"key":"a_b","value":"c"}],"start":0,"unit":"MINUTE"}}"#,
+        ],
+    )?;
+    assert_eq!(rt; found.as_str(), want.as_str());
+    Ok(())
+}
+
 #[test]
 fn nested_rules_answer_each_descriptor(rt: HostRuntime) -> Result<(), Fail> {
     let (found, want) = run(
