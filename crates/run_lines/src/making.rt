@@ -50,7 +50,11 @@ fn other_line(alloc: Global, rec: &Record) -> Result<String, OutOfMemory>
 }
 
 /// Adds the lines of the records that aren't short.
-pub fn push_others(alloc: Global, made: &mut Vec<String>, records: &[Record]) -> Result<(), OutOfMemory>
+pub fn push_others(
+    alloc: Global,
+    made: &mut Vec<String>,
+    records: &[Record],
+) -> Result<(), OutOfMemory>
     ensures { OnOk result (map (λ t. string_bytes t) made.new.items
         ≡ map (λ t. string_bytes t) made.old.items ++ other_lines records.now) }
 {
@@ -73,7 +77,11 @@ fn one_total(alloc: Global, total: &Total) -> Result<String, OutOfMemory>
 }
 
 /// Adds the lines of totals.
-pub fn push_totals(alloc: Global, made: &mut Vec<String>, totals: &[Total]) -> Result<(), OutOfMemory>
+pub fn push_totals(
+    alloc: Global,
+    made: &mut Vec<String>,
+    totals: &[Total],
+) -> Result<(), OutOfMemory>
     ensures { OnOk result (map (λ t. string_bytes t) made.new.items
         ≡ map (λ t. string_bytes t) made.old.items ++ map total_line totals.now) }
 {
