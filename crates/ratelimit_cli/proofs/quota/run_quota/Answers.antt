@@ -3,13 +3,38 @@ use Rattle.rate_types.specs.declared.limits.TheConstants.{MOST_BYTES}
 use Rattle.rate_io.specs.Events.{since}
 use Rattle.ratelimit_cli.specs.Jobs.{AskedFile, asked, files_of}
 use Rattle.ratelimit_cli.specs.World.{World, AreFilesOf, exit_of}
-use Rattle.ratelimit_cli.specs.Parts.{IsOfOutput, Replays}
+use Rattle.ratelimit_cli.specs.Parts.{IsOfFiles, IsOfOutput, Replays}
 use Rattle.ratelimit_cli.specs.Replayed.{IsReplayed}
 use Rattle.ratelimit_cli.specs.Quota.{in_order}
 use Rattle.command_words.specs.declared.command.Command.TheVariants.{Quota}
 use Rattle.ratelimit_cli.proofs.Histories.{none_since, grew_since}
-use Rattle.ratelimit_cli.proofs.Explaining.{explain_replay, explain_output, replay_output, sinks}
+use Rattle.ratelimit_cli.proofs.Explaining.{explain_files, explain_replay, explain_output, replay_output, sinks}
 use Rattle.ratelimit_cli.proofs.quota.run_quota.Goals as goal
+
+-- the settings file or a stream wasn't read
+pub returns-in-Err-clause-exit : goal.returns-in-Err-clause-exit
+returns-in-Err-clause-exit g c = λ words source_faults left is.
+    let faults : ℕ × ℕ = (g.F.Files.faults c.args.files.now, g.F.Files.faults c.read_files.new.files) in
+    let w : World = record {
+      words = words;
+      files = since (g.F.Files.history c.args.files.now) (g.F.Files.history c.read_files.new.files);
+      reads = [];
+      writes = since (g.K.Sink.history c.args.sink.now) (g.K.Sink.history c.args.sink.now);
+      file_faults = faults;
+      source_faults = source_faults;
+      sink_faults = (g.K.Sink.faults c.args.sink.now, g.K.Sink.faults c.args.sink.now);
+      content = g.F.Files.content c.args.files.now;
+      left = left;
+      rest = left;
+      written = g.K.Sink.written c.args.sink.now;
+      after = g.K.Sink.written c.args.sink.now;
+    } in
+    let names : map (asked MOST_BYTES) c.items.result.now ≡ files_of (Quota c.args.job) =
+    ap (map (asked MOST_BYTES)) (c.items.ensures ∙ c.in-Ok.ensures) in
+    explain_files w (Quota c.args.job) is (λ i. []) (none_since (g.K.Sink.history c.args.sink.now), refl) c.in-Err.exit
+    (subst (λ (ns : List AskedFile). IsOfFiles (g.F.Files.content c.args.files.now) ns faults c.in-Err.exit w.files) names
+    (grew_since (g.F.Files.history c.args.files.now) (g.F.Files.history c.read_files.new.files)
+    (IsOfFiles (g.F.Files.content c.args.files.now) (map (asked MOST_BYTES) c.items.result.now) faults c.in-Err.exit) c.in-Err.ensures.fault))
 
 -- the settings are refused, or a stream is too long
 pub returns-in-Err-replayed-clause-exit : goal.returns-in-Err-replayed-clause-exit
