@@ -16,6 +16,7 @@
 #![tactic(auto)]
 
 mod act;
+mod into_seen;
 mod kept;
 mod rule;
 mod seen;
@@ -24,6 +25,7 @@ mod told;
 mod turn;
 
 pub use act::Act;
+pub use into_seen::IntoSeen;
 pub use kept::Kept;
 pub use seen::Seen;
 pub use told::Told;

@@ -4,6 +4,7 @@ ghost use Rattle.told_list.specs.Rule.{IsSeatOf, first_view, idle_view, IsIdle, 
 ghost use Rattle.told_list.specs.Tokens.{list_of, view, IsFresh};
 ghost use Rattle.told_list.specs.Joins.{JoinsTokens};
 
+use crate::into_seen::IntoSeen;
 use crate::kept::Kept;
 use crate::rule::{Enters, LENGTH, LOCK, TAKEN, TakesSlot, Tokens};
 use crate::seen::Seen;
@@ -64,18 +65,18 @@ pub(crate) fn split_tokens<K: Kept + Drop>(
 }
 
 /// Joins all tokens to one seat.
-pub(crate) fn join_tokens<K: Kept + Drop>(
+pub(crate) fn join_tokens<K: Kept + Drop, P: IntoSeen<K> + Drop>(
     shared: &SharedTable<K>,
-    seats: Vec<Seen<K, K::Item>>,
+    passes: Vec<P>,
 ) -> TableSeat<K>
     requires here { (shared.now.table_id.words ≡ 2) × (shared.now.table_id.slots ≡ 1) }
-    requires seats { All (λ s. list_of s ≡ shared.now.table_id) seats.items }
+    requires passes { All (λ p. P.list p ≡ shared.now.table_id) passes.items }
     ensures here { (result.table_id ≡ shared.now.table_id) × (result.me.1 ≡ []) }
-    ensures all { JoinsTokens seats.items result.me.0 }
+    ensures all { JoinsTokens P.known P.own passes.items result.me.0 }
 {
     let (_, mut all) = shared.load_new_seat::<Enters>(LENGTH);
-    for seen in seats {
-        let Seen { seat, len: _ } = seen;
+    for pass in passes {
+        let Seen { seat, len: _ } = pass.into_seen();
         shared.join_seat::<Tokens>(&mut all, seat);
     }
     all

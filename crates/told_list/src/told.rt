@@ -2,6 +2,7 @@ ghost use Rattle.std.specs.Prelude.{◌≡◌, ◌≤◌, ◌<◌, ◌+◌, ℕ,
 ghost use Rattle.rate_types.specs.declared.limits.TheConstants.{MOST_PASSES};
 
 use crate::act::Act;
+use crate::into_seen::IntoSeen;
 use crate::kept::Kept;
 use crate::rule::{AWAITED, LENGTH, ListRule, Loads, Setup, TokenView};
 use crate::seen::Seen;
@@ -99,19 +100,20 @@ impl<K: Kept + Drop> Told<K> {
         out
     }
 
-    /// The kept value, for which all tokens are given back. What each of them knows is a prefix of the value's list, and
-    /// each place past the first list is the own place of exactly one of them. It waits for nobody.
-    pub fn close(self, seats: Vec<Seen<K, K::Item>>) -> K
-        requires seats { All (λ s. list_of s ≡ list_id self) seats.items }
-        requires every { vec_len seats ≡ tokens self }
-        ensures prefixes { All (λ s. IsPrefix (known s) (K.items result)) seats.items }
-        ensures owned { (p : ℕ) → IsOwnedOnce (length (K.items (first_value self))) (length (K.items result)) p
-            (total (λ s. times p (view s).own) seats.items) }
+    /// The kept value, for which all tokens are given back, each alone or in a type around it. What each of them knows is
+    /// a prefix of the value's list, and each place past the first list is the own place of exactly one of them. It waits
+    /// for nobody.
+    pub fn close<P: IntoSeen<K> + Drop>(self, passes: Vec<P>) -> K
+        requires passes { All (λ p. P.list p ≡ list_id self) passes.items }
+        requires every { vec_len passes ≡ tokens self }
+        ensures prefixes { All (λ p. IsPrefix (P.known p) (K.items result)) passes.items }
+        ensures owned { (n : ℕ) → IsOwnedOnce (length (K.items (first_value self))) (length (K.items result)) n
+            (total (λ p. times n (P.own p)) passes.items) }
         ensures fixed { K.fixed result ≡ K.fixed (first_value self) }
     {
         let Told { table, queue: _ } = self;
         let shared = &table.shared;
-        let mut all = join_tokens(shared, seats);
+        let mut all = join_tokens(shared, passes);
         take_last(shared, &mut all)
     }
 }

@@ -5,8 +5,8 @@ use Rattle.told_list.specs.Tokens.{list_of, list_id, view, known}
 use Rattle.config_versions.proofs.Lists.{all_parts, all_of_parts, total_map, owned_as}
 use Rattle.config_versions.proofs.versions.Versions.close.Goals as goal
 
-pub close-versions-requires-clause-seats : goal.close-versions-requires-clause-seats
-close-versions-requires-clause-seats g c =
+pub close-versions-requires-clause-passes : goal.close-versions-requires-clause-passes
+close-versions-requires-clause-passes g c =
     subst (All (λ s. list_of s ≡ list_id c.args.self.told)) (sym c.in_ok-seats.ensures)
     (all_of_parts (λ p. p.seen) (λ s. list_of s ≡ list_id c.args.self.told) c.args.passes.items c.requires.passes)
 

@@ -4,7 +4,7 @@ use Rattle.told_list.proofs.Joining.{prefixes_of}
 use Rattle.told_list.proofs.told.Told.close.Goals as goal
 
 pub returns-clause-prefixes : goal.returns-clause-prefixes
-returns-clause-prefixes g c = prefixes_of c.args.seats.items c.join_tokens-all.result.me.0 _ c.join_tokens-all.ensures.all c.take_last.ensures.last.joined_lists
+returns-clause-prefixes g c = prefixes_of g.P.IntoSeen.known g.P.IntoSeen.own c.args.passes.items c.join_tokens-all.result.me.0 _ c.join_tokens-all.ensures.all c.take_last.ensures.last.joined_lists
 
 pub returns-clause-owned : goal.returns-clause-owned
 returns-clause-owned g c =
