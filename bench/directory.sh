@@ -12,7 +12,7 @@
 # Run it at the top of the repository: bench/directory.sh
 set -e
 . "$(dirname "$0")/lib.sh"
-bench_program directory_bench rate_types told_list counter_cells counter_directory arrayvec
+bench_program directory_bench rate_types counter_cells counter_directory arrayvec
 bench="$work/crates/directory_bench"
 mkdir -p "$bench/src" "$bench/proofs/take_each" "$bench/proofs/fill" "$bench/proofs/fill_often" \
     "$bench/proofs/one_try" "$bench/proofs/turns_of"
@@ -21,7 +21,7 @@ cat > "$bench/src/main.rt" <<'RT'
 #![tactic(auto)]
 ghost use Rattle.std.specs.Prelude.{◌≡◌, ℕ, ◌*◌, ◌≤◌, ◌<◌, [], length, All, IfSome};
 ghost use Rattle.counter_cells.specs.Opened.{table_of, setup_of};
-ghost use Rattle.told_list.specs.Tokens.{list_of};
+ghost use Rattle.counter_directory.specs.Passes.{list_of};
 
 use counter_cells::{CellNaming, CellPass, Cells, OpenedCells};
 use counter_directory::{Acquired, Directory, DirectoryPass, give_back};
@@ -377,7 +377,7 @@ fn main(rt: HostRuntime) -> std::io::Result<()> {
 RT
 cat > "$bench/proofs/take_each/Invariants.antt" <<'PF'
 use Rattle.std.proofs.Common.{◌≡◌, []}
-use Rattle.told_list.specs.Tokens.{list_of}
+use Rattle.counter_directory.specs.Passes.{list_of}
 use Rattle.directory_bench.proofs.take_each.Given as goal
 
 abbrev pub invariant-loop-place : goal.invariant-loop-place

@@ -13,4 +13,5 @@ mod Acquiring
 mod Starting
 mod Holding
 mod Turning
+mod Passes
 mod Unpinning

@@ -11,4 +11,6 @@ pub mod Acquiring
 pub mod Spots
 pub mod Acquired
 pub mod Answered
+pub mod Passes
+pub mod Tokens
 pub mod Turns

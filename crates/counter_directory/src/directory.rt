@@ -1,12 +1,12 @@
 ghost use Rattle.std.specs.Prelude.{◌≡◌, ◌≤◌, [], length, All, vec_len, vec_capacity};
 ghost use Rattle.rate_types.specs.declared.limits.TheConstants.{MOST_CLAIM_NUMBERS, MOST_PASSES};
-ghost use Rattle.told_list.specs.Tokens.{list_of, list_id, first_value, tokens, view, known};
+ghost use Rattle.told_list.specs.Tokens.{list_id, first_value, tokens};
 
 use crate::acquire::Acquire;
 use crate::acquired::{AcquireFault, Acquired};
-use crate::claim::Claim;
 use crate::claim_table::{ClaimTable, KeptTable};
 use crate::closed::ClosedDirectory;
+use crate::pass::{DirectoryPass, passes_of};
 use counter_cells::{CellClaimer, CellNaming, CellPass, Cells};
 use rate_types::limits::MOST_PINS;
 use rate_types::{CounterName, OutOfMemory};
@@ -15,11 +15,7 @@ use std::boxed::Box;
 use std::hash::RandomState;
 use std::marker::Model;
 use std::sync::Wait;
-use told_list::{Seen, Told};
-
-/// What one thread has of a directory: it knows a prefix of the list of claims. It goes with the [`Directory`] that it
-/// was made with.
-pub type DirectoryPass<N: CellNaming> = Seen<KeptTable<N>, Claim>;
+use told_list::Told;
 
 /// The claims on the cells with the name `N`, behind their lock. Contracts see it as a `DirectoryView`.
 #[derive(Drop)]
@@ -46,20 +42,13 @@ impl<N: CellNaming> Model for Directory<N> {
         × ((first_value d.told).table.value.pool.claims ≡ []) };
 }
 
-/// How many claims the pass knows.
-pub fn claims<N: CellNaming>(pass: &DirectoryPass<N>) -> u64
-    ensures { result ≡ length (known pass.now) }
-{
-    pass.length()
-}
-
 impl<N: CellNaming> Directory<N> {
     ghost use Rattle.std.specs.Prelude.{◌≡◌, ◌-◌, ◌*◌, ◌≤◌, ◌<◌, ◌^◌, ℕ, [], length, All, IfOk, OnOk, OnErr, vec_len};
     ghost use Rattle.counter_cells.specs.Views.{good_on};
     ghost use mathlib.Core.List.{IsPrefix};
     ghost use Rattle.rate_types.specs.Sums.{total, times};
     ghost use Rattle.told_list.specs.Lists.{IsOwnedOnce};
-    ghost use Rattle.told_list.specs.Tokens.{list_of, view, known, IsFresh};
+    ghost use Rattle.counter_directory.specs.Passes.{list_of, knows, IsFresh};
     ghost use Rattle.counter_directory.specs.Claims.{IsLawfulClaims};
     ghost use Rattle.counter_directory.specs.Gates.{AreOpen};
     ghost use Rattle.counter_directory.specs.Spots.{spots_on};
@@ -80,14 +69,15 @@ impl<N: CellNaming> Directory<N> {
         requires passes { (1 ≤ passes) × (passes ≤ MOST_PASSES) × (passes ≡ N.setup.passes) }
         ensures directory { IfOk result (λ r. (r.0.passes ≡ passes) × (r.0.claims_max ≡ claims_max)) }
         ensures count { IfOk result (λ r. vec_len r.1 ≡ passes) }
-        ensures passes { IfOk result (λ r. All (λ p. (list_of p ≡ r.0.list_id) × IsFresh [] (view p)) r.1.items) }
+        ensures passes { IfOk result (λ r. All (λ p. (list_of p ≡ r.0.list_id) × IsFresh (knows p)) r.1.items) }
     {
         let table = ClaimTable::make(alloc, claimer, claims_max, seed)?;
         let kept = KeptTable {
             table: Box::new(alloc, table)?,
         };
-        let (told, seats) = Told::make(alloc, kept, passes)?;
-        Ok((Directory { told, passes }, seats))
+        let (told, tokens) = Told::make(alloc, kept, passes)?;
+        let made = passes_of(alloc, tokens)?;
+        Ok((Directory { told, passes }, made))
     }
 
     /// Pins with `cell_pass`, for each name in order, the cell of its counter in the window of a moment, which becomes
@@ -111,7 +101,7 @@ impl<N: CellNaming> Directory<N> {
         ensures pins { OnOk result ((cell : ℕ) → good_on cell cell_pass.new ≡ spots_on cell acquired.new.spots.items) }
         ensures none { OnErr result (cell_pass.new.good ≡ []) }
         ensures turn { Turned (record { cells = N.setup.cells; claims = self.now.claims_max; held = MOST_PINS * (self.now.passes - 1) })
-            names.now cell_pass.old (answered result acquired.new) cell_pass.new (view pass.old) (view pass.new) }
+            names.now cell_pass.old (answered result acquired.new) cell_pass.new (knows pass.old) (knows pass.new) }
     {
         let most_held = MOST_PINS as usize * (self.passes as usize - 1);
         let mut act = Acquire {
@@ -122,7 +112,7 @@ impl<N: CellNaming> Directory<N> {
             most_held,
             acquired,
         };
-        self.told.with(rt, pass, &mut act)
+        self.told.with(rt, &mut pass.seen, &mut act)
     }
 
     /// The claims and the claimer, for which all passes are given back. What each pass knew is a prefix of the claims,
@@ -133,8 +123,8 @@ impl<N: CellNaming> Directory<N> {
         ensures lawful { IsLawfulClaims N.setup.cells self.claims_max result.claims }
         ensures open { AreOpen result.claimer result.last result.claims }
         ensures last { result.last ≤ result.claimer.heard }
-        ensures prefixes { All (λ p. IsPrefix (known p) result.claims) passes.items }
-        ensures owned { (n : ℕ) → IsOwnedOnce 0 (length result.claims) n (total (λ p. times n (view p).own) passes.items) }
+        ensures prefixes { All (λ p. IsPrefix (knows p).known result.claims) passes.items }
+        ensures owned { (n : ℕ) → IsOwnedOnce 0 (length result.claims) n (total (λ p. times n (knows p).own) passes.items) }
     {
         let Directory { told, passes: _ } = self;
         let KeptTable { table } = told.close(passes);

@@ -3,6 +3,7 @@ use Rattle.std.specs.Prelude.{All}
 use Rattle.counter_cells.specs.Views.{good_on}
 use Rattle.counter_directory.specs.declared.acquired.Acquired.{Acquired}
 use Rattle.counter_directory.specs.Spots.{spots_on}
+use Rattle.counter_directory.specs.Passes.{DirectoryPassView}
 use Rattle.counter_directory.specs.Turns.{DirectoryView}
 use Rattle.counter_directory.specs.Acquired.{Bounds, ClaimTableView, Acquires}
 use Rattle.counter_directory.specs.Answered.{answered}
@@ -63,5 +64,6 @@ returns-clause-turn g c =
     let most : z.pool.most ≡ state.claims_max = t.5 ∙ ap (λ (o : DirectoryView). o.claims_max) c.self.view_is in
     let b' : Bounds = record { cells = cells; claims = state.claims_max; held = 32 * (state.passes - 1) } in
     let same : b ≡ b' = λ i. record { cells = cells; claims = claims i; held = 32 * (passes i - 1) } in
-    turns b b' z.pool.most c.args.names.now c.args.cell_pass.now c.with.new.act.cell_pass.now c.cell_pass-1.given.0 found left (answered r a) _ _ same most cell_pass did t.2.3
+    turns b b' z.pool.most c.args.names.now c.args.cell_pass.now c.with.new.act.cell_pass.now c.cell_pass-1.given.0 found left (answered r a) _ _ c.args.pass.now.claims
+    (ap (λ (p : DirectoryPassView). p.claims) c.pass.view_is) same most cell_pass did t.2.3
     t.2.4 t.3

@@ -3,7 +3,6 @@ use Rattle.std.specs.Prelude.{All}
 use mathlib.Core.List.{IsPrefix}
 use Rattle.rate_types.specs.Sums.{total, times}
 use Rattle.told_list.specs.Lists.{IsOwnedOnce}
-use Rattle.told_list.specs.Tokens.{known, view}
 use Rattle.counter_directory.specs.declared.claim.Claim.{Claim}
 use Rattle.counter_directory.specs.Claims.{IsLawfulClaims}
 use Rattle.counter_directory.specs.Turns.{DirectoryView}
@@ -18,10 +17,10 @@ returns-clause-lawful g c =
 
 pub returns-clause-prefixes : goal.returns-clause-prefixes
 returns-clause-prefixes g c =
-    subst (λ (l : List Claim). All (λ p. IsPrefix (known p) l) c.args.passes.items) (ap (λ t. t.pool.claims) (sym c.into_inner-pool.ensures)) c.close-table.ensures.prefixes
+    subst (λ (l : List Claim). All (λ p. IsPrefix p.claims.known l) c.args.passes.items) (ap (λ t. t.pool.claims) (sym c.into_inner-pool.ensures)) c.close-table.ensures.prefixes
 
 pub returns-clause-owned : goal.returns-clause-owned
 returns-clause-owned g c = λ n.
-    let own = total (λ p. times n (view p).own) c.args.passes.items in
+    let own = total (λ p. times n p.claims.own) c.args.passes.items in
     subst (λ (l : List Claim). IsOwnedOnce 0 (length l) n own) (ap (λ t. t.pool.claims) (sym c.into_inner-pool.ensures))
     (subst (λ (l : List Claim). IsOwnedOnce (length l) (length c.close-table.result.table.value.pool.claims) n own) c.self.invariant.3 (c.close-table.ensures.owned n))
