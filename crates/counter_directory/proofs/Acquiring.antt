@@ -32,7 +32,8 @@ use Rattle.counter_directory.specs.Acquired.{OffersNothing, HasTicked, PinsAfter
 use Rattle.counter_directory.specs.Acquiring.{Binds}
 use Rattle.counter_directory.proofs.KeyLists.{len_keys}
 use Rattle.counter_directory.proofs.Missing.{grows_none}
-use Rattle.counter_directory.proofs.Pinning.{pins_moment, all_claimed}
+use Rattle.counter_directory.proofs.Finding.{none_missing}
+use Rattle.counter_directory.proofs.Pinning.{pins_moment}
 
 pub are_of : (m : ℕ) (names : List CounterName) → AreOf m (keys_at m names)
 are_of m [] i k at = absurd (some-ne-none k (sym at))
@@ -155,23 +156,15 @@ pub bound_none : (b : Bounds) (m : ℕ) (keys : List CounterKey) (spots : List S
 bound_none b m keys spots t len bound few used = record {
   grows = grows_none m t.claims;
   missing = [];
-  are = λ q. none (claims_of q t.claims) (key_count q keys) (all_claimed keys spots t.claims len bound q);
+  are = none_missing keys spots t.claims len bound;
   adds = λ q. omega arith;
   room = omega arith;
   used = omega arith;
 }
-  where
-    none : (n k : ℕ) → (1 ≤ k → 1 ≤ n) → 0 ≡ one_if ((n == 0) && nat_lt 0 k)
-    none n zero h = by (n == 0)
-      where
-        by : (t : Bool) → 0 ≡ one_if (t && false)
-        by true = refl
-        by false = refl
-    none n (suc k) h = let some_one = h (omega arith) in ap (λ t. one_if (t && nat_lt 0 (suc k))) (sym (ne_eqb n 0 (λ e. omega arith)))
 
 -- a refusal before the pins is one of the whole call
 pub refuses : (b : Bounds) (m : ℕ) (names : List CounterName) (keys : List CounterKey) (cell_pass mid cell_pass' : CellView) (found left : ClaimTableView) (f : AcquireFault)
-    → keys ≡ keys_at m names → m ≡ mid.moment → OnlyTicked cell_pass mid → HasBeenTold mid cell_pass' → Binds b m keys found (Err f) left mid cell_pass'
+    → keys ≡ keys_at m names → m ≡ mid.moment → OnlyTicked cell_pass mid → HasBeenTold mid cell_pass' → Binds {A = Unit {0}} b m keys found (Err f) left mid cell_pass'
     → Acquires b names cell_pass found (Err f) cell_pass' left
 refuses b m names keys cell_pass mid cell_pass' found left OutOfMemory e at ticks told did = (ticked_told cell_pass mid cell_pass' ticks told, did)
 refuses b m names keys cell_pass mid cell_pass' found left (ClaimsSpent claims wanted) e at ticks told did = (

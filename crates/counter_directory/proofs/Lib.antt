@@ -9,6 +9,7 @@ mod Open
 mod Ringing
 mod Missing
 mod Pinning
+mod Finding
 mod Acquiring
 mod Starting
 mod Holding

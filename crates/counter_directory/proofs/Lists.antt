@@ -45,6 +45,11 @@ module _ {A : Type 0} where
   at_within (x ∷ xs) zero a e = omega arith
   at_within (x ∷ xs) (suc i) a e = let r = at_within xs i a e in omega arith
 
+  pub some_at : (l : List A) (i : ℕ) → i < length l → (a : A) × (get_elem? l i ≡ some a)
+  some_at [] i h = absurd (omega arith)
+  some_at (x ∷ xs) zero h = (x, refl)
+  some_at (x ∷ xs) (suc i) h = some_at xs i (omega arith)
+
   pub empty : (xs : List A) → length xs ≡ 0 → xs ≡ []
   empty [] e = refl
   empty (x ∷ xs) e = absurd (omega arith)

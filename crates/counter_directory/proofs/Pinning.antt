@@ -24,7 +24,7 @@ use Rattle.counter_directory.specs.Acquiring.{AreOf, AreShown}
 use Rattle.counter_directory.specs.Spots.{Bound, Agree, pinned_on}
 use Rattle.counter_directory.specs.Acquired.{PinsAfterMisses}
 use Rattle.window_keys.proofs.Counters.{same_is}
-use Rattle.counter_directory.proofs.Lists.{at_cut, at_within, at_read}
+use Rattle.counter_directory.proofs.Lists.{at_within, at_read, some_at}
 use Rattle.counter_directory.proofs.Counting.{total_some}
 use Rattle.counter_directory.proofs.Missing.{bindings_few}
 use Rattle.counter_directory.proofs.Ringing.{end_later}
@@ -110,38 +110,6 @@ pins_moment ss v w p = ap (λ (u : CellView). u.moment) p.1 ∙ same ss (record 
     same : (ss : List Spot) (v : CellView) → (pinned_on ss v).moment ≡ v.moment
     same [] v = refl
     same (s ∷ ss) v = same ss (good_pin s.cell s.claim v)
-
--- what holds of each counter with its spot, held of one more pair
-each_more : (P : CounterKey → Spot → Type 0) (keys : List CounterKey) (spots new : List Spot) (i : ℕ) (d : CounterKey) (s : Spot) → i < length keys → length spots ≡ i
-    → new ≡ spots ++ s ∷ [] → P (get_or keys i d) s
-    → ((j : ℕ) (k : CounterKey) (t : Spot) → get_elem? (take i keys) j ≡ some k → get_elem? spots j ≡ some t → P k t)
-    → (j : ℕ) (k : CounterKey) (t : Spot) → get_elem? (take (i + 1) keys) j ≡ some k → get_elem? new j ≡ some t → P k t
-each_more P keys spots new i d s lt len e here all j k t at there =
-    let a = subst (λ (l : List CounterKey). get_elem? l j ≡ some k) (take_more keys i d lt) at in
-    let b = subst (λ (l : List Spot). get_elem? l j ≡ some t) e there in
-    let n : length (take i keys) ≡ i = grind (arith, common_steps) in
-    pick n (at_cut (take i keys) (get_or keys i d) k j a) (at_cut spots s t j b)
-  where
-    pick : length (take i keys) ≡ i → ((j < length (take i keys)) × (get_elem? (take i keys) j ≡ some k)) ⊎ ((j ≡ length (take i keys)) × (get_or keys i d ≡ k))
-        → ((j < length spots) × (get_elem? spots j ≡ some t)) ⊎ ((j ≡ length spots) × (s ≡ t)) → P k t
-    pick n (inl x) (inl y) = all j k t x.1 y.1
-    pick n (inl x) (inr y) = let a = x.0 in let b = y.0 in absurd (omega arith)
-    pick n (inr x) (inl y) = let a = x.0 in let b = y.0 in absurd (omega arith)
-    pick n (inr x) (inr y) = subst (λ (u : CounterKey). P u t) x.1 (subst (λ (r : Spot). P (get_or keys i d) r) y.1 here)
-
-pub bound_more : (claims : List Claim) (keys : List CounterKey) (spots new : List Spot) (i : ℕ) (d : CounterKey) (s : Spot) → i < length keys → length spots ≡ i
-    → new ≡ spots ++ s ∷ [] → 1 ≤ bindings_of (get_or keys i d) s.cell s.claim claims → Bound claims (take i keys) spots → Bound claims (take (i + 1) keys) new
-bound_more claims keys spots new i d s = each_more (λ k t. 1 ≤ bindings_of k t.cell t.claim claims) keys spots new i d s
-
-pub shown_more : (v : CellView) (last : ℕ) (keys : List CounterKey) (spots new : List Spot) (i : ℕ) (d : CounterKey) (s : Spot) → i < length keys → length spots ≡ i
-    → new ≡ spots ++ s ∷ [] → (last < window_end_of (get_or keys i d) → (cell_or v.cells s.cell).claim ≡ s.claim) → AreShown v last (take i keys) spots
-    → AreShown v last (take (i + 1) keys) new
-shown_more v last keys spots new i d s = each_more (λ k t. last < window_end_of k → (cell_or v.cells t.cell).claim ≡ t.claim) keys spots new i d s
-
-some_at : (l : List CounterKey) (i : ℕ) → i < length l → (k : CounterKey) × (get_elem? l i ≡ some k)
-some_at [] i h = absurd (omega arith)
-some_at (x ∷ xs) zero h = (x, refl)
-some_at (x ∷ xs) (suc i) h = some_at xs i (omega arith)
 
 -- spots of one cell have one number
 pub agrees : (v : CellView) (last : ℕ) (keys : List CounterKey) (spots : List Spot) → length spots ≡ length keys → AreOf last keys → AreShown v last keys spots → Agree spots

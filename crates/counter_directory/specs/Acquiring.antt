@@ -14,8 +14,9 @@ use Rattle.counter_cells.specs.declared.view.Tick.{Tick}
 use Rattle.counter_cells.specs.declared.view.CellView.{CellView}
 use Rattle.counter_cells.specs.declared.answers.Spot.{Spot}
 use Rattle.counter_directory.specs.declared.claim.Claim.{Claim}
-use Rattle.counter_directory.specs.Claims.{claims_of}
+use Rattle.counter_directory.specs.Claims.{claims_of, bindings_of}
 use Rattle.counter_directory.specs.Keys.{key_count}
+use Rattle.counter_directory.specs.Spots.{Bound}
 use Rattle.counter_directory.specs.declared.acquired.AcquireFault.{AcquireFault}
 use Rattle.counter_directory.specs.declared.acquired.AcquireFault.TheVariants.{OutOfMemory, ClaimsSpent, CountersFull}
 use Rattle.counter_directory.specs.Acquired.{OffersNothing, ClaimTableView, AreSpent, AreFull, HasBound, Bounds}
@@ -23,6 +24,18 @@ use Rattle.counter_directory.specs.Acquired.{OffersNothing, ClaimTableView, AreS
 -- the counters are those of windows of the moment
 abbrev pub AreOf : ℕ → List CounterKey → Type 0
 AreOf moment keys = (i : ℕ) (k : CounterKey) → get_elem? keys i ≡ some k → k.start ≡ window_start k.name.unit moment
+
+-- claims bind the first counters to the spots, in order
+abbrev pub AreFirstBound : List Claim → List CounterKey → List Spot → Type 0
+AreFirstBound claims keys spots = (length spots ≤ length keys) × Bound claims keys spots
+
+-- the counter at the place has no claim
+abbrev pub IsUnclaimedAt : ℕ → List CounterKey → List Claim → Type 0
+IsUnclaimedAt i keys claims = (i < length keys) × ((k : CounterKey) → get_elem? keys i ≡ some k → claims_of k claims ≡ 0)
+
+-- a claim binds the counter at the place to the spot
+abbrev pub IsBoundAt : ℕ → List CounterKey → List Claim → Spot → Type 0
+IsBoundAt i keys claims s = (k : CounterKey) → get_elem? keys i ≡ some k → 1 ≤ bindings_of k s.cell s.claim claims
 
 -- the counter came to the list where it has no claim and wasn't there
 abbrev pub AddsMissing : List Claim → CounterKey → List CounterKey → List CounterKey → Type 0
@@ -52,8 +65,8 @@ abbrev pub HasBeenTold : CellView → CellView → Type 0
 HasBeenTold v w = (told : List (ℕ × ℕ)) × (w ≡ record v { held = v.held ++ told })
 
 -- the counters were bound at the moment, or why not; meanwhile the cell pass was told which cells were found pinned for it
-abbrev pub Binds : Bounds → ℕ → List CounterKey → ClaimTableView → Result (Unit {0}) AcquireFault → ClaimTableView → CellView → CellView
-    → Type 0
+abbrev pub Binds : {A : Type 0} → Bounds → ℕ → List CounterKey → ClaimTableView → Result A AcquireFault → ClaimTableView → CellView
+    → CellView → Type 0
 Binds b m keys found (Ok _) left v w = HasBound b m keys found left
 Binds b m keys found (Err OutOfMemory) left v w = left ≡ found
 Binds b m keys found (Err (ClaimsSpent claims wanted)) left v w = AreSpent b keys found left claims wanted

@@ -1,5 +1,5 @@
 // How counters get claims.
-ghost use Rattle.std.specs.Prelude.{◌≡◌, ◌+◌, ◌-◌, ◌≤◌, ◌<◌, ℕ, [], vec_len, OnOk, length};
+ghost use Rattle.std.specs.Prelude.{◌≡◌, ◌+◌, ◌-◌, ◌≤◌, ◌<◌, ℕ, [], vec_len, OnOk, IfOk, length, take};
 ghost use Rattle.rate_types.specs.declared.limits.TheConstants.{MOST_PINS};
 ghost use Rattle.rate_types.specs.declared.counter_key.CounterKey.{CounterKey as CounterValue};
 ghost use Rattle.rate_types.specs.Units.{unit_rank};
@@ -8,10 +8,10 @@ ghost use Rattle.counter_directory.specs.Claims.{claims_of};
 ghost use Rattle.counter_directory.specs.Pool.{BindsLast};
 ghost use Rattle.counter_directory.specs.Windows.{ExpiredBelow, FitsRing, KeepsFits, RingsFit};
 ghost use Rattle.counter_directory.specs.Index.{HaveRoom};
-ghost use Rattle.counter_directory.specs.Keys.{key_at, keys_at, key_count, AddsEach};
+ghost use Rattle.counter_directory.specs.Keys.{key_at, keys_at, key_count, IsMissing, AddsEach};
 ghost use Rattle.counter_directory.specs.Spots.{Bound};
 ghost use Rattle.counter_directory.specs.Acquired.{Grows};
-ghost use Rattle.counter_directory.specs.Acquiring.{Binds, HasBeenTold};
+ghost use Rattle.counter_directory.specs.Acquiring.{Binds, HasBeenTold, IsUnclaimedAt, IsBoundAt};
 
 use crate::acquired::AcquireFault;
 use crate::claim_table::ClaimTable;
@@ -66,8 +66,9 @@ impl<N: CellNaming> ClaimTable<N> {
         let _ = self.index[unit].spots.insert(name, spot);
     }
 
-    /// Binds the counter of each of the names to a reserved cell.
-    pub(crate) fn bind_all(&mut self, cells: &Cells<N>, missing: Vec<CounterName>)
+    /// Binds the counter of each of the names to a reserved cell. The answer is where the first of them is bound.
+    pub(crate) fn bind_all(&mut self, cells: &Cells<N>, missing: Vec<CounterName>) -> Spot
+        requires some { 1 ≤ vec_len missing }
         requires reserved { vec_len missing ≤ vec_len self.old.pool.reserved }
         requires room { HaveRoom (vec_len missing) self.old.index.items }
         requires rings { RingsFit self.old.pool.last self.old.pool.rings.items }
@@ -78,31 +79,39 @@ impl<N: CellNaming> ClaimTable<N> {
         ensures lens { (length self.new.pool.claims ≡ length self.old.pool.claims + vec_len missing)
             × (vec_len self.new.pool.reserved + vec_len missing ≡ vec_len self.old.pool.reserved) }
         ensures same { (self.new.pool.last ≡ self.old.pool.last) × (self.new.pool.most ≡ self.old.pool.most) }
+        ensures first { IsBoundAt 0 (keys_at self.old.pool.last missing.items) self.new.pool.claims result }
     {
+        let first = self.pool.reserved[self.pool.reserved.len() - 1];
         for name in missing {
             self.bind_reserved(cells, name);
         }
+        first
     }
 
-    // Binds the counters of the names that have no claim, or says why not.
+    // Binds the counters of the names that have no claim, of which the first stands at the place `first`, or says why not.
+    // The answer is where that one is bound.
     fn bind_missing<R: Wait>(
         &mut self,
         rt: &R,
         cells: &Cells<N>,
         cell_pass: &mut CellPass<N>,
         names: &[CounterName],
+        first: usize,
         most_held: usize,
-    ) -> Result<(), AcquireFault>
+    ) -> Result<Spot, AcquireFault>
         requires names { length names.now ≤ MOST_PINS }
+        requires first { IsUnclaimedAt first (keys_at self.old.pool.last names.now) self.old.pool.claims }
+        requires before { IsMissing self.old.pool.claims (take first (keys_at self.old.pool.last names.now)) [] }
         requires expired { ExpiredBelow 4 self.old.pool.last self.old.pool.rings.items }
         ensures same { (self.new.pool.last ≡ self.old.pool.last) × (self.new.pool.most ≡ self.old.pool.most) }
         ensures did { Binds (record { cells = N.setup.cells; claims = self.old.pool.most; held = most_held }) self.old.pool.last
             (keys_at self.old.pool.last names.now) (record { used = length self.old.claimer.used_claims; claims = self.old.pool.claims })
             result (record { used = length self.new.claimer.used_claims; claims = self.new.pool.claims }) cell_pass.old cell_pass.new }
         ensures told { HasBeenTold cell_pass.old cell_pass.new }
+        ensures first { IfOk result (IsBoundAt first (keys_at self.old.pool.last names.now) self.new.pool.claims) }
     {
         let alloc = *self.index.allocator();
-        let Ok(missing) = self.missing(alloc, names) else {
+        let Ok(missing) = self.missing(alloc, names, first) else {
             return Err(AcquireFault::OutOfMemory);
         };
         let wanted = missing.len() as u32;
@@ -121,8 +130,7 @@ impl<N: CellNaming> ClaimTable<N> {
                 wanted,
             });
         }
-        self.bind_all(cells, missing);
-        Ok(())
+        Ok(self.bind_all(cells, missing))
     }
 
     /// Finds where the counters of the names are bound, in order, and binds those that have no claim, or says why not.
@@ -145,11 +153,13 @@ impl<N: CellNaming> ClaimTable<N> {
         ensures spots { OnOk result ((length spots.new.items ≡ length names.now)
             × Bound self.new.pool.claims (keys_at self.new.pool.last names.now) spots.new.items) }
     {
-        if self.find_all(names, spots) {
+        spots.clear();
+        if self.find_rest(names, spots) {
             return Ok(());
         }
-        self.bind_missing(rt, cells, cell_pass, names, most_held)?;
-        if !self.find_all(names, spots) {
+        let first = self.bind_missing(rt, cells, cell_pass, names, spots.len(), most_held)?;
+        spots.push(first);
+        if !self.find_rest(names, spots) {
             unreachable!()
         }
         Ok(())

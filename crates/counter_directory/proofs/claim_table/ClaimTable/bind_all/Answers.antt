@@ -1,4 +1,5 @@
-use Rattle.std.proofs.Common.{◌≡◌, ◌+◌, [], ◌∷◌, ◌++◌, List, length, refl, sym, ap, ◌∙◌, subst, arith, append_assoc, length-append}
+use Rattle.std.proofs.Common.{◌≡◌, ◌+◌, ◌-◌, [], ◌∷◌, ◌++◌, List, length, get_or, refl, sym, ap, ◌∙◌, subst, arith, append_assoc, length-append}
+use Rattle.rate_types.specs.declared.counter_key.CounterKey.{CounterKey}
 use Rattle.rate_types.specs.declared.counter_name.CounterName.{CounterName}
 use Rattle.rate_types.specs.Units.{unit_rank}
 use Rattle.counter_directory.specs.declared.claim.Claim.{Claim}
@@ -9,6 +10,7 @@ use Rattle.counter_directory.specs.Keys.{key_at, keys_at, AddsEach}
 use Rattle.counter_directory.proofs.Ringing.{fit_kept, end_rank, rank_few}
 use Rattle.counter_directory.proofs.KeyLists.{keys_mid, keys_more}
 use Rattle.counter_directory.proofs.Missing.{fresh_counter, adds_more, grows_more}
+use Rattle.counter_directory.proofs.Finding.{BindsFirst, first_more}
 use Rattle.counter_directory.proofs.claim_table.ClaimTable.bind_all.Goals as goal
 
 pub bind_reserved-requires-clause-counter : goal.bind_reserved-requires-clause-counter
@@ -44,6 +46,14 @@ loop-name-preserved g c =
     let key : key_at s.pool.last n ≡ key_at m n = ap (λ t. key_at t n) i.last in
     let at = end_rank s.pool.last (key_at s.pool.last n) refl ∙ ap (end_at (unit_rank n.unit)) i.last in
     let made = ap (λ (l : List Claim). length l) e.claims.3 in
+    let a = c.args.self.now.pool in
+    let after = c.bind_reserved.new.self.pool in
+    let spot = c.index-first.result.now in
+    let x : Claim = record { key = key_at s.pool.last n; cell = e.claims.0; claim = e.claims.1; moment = s.pool.last } in
+    let count : c.len.result ≡ length a.reserved.items = omega (arith, a.reserved.ok.0, c.len.ensures) in
+    let is_last = subst (λ k. spot ≡ get_or a.reserved.items (k - 1) spot) count c.index-first.ensures in
+    let keys : keys_at m c.loop-name.yielded ++ key_at s.pool.last n ∷ [] ≡ keys_at m (c.loop-name.yielded ++ n ∷ [])
+    = ap (λ k. keys_at m c.loop-name.yielded ++ k ∷ []) key ∙ sym (keys_more m c.loop-name.yielded n) in
     record {
       whole = append_assoc c.loop-name.yielded (n ∷ []) rest ∙ v;
       adds = subst (λ l. AddsEach c.args.self.now.pool.claims l c.bind_reserved.new.self.pool.claims) (sym (keys_more m c.loop-name.yielded n))
@@ -56,6 +66,9 @@ loop-name-preserved g c =
       most = e.same.1 ∙ i.most;
       reserved = omega (arith, e.reserved, i.reserved);
       room = e.room (length rest) (subst (λ k. HaveRoom k s.index.items) len i.room);
+      first = subst (λ (l : List CounterKey). BindsFirst spot a.reserved.items after.reserved.items l after.claims) keys
+          (first_more spot a.reserved.items s.pool.reserved.items after.reserved.items (keys_at m c.loop-name.yielded) s.pool.claims after.claims x spot is_last
+          e.claims.3 e.claims.2 i.first);
       fit = fit_kept m (unit_rank n.unit) s.pool.rings.items c.bind_reserved.new.self.pool.rings.items
           (subst (λ x. KeepsFits (unit_rank n.unit) x s.pool.rings.items c.bind_reserved.new.self.pool.rings.items) at e.rings) i.fit;
     }

@@ -4,6 +4,7 @@ use Rattle.counter_directory.specs.Index.{HaveRoom}
 use Rattle.counter_directory.specs.Windows.{RingsFit}
 use Rattle.counter_directory.specs.Keys.{keys_at, AddsEach}
 use Rattle.counter_directory.specs.Acquired.{Grows}
+use Rattle.counter_directory.proofs.Finding.{BindsFirst}
 use Rattle.counter_directory.proofs.claim_table.ClaimTable.bind_all.Given as goal
 
 abbrev pub invariant-loop-name : goal.invariant-loop-name
@@ -17,5 +18,6 @@ invariant-loop-name g l = record {
   most : l.self.pool.most ≡ l.initial.self.pool.most;
   reserved : length l.name-iterator.rest.items ≤ vec_len l.self.pool.reserved;
   room : HaveRoom (length l.name-iterator.rest.items) l.self.index.items;
+  first : BindsFirst l.first l.initial.self.pool.reserved.items l.self.pool.reserved.items (keys_at l.initial.self.pool.last l.yielded) l.self.pool.claims;
   fit : RingsFit l.initial.self.pool.last l.self.pool.rings.items;
 }

@@ -3,7 +3,10 @@ use Rattle.counter_directory.specs.Windows.{ExpiredBelow}
 use Rattle.counter_directory.specs.Keys.{keys_at}
 use Rattle.counter_directory.specs.Acquired.{Bounds}
 use Rattle.counter_directory.proofs.Ringing.{rings_fit}
+use Rattle.counter_directory.specs.Acquiring.{IsBoundAt}
 use Rattle.counter_directory.proofs.Acquiring.{wanted_of, bound_new}
+use Rattle.counter_directory.proofs.Finding.{first_named}
+use Rattle.counter_directory.proofs.KeyLists.{len_keys}
 use Rattle.counter_directory.proofs.claim_table.ClaimTable.bind_missing.Goals as goal
 
 pub bind_all-requires-clause-rings : goal.bind_all-requires-clause-rings
@@ -59,3 +62,15 @@ returns-clause-did g c =
     (keys_at a.last c.args.names.now) missing.items (p.claims ∙ ap (λ z. z.claims) r) (p.last ∙ ap (λ z. z.last) r) c.bind_all.ensures.grows c.bind_all.ensures.adds
     c.in-Ok.ensures.missing
     (omega (arith, c.if-claims-from.false, c.from.ensures, c.claims_made-claims.ensures, c.len-wanted.ensures, missing.ok.0)) (search rules)
+
+pub returns-clause-first : goal.returns-clause-first
+returns-clause-first g c =
+    let a = c.args.self.now.pool in
+    let names = c.args.names.now in
+    let missing = c.in-Ok.missing in
+    let p = c.reserve_cells.ensures.keeps in
+    let r = c.make_room.ensures.same.0 in
+    let last = p.last ∙ ap (λ z. z.last) r in
+    let claims = c.bind_all.new.self.pool.claims in
+    first_named a.last names missing.items c.args.first claims c.bind_all.result (omega (arith, c.requires.first.0, len_keys a.last names)) c.in-Ok.ensures.is_first
+    (subst (λ t. IsBoundAt 0 (keys_at t missing.items) claims c.bind_all.result) last c.bind_all.ensures.first)
