@@ -2,11 +2,11 @@ ghost use Rattle.std.specs.Prelude.{◌≡◌, ℕ, ◌^◌, ◌≤◌, ◌<◌,
 ghost use Rattle.rate_types.specs.declared.limits.TheConstants.{MOST_CLAIM_NUMBERS, MOST_PASSES, MOST_PINS};
 ghost use Rattle.counter_cells.specs.Views.{good_on};
 ghost use Rattle.counter_cells.specs.Opened.{table_of, setup_of};
-ghost use Rattle.told_list.specs.Tokens.{list_of};
+ghost use Rattle.counter_directory.specs.Passes.{list_of};
 ghost use Rattle.counter_directory.specs.Spots.{spots_on};
 
 use counter_cells::{CellNaming, CellPass, Cells, OpenedCells, Spot};
-use counter_directory::{AcquireFault, Acquired, Directory, DirectoryPass, claims, give_back};
+use counter_directory::{AcquireFault, Acquired, Directory, DirectoryPass, give_back};
 use rate_types::{CounterName, Entries, Entry, Seconds, Text, Unit};
 use std::alloc::Global;
 use std::hash::RandomState;
@@ -70,6 +70,21 @@ fn open<N: CellNaming, R: RandomSource>(
     .ok()?;
     let workers = pair(alloc, cell_passes, passes, &directory)?;
     Some((cells, directory, workers))
+}
+
+// Two of the workers.
+fn two_of<N: CellNaming>(
+    mut workers: Vec<Worker<N>>,
+    directory: &Directory<N>,
+) -> Option<(Worker<N>, Worker<N>)>
+    requires { All (λ w. (w.cell_pass.good ≡ []) × (list_of w.pass ≡ directory.now.list_id)) workers.items }
+    ensures one { IfSome result (λ r. (r.0.cell_pass.good ≡ []) × (list_of r.0.pass ≡ directory.now.list_id)) }
+    ensures other { IfSome result (λ r. (r.1.cell_pass.good ≡ []) × (list_of r.1.pass ≡ directory.now.list_id)) }
+{
+    let _ = directory;
+    let one = workers.pop()?;
+    let other = workers.pop()?;
+    Some((one, other))
 }
 
 // The name of the counters of k with this value, for each minute.
@@ -193,7 +208,7 @@ fn claim_three<N: CellNaming, R: Abort + RandomSource + Wait>(
         })
     );
     assert_eq!(rt; again, first);
-    assert_eq!(rt; claims(&worker.pass), 2);
+    assert_eq!(rt; worker.pass.claims(), 2);
     Ok(())
 }
 
@@ -212,9 +227,8 @@ fn take_the_expired_cell<N: CellNaming, R: Abort + RandomSource + Wait>(
     requires name { (table_of opened ≡ N.table) × (setup_of opened ≡ N.setup) }
     requires workers { N.setup.passes ≡ 2 }
 {
-    let (cells, directory, mut workers) = open::<N, _>(rt, alloc, opened, 100, 2).ok_or("memory")?;
-    let mut one = workers.pop().ok_or("two workers")?;
-    let mut other = workers.pop().ok_or("two workers")?;
+    let (cells, directory, workers) = open::<N, _>(rt, alloc, opened, 100, 2).ok_or("memory")?;
+    let (mut one, mut other) = two_of(workers, &directory).ok_or("two workers")?;
     let first = take_one(rt, alloc, &directory, &cells, &mut one, "a");
     cells.tick(&mut other.cell_pass, Seconds::capped(60));
     let second = take_one(rt, alloc, &directory, &cells, &mut other, "b");
@@ -253,9 +267,8 @@ fn hold_an_ended_cell<N: CellNaming, R: Abort + RandomSource + Wait>(
     requires name { (table_of opened ≡ N.table) × (setup_of opened ≡ N.setup) }
     requires workers { N.setup.passes ≡ 2 }
 {
-    let (cells, directory, mut workers) = open::<N, _>(rt, alloc, opened, 100, 2).ok_or("memory")?;
-    let mut one = workers.pop().ok_or("two workers")?;
-    let mut other = workers.pop().ok_or("two workers")?;
+    let (cells, directory, workers) = open::<N, _>(rt, alloc, opened, 100, 2).ok_or("memory")?;
+    let (mut one, mut other) = two_of(workers, &directory).ok_or("two workers")?;
     take_beside_a_pin(rt, alloc, &directory, &cells, &mut one, &mut other)
 }
 
@@ -329,7 +342,7 @@ fn pin_one_name_twice<N: CellNaming, R: Abort + RandomSource + Wait>(
     let spot = Spot { cell: 0, claim: 0 };
     assert_eq!(rt; acquired.spots.as_slice(), [spot, spot].as_slice());
     assert_eq!(rt; worker.cell_pass.pins(), 2);
-    assert_eq!(rt; claims(&worker.pass), 1);
+    assert_eq!(rt; worker.pass.claims(), 1);
     Ok(())
 }
 

@@ -1,12 +1,12 @@
 ghost use Rattle.std.specs.Prelude.{◌≡◌, ◌≤◌, [], length, vec_len, All, IfSome};
 ghost use Rattle.rate_types.specs.declared.limits.TheConstants.{MOST_PINS};
 ghost use Rattle.counter_cells.specs.Opened.{table_of, setup_of};
-ghost use Rattle.told_list.specs.Tokens.{list_of};
+ghost use Rattle.counter_directory.specs.Passes.{list_of};
 
 use super::lists::may_be_open;
 use super::{Worker, name, open, take};
 use counter_cells::{CellNaming, Cells, OpenedCells};
-use counter_directory::{Directory, DirectoryPass, claims};
+use counter_directory::{Directory, DirectoryPass};
 use rate_types::{CounterName, Seconds};
 use std::alloc::Global;
 use std::marker::Brand;
@@ -152,7 +152,7 @@ fn take_in_four_threads<N: CellNaming + Send + Sync, R: Threads + Wait + Sync>(
 fn most_known<N: CellNaming>(passes: &[DirectoryPass<N>]) -> u64 {
     let mut most = 0;
     for pass in passes {
-        most = most.max(claims(pass));
+        most = most.max(pass.claims());
     }
     most
 }

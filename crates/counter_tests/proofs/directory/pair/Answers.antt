@@ -1,7 +1,7 @@
 use Rattle.std.proofs.Common.{◌≡◌, [], All, sym, subst}
 use Rattle.std.specs.Prelude.{IfSome}
 use Rattle.std.proofs.lemmas.List.Elements.{All-pop}
-use Rattle.told_list.specs.Tokens.{list_of}
+use Rattle.counter_directory.specs.Passes.{list_of}
 use Rattle.counter_tests.proofs.Elements.{all_tail, all_maybe}
 use Rattle.counter_tests.proofs.directory.pair.Goals as goal
 

@@ -1,5 +1,5 @@
 use Rattle.std.proofs.Common.{◌≡◌, [], All}
-use Rattle.told_list.specs.Tokens.{list_of}
+use Rattle.counter_directory.specs.Passes.{list_of}
 use Rattle.counter_tests.proofs.directory.pair.Given as goal
 
 abbrev pub invariant-loop-cell_pass : goal.invariant-loop-cell_pass

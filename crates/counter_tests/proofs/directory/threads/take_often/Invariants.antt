@@ -1,5 +1,5 @@
 use Rattle.std.proofs.Common.{◌≡◌, []}
-use Rattle.told_list.specs.Tokens.{list_of}
+use Rattle.counter_directory.specs.Passes.{list_of}
 use Rattle.counter_tests.proofs.directory.threads.take_often.Given as goal
 
 abbrev pub invariant-loop-round : goal.invariant-loop-round
