@@ -17,7 +17,7 @@ use Rattle.rate_types.specs.Counters.{same_counter}
 use Rattle.rate_types.specs.declared.counter_key.CounterKey.{CounterKey}
 use Rattle.rate_types.specs.declared.counter_name.CounterName.{CounterName}
 use Rattle.window_keys.proofs.Counters.{same_is, is_same}
-use Rattle.told_list.specs.declared.rule.TokenView.{TokenView}
+use Rattle.counter_directory.specs.Passes.{KnownClaims}
 use Rattle.counter_cells.specs.Views.{good_on, good_under, claim_on, held_on, Capped}
 use Rattle.counter_cells.specs.Steps.{number_of, last_moment, good_pin}
 use Rattle.counter_cells.specs.declared.view.CellView.{CellView}
@@ -300,7 +300,7 @@ pinned_next cells claims names name spots s v w x a there one e own = record {
         (newest s ∙ ap (λ b. cond b s.claim (claim_on s.cell w.good)) (eq-eqb s.cell s.cell refl))
 
 -- what is pinned without a turn at the directory is what a turn would leave
-pub pinned_known : (cells : ℕ) (names : List CounterName) (spots : List Spot) (v w : CellView) (t : TokenView Claim) → ArePinned cells t.known names spots v w
+pub pinned_known : (cells : ℕ) (names : List CounterName) (spots : List Spot) (v w : CellView) (t : KnownClaims) → ArePinned cells t.known names spots v w
     → HasPins names spots v w t t
 pinned_known cells names spots v w t a = record {
   waited = record {
@@ -343,13 +343,13 @@ module _ (v v' w : CellView) (same : SameButPins v v') where
     keeps = record { looks = h.keeps.looks ∙ same.looks; charges = h.keeps.charges ∙ same.charges };
   }
 
-  pub pins_after : (names : List CounterName) (spots : List Spot) (t u : TokenView Claim) → HasPins names spots v' w t u → HasPins names spots v w t u
+  pub pins_after : (names : List CounterName) (spots : List Spot) (t u : KnownClaims) → HasPins names spots v' w t u → HasPins names spots v w t u
   pins_after names spots t u h = record { waited = waited_after h.waited; count = h.count; bound = h.bound; under = h.under; claimed = h.claimed }
 
   held_after : (held : List ℕ) → HeldSince v' w [] held → HeldSince v w [] held
   held_after held h k = let e : held_on k v' ≡ held_on k v = ap (λ l. total (λ (p : ℕ × ℕ). one_if (p.0 == k)) l) same.held in let g = h k in omega arith
 
-  cause_after : (b : Bounds) (names : List CounterName) (fault : AcquireFault) (u : TokenView Claim) → HasPinCause b names v' fault w u → HasPinCause b names v fault w u
+  cause_after : (b : Bounds) (names : List CounterName) (fault : AcquireFault) (u : KnownClaims) → HasPinCause b names v' fault w u → HasPinCause b names v fault w u
   cause_after b names OutOfMemory u c = tt
   cause_after b names (ClaimsSpent claims wanted) u c = c
   cause_after b names (CountersFull moment live held wanted) u c = record {
@@ -362,7 +362,7 @@ module _ (v v' w : CellView) (same : SameButPins v v') where
     full = c.full;
   }
 
-  pub no_pins_after : (b : Bounds) (names : List CounterName) (fault : AcquireFault) (t u : TokenView Claim) → HasNoPins b names fault v' w t u → HasNoPins b names fault v w t u
+  pub no_pins_after : (b : Bounds) (names : List CounterName) (fault : AcquireFault) (t u : KnownClaims) → HasNoPins b names fault v' w t u → HasNoPins b names fault v w t u
   no_pins_after b names fault t u h = record { waited = waited_after h.waited; bare = h.bare; knew = h.knew; own = h.own; cause = cause_after b names fault u h.cause }
 
 -- ---- entries of later claims, and notes
@@ -460,7 +460,7 @@ map_at f (x ∷ xs) zero d lt = refl
 map_at f (x ∷ xs) (suc i) d lt = map_at f xs i d (omega arith)
 
 -- what is known of the claims after some were made
-pub claimed_prefix : (keys : List CounterKey) (moment : ℕ) (t u : TokenView Claim) → HasClaimed keys moment t u → IsPrefix t.known u.known
+pub claimed_prefix : (keys : List CounterKey) (moment : ℕ) (t u : KnownClaims) → HasClaimed keys moment t u → IsPrefix t.known u.known
 claimed_prefix keys moment t u h = subst (IsPrefix t.known) (sym h.known) (prefix_then t.known h.found (h.found ++ h.added) h.knew (h.added, refl))
 
 -- what stands in a place that is beyond spots

@@ -1,7 +1,6 @@
 -- The passes of a limiter at the start.
 use Rattle.std.proofs.Common.{◌≡◌, ℕ, zero, suc, List, [], ◌∷◌, length, All, refl, arith}
-use Rattle.told_list.specs.declared.rule.TokenView.{TokenView}
-use Rattle.told_list.specs.Tokens.{IsFresh}
+use Rattle.counter_directory.specs.Passes.{IsFresh, KnownClaims}
 use Rattle.descriptor_tree.specs.Trees.{DomainTree}
 use Rattle.config_versions.specs.PassState.{PassState, IsFirst}
 use Rattle.counter_cells.specs.Steps.{new_passes}
@@ -23,8 +22,8 @@ pub all_tail : {A : Type 0} (P : A → Type 0) (x : A) (xs : List A) → All P (
 all_tail P x xs h = (h 0 x (omega arith), λ k d l. h (suc k) d (omega arith))
 
 -- a pass of three new parts
-pub new_pass_of : (config : List DomainTree) (start : ℕ) (id : LimiterId) (s : PassState (List DomainTree)) (t : TokenView Claim) (v : CellView)
-    → IsFirst config s → IsFresh [] t → IsNewCellPass start v
+pub new_pass_of : (config : List DomainTree) (start : ℕ) (id : LimiterId) (s : PassState (List DomainTree)) (t : KnownClaims) (v : CellView)
+    → IsFirst config s → IsFresh t → IsNewCellPass start v
     → IsNewPass config start (record { limiter = id; version = s; claims = t; cells = v; known = []; refused = 0 })
 new_pass_of config start id s t v first fresh new = record {
   version = first;

@@ -16,8 +16,7 @@ use Rattle.counter_cells.specs.declared.naming.CellNaming.{Ghosts}
 use Rattle.counter_cells.proofs.pass.CellPass.TheSendSync as cell_pass
 use Rattle.counter_cells.proofs.cells.Cells.TheSendSync as cells
 use Rattle.counter_directory.proofs.directory.Directory.TheSendSync as directory
-use Rattle.counter_directory.proofs.claim_table.KeptTable.TheSendSync as kept_table
-use Rattle.told_list.proofs.seen.Seen.TheSendSync as seen
+use Rattle.counter_directory.proofs.pass.DirectoryPass.TheSendSync as directory_pass
 use Rattle.rate_limiter.proofs.known_counters.KnownCounters.TheSendSync as known_counters
 use Rattle.rate_limiter.specs.contracts.pass.Pass as pass
 use Rattle.rate_limiter.specs.contracts.pass.Pass.TheInside as pass_inside
@@ -49,7 +48,7 @@ pub pass_send : (N : RattleType) (naming : Ghosts N.Denot) → IsSend (pass.the_
 pass_send N naming = view_send (pass_inside.the_row N naming) _ _ _ _ (declared_send (pass_inside.the_type N naming) (
   search (version_pass.the_send, index_send, index_sync),
   (
-    seen.the_send _ _ (kept_table.the_send N naming),
+    directory_pass.the_send N naming,
     (
       cell_pass.the_send N naming,
       (

@@ -6,7 +6,7 @@ use mathlib.Core.List.{IsPrefix}
 use Rattle.rate_types.specs.Requests.{RequestParts}
 use Rattle.rate_types.specs.declared.counter_name.CounterName.{CounterName}
 use Rattle.descriptor_tree.specs.Trees.{DomainTree}
-use Rattle.told_list.specs.declared.rule.TokenView.{TokenView}
+use Rattle.counter_directory.specs.Passes.{KnownClaims}
 use Rattle.config_versions.specs.PassState.{PassState}
 use Rattle.counter_cells.specs.Views.{held_on}
 use Rattle.counter_cells.specs.Steps.{number_of, last_moment}
@@ -209,7 +209,7 @@ module _ (limiter : LimiterView) (request : RequestParts) (now : ℕ) (p p1 p2 q
       let named : keys_at w.moment (names_under request ds (map (found_for config request) ds)) ≡ counters_named config request w.moment
       = keys_named q.claims.known request w.moment config ds in
       let claimed : HasClaimed (counters_named config request w.moment) w.moment p.claims q.claims
-      = subst (λ (t : TokenView Claim). HasClaimed (counters_named config request w.moment) w.moment t q.claims) start_claims
+      = subst (λ (t : KnownClaims). HasClaimed (counters_named config request w.moment) w.moment t q.claims) start_claims
       (subst (λ ks. HasClaimed ks w.moment p2.claims q.claims) named pins_so.claimed) in
       record {
         same = same ∙ start_limiter;
@@ -246,8 +246,8 @@ module _ (limiter : LimiterView) (request : RequestParts) (now : ℕ) (p p1 p2 q
       own_versions = own ∙ ap (λ (s : PassState (List DomainTree)). s.view.own) start_version;
       ticks = subst (HasOffered now p.cells) (sym cells_same) offered;
       counts = subst (Keeps p.cells) (sym cells_same) (ticks_keep p p1 ticked);
-      claims = subst (IsPrefix p.claims.known) (ap (λ (t : TokenView Claim). t.known) (sym start_claims)) (prefix_self p.claims.known);
-      own_claims = ap (λ (t : TokenView Claim). t.own) start_claims;
+      claims = subst (IsPrefix p.claims.known) (ap (λ (t : KnownClaims). t.known) (sym start_claims)) (prefix_self p.claims.known);
+      own_claims = ap (λ (t : KnownClaims). t.own) start_claims;
       bare = bare;
     }),
     ap (λ (x : PassView). x.refused) e ∙ start_refused,
@@ -259,7 +259,7 @@ module _ (limiter : LimiterView) (request : RequestParts) (now : ℕ) (p p1 p2 q
       let g = h k in
       omega arith
 
-  module _ (b : Bounds) (names : List CounterName) (rules : List Found) (w : CellView) (u : TokenView Claim) (renewed : HasRenewed p1.version p2.version)
+  module _ (b : Bounds) (names : List CounterName) (rules : List Found) (w : CellView) (u : KnownClaims) (renewed : HasRenewed p1.version p2.version)
       (rules_are : rules ≡ map (found_for p2.version.index request) request.descriptors) (names_are : names ≡ names_under request request.descriptors rules) where
     named_so : keys_at w.moment names ≡ counters_named p2.version.index request w.moment
     named_so =
@@ -304,8 +304,8 @@ module _ (limiter : LimiterView) (request : RequestParts) (now : ℕ) (p p1 p2 q
         own_versions = renewed_so.own;
         ticks = waited_offers w h.waited;
         counts = waited_keeps w h.waited;
-        claims = subst (λ (t : TokenView Claim). IsPrefix t.known u.known) start_claims h.knew;
-        own_claims = h.own ∙ ap (λ (t : TokenView Claim). t.own) start_claims;
+        claims = subst (λ (t : KnownClaims). IsPrefix t.known u.known) start_claims h.knew;
+        own_claims = h.own ∙ ap (λ (t : KnownClaims). t.own) start_claims;
         bare = h.bare;
       },
       cause_of fault h.cause,

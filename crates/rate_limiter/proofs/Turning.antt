@@ -10,9 +10,8 @@ use Rattle.rate_types.specs.Sums.{one_if}
 use Rattle.rate_types.specs.Counters.{same_counter}
 use Rattle.rate_types.specs.declared.counter_key.CounterKey.{CounterKey}
 use Rattle.rate_types.specs.declared.counter_name.CounterName.{CounterName}
-use Rattle.told_list.specs.declared.rule.TokenView.{TokenView}
 use Rattle.told_list.specs.Lists.{count_from}
-use Rattle.told_list.specs.Tokens.{HasTurned}
+use Rattle.counter_directory.specs.Passes.{HasTurned, KnownClaims}
 use Rattle.counter_cells.specs.Steps.{number_of, good_pin}
 use Rattle.counter_cells.specs.declared.view.CellView.{CellView}
 use Rattle.counter_cells.specs.declared.answers.Spot.{Spot}
@@ -103,7 +102,7 @@ added_named b m keys found left h i x at =
     let there = (parts (claims_of q found.claims == 0) (nat_lt 0 (key_count q keys)) some).1 in
     grind (arith, nat_tests)
 
-claimed_of : (b : Bounds) (m : ℕ) (keys : List CounterKey) (found left : ClaimTableView) (t u : TokenView Claim) → HasBound b m keys found left
+claimed_of : (b : Bounds) (m : ℕ) (keys : List CounterKey) (found left : ClaimTableView) (t u : KnownClaims) → HasBound b m keys found left
     → HasTurned found.claims left.claims t u → HasClaimed keys m t u
 claimed_of b m keys found left t u h turn =
     let added = h.grows.0 in
@@ -119,7 +118,7 @@ claimed_of b m keys found left t u h turn =
       made = h.grows.2;
     }
 
-pub turned_ok : (b : Bounds) (names : List CounterName) (a : Acquired) (v w : CellView) (t u : TokenView Claim) → Turned b names v (Ok a) w t u
+pub turned_ok : (b : Bounds) (names : List CounterName) (a : Acquired) (v w : CellView) (t u : KnownClaims) → Turned b names v (Ok a) w t u
     → HasPins names a.spots.items v w t u
 turned_ok b names a v w t u h =
     let d = h.did.0 in
@@ -133,7 +132,7 @@ turned_ok b names a v w t u h =
     }
 
 -- a turn that added nothing
-module _ (t u : TokenView Claim) (found left : List Claim) (turn : HasTurned found left t u) (same : left ≡ found) where
+module _ (t u : KnownClaims) (found left : List Claim) (turn : HasTurned found left t u) (same : left ≡ found) where
   knew_still : IsPrefix t.known u.known
   knew_still = subst (λ (l : List Claim). IsPrefix t.known l) (sym (turn.known ∙ same)) turn.knew
 
@@ -142,7 +141,7 @@ module _ (t u : TokenView Claim) (found left : List Claim) (turn : HasTurned fou
       let none : length left - length found ≡ 0 = let e : length left ≡ length found = ap length same in omega arith in
       turn.own ∙ ap (λ n. t.own ++ count_from (length found) n) none ∙ append-nil t.own
 
-pub turned_err : (b : Bounds) (names : List CounterName) (fault : AcquireFault) (v w : CellView) (t u : TokenView Claim) → w.good ≡ []
+pub turned_err : (b : Bounds) (names : List CounterName) (fault : AcquireFault) (v w : CellView) (t u : KnownClaims) → w.good ≡ []
     → Turned b names v (Err fault) w t u → HasNoPins b names fault v w t u
 turned_err b names OutOfMemory v w t u bare h =
     let same : h.left.claims ≡ h.found.claims = ap (λ (x : ClaimTableView). x.claims) h.did.1 in
@@ -190,7 +189,7 @@ turned_err b names (CountersFull moment live held wanted) v w t u bare h =
     }
 
 -- without a turn nothing is pinned
-pub no_turn : (v : CellView) (t : TokenView Claim) → HasPins [] [] v v t t
+pub no_turn : (v : CellView) (t : KnownClaims) → HasPins [] [] v v t t
 no_turn v t = record {
   waited = record { ticked = never_ticked v; keeps = record { looks = refl; charges = refl } };
   count = refl;
@@ -208,7 +207,7 @@ no_turn v t = record {
 }
 
 -- without names there is no turn
-pub no_names : (names : List CounterName) (spots : List Spot) → (length names == 0) ≡ true → spots ≡ [] → (v : CellView) (t : TokenView Claim) → HasPins names spots v v t t
+pub no_names : (names : List CounterName) (spots : List Spot) → (length names == 0) ≡ true → spots ≡ [] → (v : CellView) (t : KnownClaims) → HasPins names spots v v t t
 no_names [] spots e s v t = subst (λ (l : List Spot). HasPins [] l v v t t) (sym s) (no_turn v t)
 no_names (x ∷ xs) spots e s v t = let z : suc (length xs) ≡ 0 = grind (arith, nat_tests) in absurd (omega arith)
 
@@ -240,7 +239,7 @@ pins_grow : (ss : List Spot) (v w : CellView) → PinsAfterMisses ss v w → Pin
 pins_grow ss v w p = subst (PinsGrow v.pairs) (sym (ap (λ (x : CellView). x.pairs) p.1)) (pinned_grow ss (record v { others = v.others ++ p.0 }))
 
 -- after a turn as many pins were good as before, or more, and one on each spot
-pub turned_grow : (b : Bounds) (names : List CounterName) (r : Result Acquired AcquireFault) (v w : CellView) (t u : TokenView Claim) → Turned b names v r w t u
+pub turned_grow : (b : Bounds) (names : List CounterName) (r : Result Acquired AcquireFault) (v w : CellView) (t u : KnownClaims) → Turned b names v r w t u
     → PinsGrow v.pairs w.pairs
 turned_grow b names (Ok a) v w t u h =
     let d = h.did.0 in
@@ -249,7 +248,7 @@ turned_grow b names (Err OutOfMemory) v w t u h = ticked_grow v w h.did.0
 turned_grow b names (Err (ClaimsSpent claims wanted)) v w t u h = ticked_grow v w h.did.0
 turned_grow b names (Err (CountersFull moment live held wanted)) v w t u h = ticked_grow v w h.did.0
 
-pub turned_had : (b : Bounds) (names : List CounterName) (a : Acquired) (v w : CellView) (t u : TokenView Claim) → Turned b names v (Ok a) w t u
+pub turned_had : (b : Bounds) (names : List CounterName) (a : Acquired) (v w : CellView) (t u : KnownClaims) → Turned b names v (Ok a) w t u
     → All (λ (s : Spot). 1 ≤ pins_under s.cell s.claim w.pairs) a.spots.items
 turned_had b names a v w t u h =
     let p = h.did.0.pins in
@@ -261,7 +260,7 @@ pub none_had : (pins : List (ℕ × ℕ)) (ss : List Spot) → ss ≡ [] → All
 none_had pins ss e = subst (All (λ (s : Spot). 1 ≤ pins_under s.cell s.claim pins)) (sym e) (λ k d lt. absurd (omega arith))
 
 -- after a turn the pass knows a lawful list of claims
-pub turned_once : (b : Bounds) (names : List CounterName) (r : Result Acquired AcquireFault) (v w : CellView) (t u : TokenView Claim) → Turned b names v r w t u
+pub turned_once : (b : Bounds) (names : List CounterName) (r : Result Acquired AcquireFault) (v w : CellView) (t u : KnownClaims) → Turned b names v r w t u
     → AreClaimedOnce u.known
 turned_once b names r v w t u h = subst AreClaimedOnce (sym h.turn.known) (lawful_once b.cells b.claims h.left.claims h.lawful)
 
@@ -275,7 +274,7 @@ ticked_others : (v w : CellView) → HasTicked v w → length v.others ≤ lengt
 ticked_others v w h = let e = ap (λ (x : CellView). length x.others) h.view in omega arith
 
 -- no pin that missed is forgotten in a turn
-pub turned_others : (b : Bounds) (names : List CounterName) (r : Result Acquired AcquireFault) (v w : CellView) (t u : TokenView Claim) → Turned b names v r w t u
+pub turned_others : (b : Bounds) (names : List CounterName) (r : Result Acquired AcquireFault) (v w : CellView) (t u : KnownClaims) → Turned b names v r w t u
     → length v.others ≤ length w.others
 turned_others b names (Ok a) v w t u h =
     let d = h.did.0 in

@@ -7,7 +7,7 @@ use lib.ListN.{get_elem?}
 use Rattle.rate_types.specs.Requests.{RequestParts}
 use Rattle.rate_types.specs.Ledger.{Charge}
 use Rattle.rate_types.specs.declared.counter_key.CounterKey.{CounterKey}
-use Rattle.told_list.specs.declared.rule.TokenView.{TokenView}
+use Rattle.counter_directory.specs.Passes.{KnownClaims}
 use Rattle.told_list.specs.Lists.{count_from}
 use Rattle.config_versions.specs.PassState.{PassState, IsVersion}
 use Rattle.counter_cells.specs.Steps.{number_of, last_moment}
@@ -46,7 +46,7 @@ pub record HasOffered (now : ℕ) (v w : CellView) : Type 0 where
   pub later : v.moment ≤ w.moment
 
 -- what the pass knew of the claims it knows still, and each claim that it made is of one of the counters, at the moment
-pub record HasClaimed (keys : List CounterKey) (moment : ℕ) (v w : TokenView Claim) : Type 0 where
+pub record HasClaimed (keys : List CounterKey) (moment : ℕ) (v w : KnownClaims) : Type 0 where
   pub found : List Claim
   pub added : List Claim
   pub knew : IsPrefix v.known found

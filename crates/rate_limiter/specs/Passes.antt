@@ -3,8 +3,7 @@ use Rattle.std.specs.Prelude.{◌≡◌, ℕ, ◌-◌, ◌*◌, List, [], Bool}
 use Rattle.rate_types.specs.declared.limits.TheConstants.{MOST_PINS}
 use Rattle.atomic_table.specs.Seated.{TableId}
 use Rattle.descriptor_tree.specs.Trees.{DomainTree}
-use Rattle.told_list.specs.declared.rule.TokenView.{TokenView}
-use Rattle.told_list.specs.Tokens.{IsFresh}
+use Rattle.counter_directory.specs.Passes.{IsFresh, KnownClaims}
 use Rattle.config_versions.specs.PassState.{PassState, IsFirst}
 use Rattle.counter_cells.specs.Steps.{number_of, fresh_pass}
 use Rattle.counter_cells.specs.declared.view.CellView.{CellView}
@@ -29,7 +28,7 @@ pub record LimiterView : Type 0 where
 pub record PassView : Type 0 where
   pub limiter : LimiterId
   pub version : PassState (List DomainTree)
-  pub claims : TokenView Claim
+  pub claims : KnownClaims
   pub cells : CellView
   pub known : Entries
   pub refused : ℕ
@@ -41,7 +40,7 @@ bounds_of cells l = record { cells = cells; claims = l.claims_max; held = MOST_P
 -- a pass that has done nothing yet: it is at the first version, which is the configuration, and its moment is the start
 pub record IsNewPass (config : List DomainTree) (start : ℕ) (p : PassView) : Type 0 where
   pub version : IsFirst config p.version
-  pub claims : IsFresh [] p.claims
+  pub claims : IsFresh p.claims
   pub cells : p.cells ≡ fresh_pass (number_of p.cells) start
   pub known : p.known ≡ []
   pub refused : p.refused ≡ 0

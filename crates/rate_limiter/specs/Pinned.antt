@@ -4,7 +4,7 @@ use mathlib.Core.List.{IsPrefix}
 use mathlib.Core.Option.{some}
 use lib.ListN.{get_elem?}
 use Rattle.rate_types.specs.declared.counter_name.CounterName.{CounterName}
-use Rattle.told_list.specs.declared.rule.TokenView.{TokenView}
+use Rattle.counter_directory.specs.Passes.{KnownClaims}
 use Rattle.counter_cells.specs.Views.{claim_on, good_on}
 use Rattle.counter_cells.specs.Steps.{number_of}
 use Rattle.counter_cells.specs.declared.view.CellView.{CellView}
@@ -47,7 +47,7 @@ pub record ArePinned (cells : ℕ) (claims : List Claim) (names : List CounterNa
   pub under : (i : ℕ) (s : Spot) → get_elem? spots i ≡ some s → claim_on s.cell w.good ≡ s.claim
 
 -- the counters of the names are pinned on these spots, each under a claim that binds it
-pub record HasPins (names : List CounterName) (spots : List Spot) (v w : CellView) (t u : TokenView Claim) : Type 0 where
+pub record HasPins (names : List CounterName) (spots : List Spot) (v w : CellView) (t u : KnownClaims) : Type 0 where
   pub waited : HasWaited v w
   pub count : length spots ≡ length names
   pub bound : Bound u.known (keys_at w.moment names) spots
@@ -55,14 +55,14 @@ pub record HasPins (names : List CounterName) (spots : List Spot) (v w : CellVie
   pub claimed : HasClaimed (keys_at w.moment names) w.moment t u
 
 -- why they aren't
-abbrev pub HasPinCause : Bounds → List CounterName → CellView → AcquireFault → CellView → TokenView Claim → Type 0
+abbrev pub HasPinCause : Bounds → List CounterName → CellView → AcquireFault → CellView → KnownClaims → Type 0
 HasPinCause b names v OutOfMemory w u = Unit {0}
 HasPinCause b names v (ClaimsSpent claims wanted) w u = AreClaimsSpent b (keys_at w.moment names) u.known claims wanted
 HasPinCause b names v (CountersFull moment live held wanted) w u =
     AreCountersFull b (keys_at w.moment names) u.known v w moment live held wanted
 
 -- they aren't pinned, and nothing was claimed
-pub record HasNoPins (b : Bounds) (names : List CounterName) (fault : AcquireFault) (v w : CellView) (t u : TokenView Claim) : Type 0 where
+pub record HasNoPins (b : Bounds) (names : List CounterName) (fault : AcquireFault) (v w : CellView) (t u : KnownClaims) : Type 0 where
   pub waited : HasWaited v w
   pub bare : w.good ≡ []
   pub knew : IsPrefix t.known u.known

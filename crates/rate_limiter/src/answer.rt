@@ -17,7 +17,7 @@ impl<N: CellNaming> Limiter<N> {
     ghost use Rattle.counter_cells.specs.declared.view.CellView.{CellView};
     ghost use mathlib.Core.Option.{some};
     ghost use lib.ListN.{get_elem?};
-    ghost use Rattle.told_list.specs.Tokens.{view as knows};
+    ghost use Rattle.counter_directory.specs.Passes.{knows};
     ghost use Rattle.counter_cells.specs.Views.{good_on, claim_on};
     ghost use Rattle.counter_cells.specs.declared.answers.Spot.{Spot as SpotValue};
     ghost use Rattle.counter_directory.specs.Keys.{keys_at};

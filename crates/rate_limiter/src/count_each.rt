@@ -3,7 +3,7 @@ ghost use Rattle.std.specs.Prelude.{◌≡◌, ℕ, ◌≤◌, ◌<◌, [], if�
 ghost use mathlib.Core.Option.{some};
 ghost use lib.ListN.{get_elem?};
 ghost use Rattle.rate_types.specs.declared.limits.TheConstants.{MOST_DESCRIPTORS};
-ghost use Rattle.told_list.specs.Tokens.{view as knows};
+ghost use Rattle.counter_directory.specs.Passes.{knows};
 ghost use Rattle.counter_cells.specs.declared.view.CellView.{CellView};
 ghost use Rattle.counter_cells.specs.Views.{good_on};
 ghost use Rattle.counter_directory.specs.Spots.{spots_on, LeavesAllButPins};

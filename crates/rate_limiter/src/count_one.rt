@@ -1,6 +1,6 @@
 // Counting on one pinned cell, and noting what was seen there.
 ghost use Rattle.std.specs.Prelude.{◌≡◌, ◌≤◌, ◌<◌, ◌⊎◌, ◌^◌, false, true};
-ghost use Rattle.told_list.specs.Tokens.{view as knows};
+ghost use Rattle.counter_directory.specs.Passes.{knows};
 ghost use Rattle.window_keys.specs.Counter.{counter_of};
 ghost use Rattle.counter_cells.specs.Views.{good_on, claim_on};
 ghost use Rattle.rate_limiter.specs.Values.{HasSeen, looks_counted};

@@ -1,6 +1,6 @@
 // What a pass notes of its counters.
 ghost use Rattle.std.specs.Prelude.{◌≡◌, ◌≤◌, ◌<◌, All, length};
-ghost use Rattle.told_list.specs.Tokens.{view as knows};
+ghost use Rattle.counter_directory.specs.Passes.{knows};
 ghost use Rattle.counter_cells.specs.declared.view.CellView.{CellView};
 ghost use Rattle.counter_directory.specs.Keys.{keys_at};
 ghost use Rattle.counter_directory.specs.Spots.{Bound};

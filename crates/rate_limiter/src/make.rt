@@ -1,6 +1,6 @@
 ghost use Rattle.std.specs.Prelude.{◌≡◌, ◌≤◌, ◌+◌, [], All, IfOk, length, map, vec_len, vec_capacity};
 ghost use Rattle.std.specs.Arc.{arc_value};
-ghost use Rattle.told_list.specs.Tokens.{list_of, view as knows, IsFresh};
+ghost use Rattle.counter_directory.specs.Passes.{list_of, knows, IsFresh};
 ghost use Rattle.config_versions.specs.PassState.{IsFirst};
 ghost use Rattle.config_versions.specs.Passes.{IsPassOf, pass_state, versions_id};
 ghost use Rattle.rate_limiter.specs.Passes.{IsNewPass};
@@ -30,7 +30,7 @@ fn passes_of<N: CellNaming>(
     seed: RandomState,
 ) -> Result<Vec<Pass<N>>, OutOfMemory>
     requires cells { All (λ v. IsNewCellPass N.setup.start v) cell_passes.items }
-    requires claims { All (λ s. (list_of s ≡ directory.now.list_id) × IsFresh [] (knows s)) claim_passes.items }
+    requires claims { All (λ s. (list_of s ≡ directory.now.list_id) × IsFresh (knows s)) claim_passes.items }
     requires versions { All (λ p. IsPassOf versions.now p × IsFirst (arc_value first.now) (pass_state p)) version_passes.items }
     requires as_many { (vec_len claim_passes ≡ vec_len cell_passes) × (vec_len version_passes ≡ vec_len cell_passes) }
     ensures passes { IfOk result

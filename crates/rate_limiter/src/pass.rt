@@ -22,7 +22,7 @@ pub struct Pass<N: CellNaming> {
 
 impl<N: CellNaming> Model for Pass<N> {
     ghost use Rattle.std.specs.Prelude.{◌≡◌, []};
-    ghost use Rattle.told_list.specs.Tokens.{list_of, view as knows};
+    ghost use Rattle.counter_directory.specs.Passes.{list_of, knows};
     ghost use Rattle.config_versions.specs.Passes.{pass_state, versions_of};
     ghost use Rattle.rate_limiter.specs.Passes.{PassView};
     ghost use Rattle.rate_limiter.specs.Known.{AreBoundEntries, AreSeenEntries, AreClaimedOnce};
@@ -50,7 +50,7 @@ impl<N: CellNaming> Model for Pass<N> {
 impl<N: CellNaming> Pass<N> {
     ghost use Rattle.std.specs.Prelude.{◌≡◌, []};
     ghost use Rattle.rate_limiter.specs.Values.{looks_counted};
-    ghost use Rattle.told_list.specs.Tokens.{list_of, view as knows};
+    ghost use Rattle.counter_directory.specs.Passes.{list_of, knows};
     ghost use Rattle.config_versions.specs.Passes.{pass_state, versions_of};
 
     pub(crate) fn new(

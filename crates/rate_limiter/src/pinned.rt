@@ -20,7 +20,7 @@ use std::sync::Wait;
 impl<N: CellNaming> Limiter<N> {
     ghost use Rattle.std.specs.Prelude.{◌≡◌, ◌≤◌, ◌<◌, ℕ, [], All, IfOk, IfErr, length};
     ghost use Rattle.rate_types.specs.declared.limits.TheConstants.{MOST_PINS, MOST_DESCRIPTORS};
-    ghost use Rattle.told_list.specs.Tokens.{list_of, view as knows};
+    ghost use Rattle.counter_directory.specs.Passes.{list_of, knows};
     ghost use Rattle.counter_cells.specs.Views.{good_on};
     ghost use Rattle.counter_directory.specs.Spots.{spots_on};
     ghost use Rattle.rate_limiter.specs.Passes.{bounds_of};

@@ -4,7 +4,7 @@ ghost use Rattle.rate_types.specs.declared.limits.TheConstants.{MOST_DESCRIPTORS
 ghost use Rattle.rate_types.specs.declared.counter_name.CounterName.{CounterName as CounterNameValue};
 ghost use Rattle.counter_cells.specs.declared.view.CellView.{CellView};
 ghost use Rattle.window_keys.specs.Counter.{counter_of};
-ghost use Rattle.told_list.specs.Tokens.{view as knows};
+ghost use Rattle.counter_directory.specs.Passes.{knows};
 ghost use Rattle.over_cache.specs.Entries.{known_of};
 ghost use Rattle.rate_limiter.specs.Known.{AreBoundEntries, PinsGrow, key_of, pins_under, spot_in};
 ghost use Rattle.rate_limiter.specs.Planned.{name_under, names_under};

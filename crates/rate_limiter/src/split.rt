@@ -1,6 +1,6 @@
 // The parts of passes.
 ghost use Rattle.std.specs.Prelude.{◌≡◌, ◌≤◌, [], All, IfOk, map, length, vec_len, vec_capacity};
-ghost use Rattle.told_list.specs.Tokens.{list_of, view as knows};
+ghost use Rattle.counter_directory.specs.Passes.{list_of, knows};
 ghost use Rattle.config_versions.specs.Passes.{pass_state, versions_of};
 
 use crate::Pass;

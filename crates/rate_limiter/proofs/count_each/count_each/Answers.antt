@@ -1,7 +1,7 @@
 use Rattle.std.proofs.Common.{◌≡◌, ◌∙◌, ℕ, List, Option, Some, None, IfSome, cond, Bool, true, false, get_or, length, sym, subst, ap, arith}
 use mathlib.Core.Option.{some, some-ne-none}
 use lib.ListN.{get_elem?}
-use Rattle.told_list.specs.Tokens.{view}
+use Rattle.counter_directory.specs.Passes.{knows}
 use Rattle.rate_types.specs.declared.request.Descriptor.{Descriptor}
 use Rattle.rate_limiter.specs.declared.planned.Planned.{Planned}
 use Rattle.rate_limiter.specs.Sought.{IsSeenAt}
@@ -25,7 +25,7 @@ seen_at-value-requires-clause-before g c =
     let plan = c.args.plan.now in
     let d = c.index-descriptors-place.result in
     let p : Planned = get_or plan k no_plan in
-    let claims = (view c.args.claims.now).known in
+    let claims = (knows c.args.claims.now).known in
     let d_at : get_elem? ds k ≡ some d = item_at ds k d (omega (arith, c.requires.count)) ∙ sym (ap (λ (e : Descriptor). some e) c.index-descriptors-place.is) in
     some_such (λ (n : ℕ). get_elem? c.plan.seen.now k ≡ some n) (λ (n : ℕ). IsSeenAt claims c.args.request.now c.args.moment c.plan.known d p.found n) c.value_at.result
     (λ n e. c.plan.invariant.values k d p n d_at (item_at plan k no_plan (omega arith)) e) c.value_at.ensures
@@ -54,7 +54,7 @@ pub plan-preserved : goal.plan-preserved
 plan-preserved g c =
     let i = c.plan.invariant in
     let k = c.plan.place in
-    let claims = (view c.args.claims.now).known in
+    let claims = (knows c.args.claims.now).known in
     let r = c.args.request.now in
     let m = c.args.moment in
     let ds = c.args.descriptors.now in

@@ -1,5 +1,5 @@
 use Rattle.std.proofs.Common.{◌≡◌, ◌∙◌, ℕ, List, sym, subst, ap}
-use Rattle.told_list.specs.Tokens.{view}
+use Rattle.counter_directory.specs.Passes.{knows}
 use Rattle.rate_types.specs.declared.counter_key.CounterKey.{CounterKey}
 use Rattle.rule_lookup.specs.declared.found.Found.{Found}
 use Rattle.window_keys.specs.Counter.{counter_of}
@@ -13,7 +13,7 @@ use Rattle.rate_limiter.proofs.count_each.seen_at.Goals as goal
 pub returns-in-Limited-clause-known : goal.returns-in-Limited-clause-known
 returns-in-Limited-clause-known g c =
     let cells = g.N.CellNaming.setup.cells in
-    let claims = (view c.args.claims.now).known in
+    let claims = (knows c.args.claims.now).known in
     let pins = c.args.pass.now.pairs in
     let key = key_of (counter_named c.domain.result.now c.args.descriptor.now.entries c.in-Limited.unit c.args.moment) in
     subst (AreBoundEntries cells claims pins) (sym c.find.ensures.order) (asked_all (IsBoundEntry cells claims pins) key c.args.known.now c.requires.known)
@@ -25,7 +25,7 @@ returns-in-Limited-clause-same g c =
 pub returns-in-Limited-clause-seen : goal.returns-in-Limited-clause-seen
 returns-in-Limited-clause-seen g c =
     let cells = g.N.CellNaming.setup.cells in
-    let claims = (view c.args.claims.now).known in
+    let claims = (knows c.args.claims.now).known in
     let pins = c.args.pass.now.pairs in
     let q = counter_of c.args.request.now.domain c.args.descriptor.now c.in-Limited.unit c.args.moment in
     let same : counter_named c.domain.result.now c.args.descriptor.now.entries c.in-Limited.unit c.args.moment ≡ q

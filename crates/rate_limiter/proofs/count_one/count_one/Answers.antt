@@ -1,5 +1,5 @@
 use Rattle.std.proofs.Common.{◌≡◌, ◌≤◌, ◌<◌, ℕ, List, Option, IfSome, sym, subst}
-use Rattle.told_list.specs.Tokens.{view}
+use Rattle.counter_directory.specs.Passes.{knows}
 use Rattle.window_keys.specs.Counter.{counter_of}
 use Rattle.counter_cells.specs.Views.{good_on, claim_on}
 use Rattle.counter_cells.specs.declared.answers.Spot.{Spot}
@@ -9,13 +9,13 @@ use Rattle.rate_limiter.proofs.count_one.count_one.Goals as goal
 
 pub count_at-count-requires-clause-seen : goal.count_at-count-requires-clause-seen
 count_at-count-requires-clause-seen g c =
-    seen_here (view c.args.claims.now).known c.args.request.now c.args.moment c.args.descriptor.now c.args.planned.now c.in-Limited.limit c.in-Limited.unit _ _ c.in-Some.spot
+    seen_here (knows c.args.claims.now).known c.args.request.now c.args.moment c.args.descriptor.now c.args.planned.now c.in-Limited.limit c.in-Limited.unit _ _ c.in-Some.spot
     c.in-Limited.is c.in-Some.is c.args.known.now c.args.seen c.args.pass.now c.requires.once c.requires.own c.requires.value c.requires.seen
 
 pub returns-clause-seen : goal.returns-clause-seen
 returns-clause-seen g c =
     let cells = g.N.CellNaming.setup.cells in
-    let claims = (view c.args.claims.now).known in
+    let claims = (knows c.args.claims.now).known in
     let r = c.args.request.now in
     let m = c.args.moment in
     let d = c.args.descriptor.now in
@@ -37,7 +37,7 @@ returns-clause-seen g c =
 pub returns-clause-known : goal.returns-clause-known
 returns-clause-known g c =
     let cells = g.N.CellNaming.setup.cells in
-    let claims = (view c.args.claims.now).known in
+    let claims = (knows c.args.claims.now).known in
     let r = c.args.request.now in
     let m = c.args.moment in
     let d = c.args.descriptor.now in
@@ -60,7 +60,7 @@ returns-clause-known g c =
 pub returns-clause-spots : goal.returns-clause-spots
 returns-clause-spots g c =
     let cells = g.N.CellNaming.setup.cells in
-    let claims = (view c.args.claims.now).known in
+    let claims = (knows c.args.claims.now).known in
     let r = c.args.request.now in
     let m = c.args.moment in
     let d = c.args.descriptor.now in

@@ -1,7 +1,7 @@
 use Rattle.std.proofs.Common.{◌≡◌, ◌<◌, ◌∙◌, get_or, length, refl, sym, ap, subst, arith}
 use mathlib.Core.Option.{some}
 use lib.ListN.{get_elem?}
-use Rattle.told_list.specs.Tokens.{view}
+use Rattle.counter_directory.specs.Passes.{knows}
 use Rattle.rate_types.specs.declared.counter_name.CounterName.{CounterName}
 use Rattle.counter_directory.specs.Keys.{key_at, keys_at}
 use Rattle.counter_directory.specs.Spots.{Bound}
@@ -13,7 +13,7 @@ use Rattle.rate_limiter.proofs.known.note_names.Goals as goal
 pub names-preserved : goal.names-preserved
 names-preserved g c =
     let cells = g.N.CellNaming.setup.cells in
-    let claims = (view c.args.claims.now).known in
+    let claims = (knows c.args.claims.now).known in
     let names = c.args.names.now in
     let spots = c.args.spots.now in
     let v = c.args.cell_pass.now in

@@ -1,11 +1,11 @@
 use Rattle.std.proofs.Common.{◌≡◌}
-use Rattle.told_list.specs.Tokens.{view}
+use Rattle.counter_directory.specs.Passes.{knows}
 use Rattle.counter_cells.specs.declared.view.CellView.{CellView}
 use Rattle.rate_limiter.specs.Known.{AreBoundEntries, AreSeenEntries}
 use Rattle.rate_limiter.proofs.known.note_names.Given as goal
 
 abbrev pub invariant-names : goal.invariant-names
 invariant-names g l = record {
-  known : AreBoundEntries g.N.CellNaming.setup.cells (view l.claims).known l.cell_pass.pairs l.known;
+  known : AreBoundEntries g.N.CellNaming.setup.cells (knows l.claims).known l.cell_pass.pairs l.known;
   seen : (v : CellView) → AreSeenEntries v l.initial.known → AreSeenEntries v l.known;
 }

@@ -4,7 +4,7 @@ use Rattle.std.specs.Arc.{arc_value}
 use Rattle.std.proofs.lemmas.List.{map-append}
 use Rattle.std.proofs.lemmas.List.Elements.{All-pop, All-push}
 use Rattle.std.proofs.lemmas.Grind.{common_steps}
-use Rattle.told_list.specs.Tokens.{list_of, view, IsFresh}
+use Rattle.counter_directory.specs.Passes.{list_of, knows, IsFresh}
 use Rattle.config_versions.specs.PassState.{IsFirst}
 use Rattle.config_versions.specs.Passes.{IsPassOf, pass_state, versions_id, versions_of}
 use Rattle.rate_limiter.specs.Passes.{LimiterId, PassView, IsNewPass}
@@ -25,8 +25,8 @@ loop-cells-preserved g c =
     let id : LimiterId = record { claims = o.list_id; versions = versions_id vs } in
     let steps = c.in-Some.ensures.steps.0 in
     let t = all_tail (IsNewCellPass start) h c.next.new.self.rest.items (subst (All (IsNewCellPass start)) steps before.rest) in
-    let p = All-pop (λ s. (list_of s ≡ o.list_id) × IsFresh [] (view s)) c.loop-cells.claim_passes.items c.pop.new.self.items c.pop.result c.pop.ensures.items before.claims in
-    let claims = subst (λ r. IfSome r (λ s. (list_of s ≡ o.list_id) × IsFresh [] (view s))) c.in-Some-pop.is p.1 in
+    let p = All-pop (λ s. (list_of s ≡ o.list_id) × IsFresh (knows s)) c.loop-cells.claim_passes.items c.pop.new.self.items c.pop.result c.pop.ensures.items before.claims in
+    let claims = subst (λ r. IfSome r (λ s. (list_of s ≡ o.list_id) × IsFresh (knows s))) c.in-Some-pop.is p.1 in
     let q = All-pop (λ p. IsPassOf vs p × IsFirst first (pass_state p)) c.loop-cells.version_passes.items c.pop-in-loop-cells.new.self.items
     c.pop-in-loop-cells.result c.pop-in-loop-cells.ensures.items before.versions in
     let version = subst (λ r. IfSome r (λ p. IsPassOf vs p × IsFirst first (pass_state p))) c.in-Some-pop-2.is q.1 in
@@ -42,7 +42,7 @@ loop-cells-preserved g c =
           (All-push (λ (x : PassView). (x.limiter ≡ id) × IsNewPass first start x) c.loop-cells.passes.items c.new-pass.result before.passes
           (subst (λ (x : PassView). (x.limiter ≡ id) × IsNewPass first start x) (sym c.new-pass.ensures) (
             λ j. record { claims = claims.0 j; versions = version.0 j },
-            new_pass_of first start (record { claims = list_of s; versions = versions_of v }) (pass_state v) (view s) h version.1 claims.1 t.0,
+            new_pass_of first start (record { claims = list_of s; versions = versions_of v }) (pass_state v) (knows s) h version.1 claims.1 t.0,
           )));
       cells =
           ap (map (λ (x : PassView). x.cells)) c.push_reserved.ensures.items

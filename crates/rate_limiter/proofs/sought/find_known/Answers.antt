@@ -1,7 +1,7 @@
 use Rattle.std.proofs.Common.{◌≡◌, ◌∙◌, ◌<◌, ◌++◌, ◌∷◌, [], ℕ, List, Option, length, get_or, sym, subst, ap, arith}
 use mathlib.Core.Option.{some}
 use lib.ListN.{get_elem?}
-use Rattle.told_list.specs.Tokens.{view}
+use Rattle.counter_directory.specs.Passes.{knows}
 use Rattle.counter_cells.specs.declared.answers.Spot.{Spot}
 use Rattle.rate_types.specs.declared.request.Descriptor.{Descriptor}
 use Rattle.rule_lookup.specs.declared.found.Found.{Found}
@@ -16,7 +16,7 @@ use Rattle.rate_limiter.proofs.sought.find_known.Goals as goal
 pub descriptors-preserved : goal.descriptors-preserved
 descriptors-preserved g c =
     let cells = g.N.CellNaming.setup.cells in
-    let claims = (view c.args.claims.now).known in
+    let claims = (knows c.args.claims.now).known in
     let v = c.args.cell_pass.now in
     let r = c.args.request.now in
     let ds = c.args.descriptors.now in
@@ -55,7 +55,7 @@ descriptors-preserved g c =
 pub returns-in-Err-clause-unknown : goal.returns-in-Err-clause-unknown
 returns-in-Err-clause-unknown g c =
     let cells = g.N.CellNaming.setup.cells in
-    let claims = (view c.args.claims.now).known in
+    let claims = (knows c.args.claims.now).known in
     let v = c.args.cell_pass.now in
     let r = c.args.request.now in
     let ds = c.args.descriptors.now in

@@ -1,5 +1,5 @@
 use Rattle.std.proofs.Common.{◌≡◌, ◌∙◌, List, Option, Some, None, IfSome, sym, subst, ap}
-use Rattle.told_list.specs.Tokens.{view}
+use Rattle.counter_directory.specs.Passes.{knows}
 use Rattle.rate_types.specs.declared.counter_key.CounterKey.{CounterKey}
 use Rattle.window_keys.specs.Counter.{counter_of}
 use Rattle.counter_directory.specs.declared.claim.Claim.{Claim}
@@ -13,7 +13,7 @@ use Rattle.rate_limiter.proofs.sought.find_one.Goals as goal
 pub returns-clause-known : goal.returns-clause-known
 returns-clause-known g c =
     let cells = g.N.CellNaming.setup.cells in
-    let claims = (view c.args.claims.now).known in
+    let claims = (knows c.args.claims.now).known in
     let pins = c.args.cell_pass.now.pairs in
     let key = key_of (counter_named c.domain.result.now c.args.descriptor.now.entries c.args.unit c.moment-moment.result) in
     subst (AreBoundEntries cells claims pins) (sym c.find.ensures.order) (asked_all (IsBoundEntry cells claims pins) key c.args.known.now c.requires.known)
@@ -35,6 +35,6 @@ returns-clause-own g c =
     let q = counter_of c.args.request.now.domain c.args.descriptor.now c.args.unit c.args.cell_pass.now.moment in
     let same : counter_named c.domain.result.now c.args.descriptor.now.entries c.args.unit c.moment-moment.result ≡ q
     = λ i. counter_named (c.domain.ensures.same i) c.args.descriptor.now.entries c.args.unit (c.moment-moment.ensures i) in
-    own_entry g.N.CellNaming.setup.cells (view c.args.claims.now).known c.args.cell_pass.now.pairs q
+    own_entry g.N.CellNaming.setup.cells (knows c.args.claims.now).known c.args.cell_pass.now.pairs q
     (subst (λ (p : CounterKey). (x : CounterKey) → key_of x ≡ key_of p → x ≡ p) same c.find.ensures.alone) c.args.known.now c.requires.known c.find.result
     (c.find.ensures.found ∙ ap (λ (p : CounterKey). known_of (key_of p) c.args.known.now) same)

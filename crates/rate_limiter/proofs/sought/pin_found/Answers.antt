@@ -2,7 +2,7 @@ use Rattle.std.proofs.Common.{◌≡◌, ◌∙◌, ◌++◌, ◌∷◌, [], ◌
 use Rattle.std.specs.Prelude.{IsOk}
 use mathlib.Core.Option.{some}
 use lib.ListN.{get_elem?}
-use Rattle.told_list.specs.Tokens.{view}
+use Rattle.counter_directory.specs.Passes.{knows}
 use Rattle.rate_types.specs.declared.counter_name.CounterName.{CounterName}
 use Rattle.rate_types.specs.declared.request.Descriptor.{Descriptor}
 use Rattle.counter_cells.specs.declared.view.CellView.{CellView}
@@ -22,7 +22,7 @@ use Rattle.rate_limiter.proofs.sought.pin_found.Goals as goal
 pub pin_next-pinned-requires-clause-own : goal.pin_next-pinned-requires-clause-own
 pin_next-pinned-requires-clause-own g c =
     let cells = g.N.CellNaming.setup.cells in
-    let claims = (view c.args.claims.now).known in
+    let claims = (knows c.args.claims.now).known in
     let r = c.args.request.now in
     let ds = c.args.descriptors.now in
     let fs = c.args.rules.now in
@@ -41,7 +41,7 @@ pin_next-pinned-requires-clause-own g c =
 pub descriptors-preserved : goal.descriptors-preserved
 descriptors-preserved g c =
     let cells = g.N.CellNaming.setup.cells in
-    let claims = (view c.args.claims.now).known in
+    let claims = (knows c.args.claims.now).known in
     let r = c.args.request.now in
     let ds = c.args.descriptors.now in
     let fs = c.args.rules.now in

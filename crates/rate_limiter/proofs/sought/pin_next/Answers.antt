@@ -1,5 +1,5 @@
 use Rattle.std.proofs.Common.{◌≡◌, ◌∷◌, ◌++◌, [], List, refl, sym, subst, ap}
-use Rattle.told_list.specs.Tokens.{view}
+use Rattle.counter_directory.specs.Passes.{knows}
 use Rattle.rate_types.specs.declared.counter_name.CounterName.{CounterName}
 use Rattle.counter_cells.specs.declared.view.CellView.{CellView}
 use Rattle.counter_cells.specs.declared.answers.Spot.{Spot}
@@ -13,7 +13,7 @@ use Rattle.rate_limiter.proofs.sought.pin_next.Goals as goal
 pub returns-in-Pinned-clause-pinned : goal.returns-in-Pinned-clause-pinned
 returns-in-Pinned-clause-pinned g c _ v names a =
     let cells = g.N.CellNaming.setup.cells in
-    let claims = (view c.args.claims.now).known in
+    let claims = (knows c.args.claims.now).known in
     let r = c.args.request.now in
     let d = c.args.descriptor.now in
     let w = c.args.cell_pass.now in
@@ -28,7 +28,7 @@ pub returns-in-Other-clause-missed : goal.returns-in-Other-clause-missed
 returns-in-Other-clause-missed g c =
     let w = c.args.cell_pass.now in
     let s = c.in-Some.spot in
-    let one = name_at c.args.request.now w.moment g.N.CellNaming.setup.cells (view c.args.claims.now).known w.pairs c.args.descriptor.now c.args.rule c.args.found s c.in-Some.is
+    let one = name_at c.args.request.now w.moment g.N.CellNaming.setup.cells (knows c.args.claims.now).known w.pairs c.args.descriptor.now c.args.rule c.args.found s c.in-Some.is
     c.requires.own in
     record {
       s = s;

@@ -2,7 +2,7 @@ use Rattle.std.proofs.Common.{◌≡◌, ◌∙◌, [], ◌∷◌, ◌++◌, All
 use Rattle.std.proofs.lemmas.List.Elements.{All-push}
 use Rattle.std.proofs.lemmas.List.{map-append}
 use Rattle.std.proofs.lemmas.Grind.{common_steps}
-use Rattle.told_list.specs.Tokens.{list_of, view}
+use Rattle.counter_directory.specs.Passes.{list_of, knows}
 use Rattle.config_versions.specs.Passes.{pass_state, versions_of}
 use Rattle.rate_limiter.specs.Passes.{PassView}
 use Rattle.rate_limiter.proofs.split.parts_of.Goals as goal
@@ -29,9 +29,9 @@ loop-pass-preserved g c =
       bare = subst (All (λ v. v.good ≡ [])) (sym c.push_reserved-in-loop-pass-2.ensures.items)
           (All-push (λ v. v.good ≡ []) c.loop-pass.cells.items cell before.bare c.pass.invariant.0);
       claims =
-          ap (map view) c.push_reserved-in-loop-pass.ensures.items
-          ∙ map-append view cs (claim ∷ [])
-          ∙ ap (λ l. l ++ view claim ∷ []) before.claims
+          ap (map knows) c.push_reserved-in-loop-pass.ensures.items
+          ∙ map-append knows cs (claim ∷ [])
+          ∙ ap (λ l. l ++ knows claim ∷ []) before.claims
           ∙ ap (λ (x : PassView). map (λ p. p.claims) y ++ x.claims ∷ []) is
           ∙ sym (map-append (λ p. p.claims) y (p ∷ []));
       claim_lists =

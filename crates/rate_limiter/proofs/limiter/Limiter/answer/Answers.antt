@@ -2,7 +2,7 @@ use Rattle.std.proofs.Common.{◌≡◌, ◌∙◌, ◌<◌, ◌&&◌, not, ℕ,
 use Rattle.std.specs.List.{list_any}
 use mathlib.Core.Option.{some}
 use lib.ListN.{get_elem?}
-use Rattle.told_list.specs.Tokens.{view}
+use Rattle.counter_directory.specs.Passes.{knows}
 use Rattle.rate_types.specs.declared.request.Descriptor.{Descriptor}
 use Rattle.counter_directory.specs.Keys.{keys_at}
 use Rattle.counter_directory.specs.Spots.{Bound}
@@ -39,7 +39,7 @@ count_pinned-statuses-requires-clause-ready g c =
 pub count_pinned-statuses-requires-clause-own : goal.count_pinned-statuses-requires-clause-own
 count_pinned-statuses-requires-clause-own g c =
     let request = c.args.request.now in
-    let claims = (view c.args.claims.now).known in
+    let claims = (knows c.args.claims.now).known in
     let ds = c.descriptors-descriptors.result.now in
     let m = c.moment-moment.result in
     let rules = c.args.rules.now in
@@ -53,7 +53,7 @@ count_pinned-statuses-requires-clause-own g c =
 pub count_pinned-statuses-requires-clause-values : goal.count_pinned-statuses-requires-clause-values
 count_pinned-statuses-requires-clause-values g c = λ i d p n a b e.
     let request = c.args.request.now in
-    let claims = (view c.args.claims.now).known in
+    let claims = (knows c.args.claims.now).known in
     let ds = c.descriptors-descriptors.result.now in
     let rules = c.args.rules.now in
     let spots = c.args.spots.now in

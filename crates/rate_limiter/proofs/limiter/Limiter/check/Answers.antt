@@ -5,7 +5,7 @@ use lib.ListN.{get_elem?}
 use Rattle.rate_types.specs.declared.counter_name.CounterName.{CounterName}
 use Rattle.counter_directory.specs.Keys.{keys_at}
 use Rattle.counter_directory.specs.Spots.{Bound}
-use Rattle.told_list.specs.Tokens.{list_of, view}
+use Rattle.counter_directory.specs.Passes.{list_of, knows}
 use Rattle.rate_types.specs.declared.request.Descriptor.{Descriptor}
 use Rattle.rule_lookup.specs.declared.found.Found.{Found}
 use Rattle.rule_lookup.specs.Replaces.{found_among}
@@ -48,7 +48,7 @@ returns-in-Err-clause-step g c =
     let p2 : PassView = record {
       limiter = record { claims = list_of inside.claims; versions = versions_of inside.version };
       version = pass_state inside.version;
-      claims = view inside.claims;
+      claims = knows inside.claims;
       cells = inside.cells;
       known = inside.known;
       refused = inside.refused;
@@ -68,18 +68,18 @@ returns-in-Err-clause-step g c =
     let q : PassView = record {
       limiter = record { claims = list_of c.pin_counters.new.claims; versions = versions_of inside.version };
       version = p2.version;
-      claims = view c.pin_counters.new.claims;
+      claims = knows c.pin_counters.new.claims;
       cells = c.pin_counters.new.cell_pass;
       known = c.pin_counters.new.known;
       refused = c.refuse.new.refused;
     } in
     subst (λ (f : CheckFault). HasRefused c.args.now p q × HasCause b request p f q) (sym c.refuse.ensures.fault)
     (refusal_of limiter request c.args.now p p1 p2 q c.tick.ensures.offered c.tick.ensures.rest rest b
-    names rules c.pin_counters.new.cell_pass (view c.pin_counters.new.claims) renewed rules_are names_are c.in-Err.fault c.in-Err.ensures.refused
+    names rules c.pin_counters.new.cell_pass (knows c.pin_counters.new.claims) renewed rules_are names_are c.in-Err.fault c.in-Err.ensures.refused
     (λ i. record {
       limiter = record { claims = list i; versions = versions_of inside.version };
       version = p2.version;
-      claims = view c.pin_counters.new.claims;
+      claims = knows c.pin_counters.new.claims;
       cells = c.pin_counters.new.cell_pass;
       known = c.pin_counters.new.known;
       refused = c.refuse.ensures.refused i;
@@ -98,7 +98,7 @@ answer-requires-clause-under g c = λ i s a. c.in-Ok.ensures.pinned.under i s (s
 pub answer-requires-clause-bound : goal.answer-requires-clause-bound
 answer-requires-clause-bound g c =
     let request = c.args.request.now in
-    let claims = (view c.pin_counters.new.claims).known in
+    let claims = (knows c.pin_counters.new.claims).known in
     let w = c.pin_counters.new.cell_pass in
     let all = c.descriptors-descriptors.ensures.all in
     subst (Bound claims (keys_at w.moment (names_under request request.descriptors c.as_slice-in-Ok.result.now))) (sym c.as_slice-in-Ok-2.ensures.value)
@@ -125,7 +125,7 @@ returns-in-Ok-clause-step g c =
     let p2 : PassView = record {
       limiter = record { claims = list_of inside.claims; versions = versions_of inside.version };
       version = pass_state inside.version;
-      claims = view inside.claims;
+      claims = knows inside.claims;
       cells = inside.cells;
       known = inside.known;
       refused = inside.refused;
@@ -145,7 +145,7 @@ returns-in-Ok-clause-step g c =
     let q : PassView = record {
       limiter = record { claims = list_of c.pin_counters.new.claims; versions = versions_of inside.version };
       version = p2.version;
-      claims = view c.pin_counters.new.claims;
+      claims = knows c.pin_counters.new.claims;
       cells = c.answer.new.cell_pass;
       known = c.answer.new.known;
       refused = inside.refused;
@@ -176,7 +176,7 @@ returns-in-Err-clause-turns g c =
     let p2 : PassView = record {
       limiter = record { claims = list_of inside.claims; versions = versions_of inside.version };
       version = pass_state inside.version;
-      claims = view inside.claims;
+      claims = knows inside.claims;
       cells = inside.cells;
       known = inside.known;
       refused = inside.refused;
@@ -189,7 +189,7 @@ returns-in-Err-clause-turns g c =
     let q : PassView = record {
       limiter = record { claims = list_of c.pin_counters.new.claims; versions = versions_of inside.version };
       version = p2.version;
-      claims = view c.pin_counters.new.claims;
+      claims = knows c.pin_counters.new.claims;
       cells = c.pin_counters.new.cell_pass;
       known = c.pin_counters.new.known;
       refused = c.refuse.new.refused;
@@ -207,7 +207,7 @@ returns-in-Ok-clause-turns g c =
     let p2 : PassView = record {
       limiter = record { claims = list_of inside.claims; versions = versions_of inside.version };
       version = pass_state inside.version;
-      claims = view inside.claims;
+      claims = knows inside.claims;
       cells = inside.cells;
       known = inside.known;
       refused = inside.refused;
@@ -221,7 +221,7 @@ returns-in-Ok-clause-turns g c =
     let q : PassView = record {
       limiter = record { claims = list_of c.pin_counters.new.claims; versions = versions_of inside.version };
       version = p2.version;
-      claims = view c.pin_counters.new.claims;
+      claims = knows c.pin_counters.new.claims;
       cells = c.answer.new.cell_pass;
       known = c.answer.new.known;
       refused = inside.refused;

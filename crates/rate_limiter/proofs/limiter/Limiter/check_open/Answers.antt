@@ -5,7 +5,7 @@ use lib.ListN.{get_elem?}
 use Rattle.rate_types.specs.declared.counter_name.CounterName.{CounterName}
 use Rattle.counter_directory.specs.Keys.{keys_at}
 use Rattle.counter_directory.specs.Spots.{Bound}
-use Rattle.told_list.specs.Tokens.{list_of, view}
+use Rattle.counter_directory.specs.Passes.{list_of, knows}
 use Rattle.rate_types.specs.declared.request.Descriptor.{Descriptor}
 use Rattle.descriptor_tree.specs.Trees.{DomainTree}
 use Rattle.rule_lookup.specs.declared.found.Found.{Found}
@@ -53,7 +53,7 @@ returns-in-Err-clause-step g c =
     let p1 : PassView = record {
       limiter = record { claims = list_of first.claims; versions = versions_of load };
       version = pass_state load;
-      claims = view first.claims;
+      claims = knows first.claims;
       cells = first.cells;
       known = first.known;
       refused = first.refused;
@@ -61,7 +61,7 @@ returns-in-Err-clause-step g c =
     let p2 : PassView = record {
       limiter = record { claims = list_of inside.claims; versions = versions_of inside.version };
       version = pass_state inside.version;
-      claims = view inside.claims;
+      claims = knows inside.claims;
       cells = inside.cells;
       known = inside.known;
       refused = inside.refused;
@@ -102,7 +102,7 @@ answer-requires-clause-under g c = λ i s a. c.in-Ok.ensures.pinned.under i s (s
 pub answer-requires-clause-bound : goal.answer-requires-clause-bound
 answer-requires-clause-bound g c =
     let request = c.args.request.now in
-    let claims = (view c.pass-2.inside.claims).known in
+    let claims = (knows c.pass-2.inside.claims).known in
     let a = c.in-Ok.ensures.pinned in
     let all = c.descriptors-descriptors.ensures.all in
     let m = c.pin_known.new.cell_pass.moment in
@@ -115,7 +115,7 @@ answer-requires-clause-bound g c =
 pub answer-requires-clause-values : goal.answer-requires-clause-values
 answer-requires-clause-values g c = λ i d f n a b e.
     let request = c.args.request.now in
-    let claims = (view c.pass-2.inside.claims).known in
+    let claims = (knows c.pass-2.inside.claims).known in
     let known = c.pin_known.new.known in
     let v = c.pass-2.inside.cells in
     let was = c.in-Ok.ensures.seen i d f n (subst (λ (l : List Descriptor). get_elem? l i ≡ some d) (sym c.descriptors-descriptors.ensures.all) a)
@@ -147,7 +147,7 @@ returns-in-Ok-clause-step g c =
     let p1 : PassView = record {
       limiter = record { claims = list_of first.claims; versions = versions_of load };
       version = pass_state load;
-      claims = view first.claims;
+      claims = knows first.claims;
       cells = first.cells;
       known = first.known;
       refused = first.refused;
@@ -155,7 +155,7 @@ returns-in-Ok-clause-step g c =
     let p2 : PassView = record {
       limiter = record { claims = list_of inside.claims; versions = versions_of inside.version };
       version = pass_state inside.version;
-      claims = view inside.claims;
+      claims = knows inside.claims;
       cells = inside.cells;
       known = inside.known;
       refused = inside.refused;

@@ -8,8 +8,7 @@ use Rattle.rate_types.specs.declared.counter_key.CounterKey.{CounterKey}
 use Rattle.rate_types.specs.Ledger.{Sight, charged_total, IsLawfulLedger, IsLawfulSight}
 use Rattle.rate_types.specs.Sums.{times}
 use Rattle.told_list.specs.Lists.{IsOwnedOnce}
-use Rattle.told_list.specs.Tokens.{list_of, view}
-use Rattle.told_list.specs.declared.rule.TokenView.{TokenView}
+use Rattle.counter_directory.specs.Passes.{list_of, knows, KnownClaims}
 use Rattle.descriptor_tree.specs.Trees.{DomainTree}
 use Rattle.config_versions.specs.PassState.{PassState}
 use Rattle.config_versions.specs.Passes.{pass_state, versions_id, versions_of}
@@ -56,13 +55,13 @@ returns-clause-claims g c =
 
 pub returns-clause-claims_known : goal.returns-clause-claims_known
 returns-clause-claims_known g c =
-    all_through (λ (t : TokenView Claim). IsPrefix t.known c.close-closed_directory.result.claims) view (λ p. p.claims) c.in_ok-parts.parts.claims.items c.args.passes.items
+    all_through (λ (t : KnownClaims). IsPrefix t.known c.close-closed_directory.result.claims) knows (λ p. p.claims) c.in_ok-parts.parts.claims.items c.args.passes.items
     c.in_ok-parts.ensures.claims c.close-closed_directory.ensures.prefixes
 
 pub returns-clause-claims_owned : goal.returns-clause-claims_owned
 returns-clause-claims_owned g c n =
     subst (IsOwnedOnce 0 (length c.close-closed_directory.result.claims) n)
-    (total_through (λ (t : TokenView Claim). times n t.own) view (λ p. p.claims) c.in_ok-parts.parts.claims.items c.args.passes.items c.in_ok-parts.ensures.claims)
+    (total_through (λ (t : KnownClaims). times n t.own) knows (λ p. p.claims) c.in_ok-parts.parts.claims.items c.args.passes.items c.in_ok-parts.ensures.claims)
     (c.close-closed_directory.ensures.owned n)
 
 pub returns-clause-versions_known : goal.returns-clause-versions_known

@@ -1,7 +1,7 @@
 use Rattle.std.proofs.Common.{◌≡◌, ◌∙◌, ◌<◌, ℕ, [], List, length, sym, subst, ap, arith, rules}
 use mathlib.Core.Option.{some, some-ne-none}
 use lib.ListN.{get_elem?}
-use Rattle.told_list.specs.Tokens.{view}
+use Rattle.counter_directory.specs.Passes.{knows}
 use Rattle.rate_types.specs.declared.counter_name.CounterName.{CounterName}
 use Rattle.counter_directory.specs.Keys.{keys_at}
 use Rattle.rate_limiter.specs.Passes.{bounds_of}
@@ -17,7 +17,7 @@ use Rattle.rate_limiter.proofs.limiter.Limiter.pin_counters.Goals as goal
 pub returns-in-Ok-clause-pinned : goal.returns-in-Ok-clause-pinned
 returns-in-Ok-clause-pinned g c =
     pinned_known g.N.CellNaming.setup.cells (names_under c.args.request.now c.args.descriptors.now c.args.rules.now) c.in-Ok.spots.items c.args.cell_pass.now
-    c.pin_known.new.cell_pass (view c.args.claims.now) c.in-Ok.ensures.pinned
+    c.pin_known.new.cell_pass (knows c.args.claims.now) c.in-Ok.ensures.pinned
 
 pub returns-in-Ok-clause-seen : goal.returns-in-Ok-clause-seen
 returns-in-Ok-clause-seen g c =
@@ -34,7 +34,7 @@ pub returns-in-Ok-clause-values : goal.returns-in-Ok-clause-values
 returns-in-Ok-clause-values g c = λ i d f n a b e.
     let r = c.args.request.now in
     let v = c.args.cell_pass.now in
-    let claims = (view c.args.claims.now).known in
+    let claims = (knows c.args.claims.now).known in
     let known = c.pin_known.new.known in
     subst (λ m. IsSeenAt claims r m known d f n) (sym c.in-Ok.ensures.pinned.same.moment)
     (seen_still r v.moment claims c.args.known.now known c.pin_known.ensures.same d f n (c.in-Ok.ensures.seen i d f n a b e))
@@ -69,7 +69,7 @@ pin_names-requires-clause-few g c =
 
 pub returns-in-Err-clause-known : goal.returns-in-Err-clause-known
 returns-in-Err-clause-known g c =
-    entries_later g.N.CellNaming.setup.cells (view c.args.claims.now).known (view c.pin_names.new.claims).known c.pin_known.new.cell_pass.pairs c.pin_names.new.cell_pass.pairs
+    entries_later g.N.CellNaming.setup.cells (knows c.args.claims.now).known (knows c.pin_names.new.claims).known c.pin_known.new.cell_pass.pairs c.pin_names.new.cell_pass.pairs
     c.pin_known.new.known c.in-Err.ensures.refused.knew c.pin_names.ensures.grow c.pin_known.ensures.known
 
 pub returns-in-Err-clause-refused : goal.returns-in-Err-clause-refused
@@ -78,16 +78,16 @@ returns-in-Err-clause-refused g c =
     let v = c.args.cell_pass.now in
     let mid = c.pin_known.new.cell_pass in
     let w = c.pin_names.new.cell_pass in
-    let t = view c.args.claims.now in
-    let u = view c.pin_names.new.claims in
+    let t = knows c.args.claims.now in
+    let u = knows c.pin_names.new.claims in
     let missed : SameButPins v mid × (mid.good ≡ []) = search rules in
     no_pins_after v mid w missed.0 b (names_under c.args.request.now c.args.descriptors.now c.args.rules.now) c.in-Err.fault t u
     (subst (λ (l : List CounterName). HasNoPins b l c.in-Err.fault mid w t u) (c.as_slice.ensures.value ∙ c.in-Ok-names_of.ensures.names) c.in-Err.ensures.refused)
 
 pub note_names-requires-clause-known : goal.note_names-requires-clause-known
 note_names-requires-clause-known g c =
-    let t = view c.args.claims.now in
-    let u = view c.pin_names.new.claims in
+    let t = knows c.args.claims.now in
+    let u = knows c.pin_names.new.claims in
     entries_later g.N.CellNaming.setup.cells t.known u.known c.pin_known.new.cell_pass.pairs c.pin_names.new.cell_pass.pairs c.pin_known.new.known
     (claimed_prefix (keys_at c.pin_names.new.cell_pass.moment c.as_slice.result.now) c.pin_names.new.cell_pass.moment t u c.in-Ok-pin_names.ensures.pinned.claimed)
     c.pin_names.ensures.grow c.pin_known.ensures.known
@@ -97,8 +97,8 @@ returns-clause-pinned g c =
     let v = c.args.cell_pass.now in
     let mid = c.pin_known.new.cell_pass in
     let w = c.pin_names.new.cell_pass in
-    let t = view c.args.claims.now in
-    let u = view c.pin_names.new.claims in
+    let t = knows c.args.claims.now in
+    let u = knows c.pin_names.new.claims in
     let spots = c.in-Ok-pin_names.spots.items in
     let missed : SameButPins v mid × (mid.good ≡ []) = search rules in
     pins_after v mid w missed.0 (names_under c.args.request.now c.args.descriptors.now c.args.rules.now) spots t u
