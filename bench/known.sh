@@ -1,6 +1,6 @@
 #!/usr/bin/env bash
-# Nanoseconds of one check of a counter that its pass knows, by check_open and by check of rate_limiter: from one thread, from four threads
-# that count on one key, and from four threads of which each has a key of its own. Beside them the same work over a dashmap in Rust
+# Nanoseconds of one check of a counter that its pass knows, by check_open_into and by check_into of rate_limiter: from one thread, from four
+# threads that count on one key, and from four threads of which each has a key of its own. Beside them the same work over a dashmap in Rust
 # (bench/peer.rs; no ratio where there is no cargo): the rule by its domain and key, the counter by its bytes, one look, one addition and
 # a status. Each is the least of five tries, in turns.
 # Then, where there is valgrind, what 1,000 of these checks a thread take beyond what one takes: allocations of the whole program, and
@@ -23,6 +23,7 @@ use counter_cells::{CellNaming, OpenedCells};
 use descriptor_tree::{Config, Forest, Node, Policy, Texts, Tree};
 use rate_limiter::{Limiter, Limits, Pass};
 use rate_types::{Descriptor, Entries, Entry, Request, Seconds, Text, Unit};
+use rls_core::Reply;
 use std::alloc::Global;
 use std::hash::RandomState;
 use std::marker::Brand;
@@ -76,7 +77,7 @@ fn request(alloc: Global, value: &str) -> Option<Request> {
 }
 
 // What the threads of a run share: their limiter and how many they are, whether each has a key of its own, whether they check by
-// check_open, and how often each.
+// check_open_into, and how often each.
 #[derive(Drop)]
 struct Run<'a, N: CellNaming> {
     limiter: &'a Limiter<N>,
@@ -92,9 +93,10 @@ struct Run<'a, N: CellNaming> {
 fn open_rounds<N: CellNaming>(limiter: &Limiter<N>, pass: &mut Pass<N>, request: &Request, rounds: u32) -> u64
     requires pass { pass.old.limiter ≡ limiter.now.id }
 {
+    let mut reply = Reply::new();
     let mut refused = 0u64;
     for _round in 0..rounds {
-        if limiter.check_open(pass, request, Seconds::capped(5)).is_err() {
+        if limiter.check_open_into(pass, request, Seconds::capped(5), &mut reply).is_err() {
             refused = refused.wrapping_add(1);
         }
     }
@@ -104,9 +106,10 @@ fn open_rounds<N: CellNaming>(limiter: &Limiter<N>, pass: &mut Pass<N>, request:
 fn rounds<N: CellNaming, R: Wait>(rt: &R, alloc: Global, limiter: &Limiter<N>, pass: &mut Pass<N>, request: &Request, rounds: u32) -> u64
     requires pass { pass.old.limiter ≡ limiter.now.id }
 {
+    let mut reply = Reply::new();
     let mut refused = 0u64;
     for _round in 0..rounds {
-        if limiter.check(rt, alloc, pass, request, Seconds::capped(5)).is_err() {
+        if limiter.check_into(rt, alloc, pass, request, Seconds::capped(5), &mut reply).is_err() {
             refused = refused.wrapping_add(1);
         }
     }

@@ -18,6 +18,7 @@ use Rattle.counter_cells.proofs.cells.Cells.TheSendSync as cells
 use Rattle.counter_directory.proofs.directory.Directory.TheSendSync as directory
 use Rattle.counter_directory.proofs.pass.DirectoryPass.TheSendSync as directory_pass
 use Rattle.rate_limiter.proofs.known_counters.KnownCounters.TheSendSync as known_counters
+use Rattle.rate_limiter.proofs.scratch.Scratch.TheSendSync as scratch
 use Rattle.rate_limiter.specs.contracts.pass.Pass as pass
 use Rattle.rate_limiter.specs.contracts.pass.Pass.TheInside as pass_inside
 use Rattle.rate_limiter.specs.contracts.limiter.Limiter as limiter
@@ -53,7 +54,7 @@ pass_send N naming = view_send (pass_inside.the_row N naming) _ _ _ _ (declared_
       cell_pass.the_send N naming,
       (
         known_counters.the_send,
-        (search sendable, (search sendable, tt)),
+        (search sendable, (search sendable, (search (sendable, crosses, scratch.the_send), tt))),
       ),
     ),
   ),

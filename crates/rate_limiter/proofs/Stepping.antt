@@ -34,6 +34,7 @@ use Rattle.rate_limiter.specs.Passes.{LimiterView, PassView, KeepsAllButTicks, K
 use Rattle.rate_limiter.specs.Counts.{Keeps, CountsEach}
 use Rattle.rate_limiter.specs.Values.{HasSights}
 use Rattle.rate_limiter.specs.PassStep.{HasRenewed, HasOffered, HasClaimed, HasCharged, IsPassStep}
+use Rattle.rate_limiter.specs.Replied.{replied}
 use Rattle.rate_limiter.specs.Refusals.{HasRefused, HasCause, AreClaimsSpent, AreCountersFull, one_more, Checks}
 use Rattle.rate_limiter.specs.Planned.{names_under, planned_each, CountedAt, DoneAt, DoneEach}
 use Rattle.rate_limiter.specs.Pinned.{HasWaited, HasPins, HasNoPins, HasPinCause, fault_of, refused_after}
@@ -312,7 +313,7 @@ module _ (limiter : LimiterView) (request : RequestParts) (now : ℕ) (p p1 p2 q
     )
 
 -- for want of memory
-pub early : (b : Bounds) (limiter : LimiterView) (request : RequestParts) (now : ℕ) (p q : PassView) (r : Result Reply CheckFault)
-    → IsErr r × IsErrAnd r (λ f. f ≡ check.OutOfMemory) → HasRefused now p q × (q.refused ≡ p.refused) → Checks b limiter request now p r q
-early b limiter request now p q (Ok reply) e h = absurd e.1
-early b limiter request now p q (Err fault) e h = subst (λ (f : CheckFault). HasRefused now p q × HasCause b request p f q) (sym e.1) h
+pub early : (b : Bounds) (limiter : LimiterView) (request : RequestParts) (now : ℕ) (p q : PassView) (r : Result (Unit {0}) CheckFault) (reply : Reply)
+    → IsErr r × IsErrAnd r (λ f. f ≡ check.OutOfMemory) → HasRefused now p q × (q.refused ≡ p.refused) → Checks b limiter request now p (replied r reply) q
+early b limiter request now p q (Ok x) reply e h = absurd e.1
+early b limiter request now p q (Err fault) reply e h = subst (λ (f : CheckFault). HasRefused now p q × HasCause b request p f q) (sym e.1) h

@@ -1,6 +1,6 @@
 -- What a turn at the directory leaves of a pass.
 use Rattle.std.proofs.Common.{◌≡◌, ℕ, suc, ◌+◌, ◌-◌, ◌≤◌, ◌==◌, ◌&&◌, nat_lt, List, [], ◌∷◌, ◌++◌, length, All, true, refl, sym, ap, ◌∙◌, subst, arith, length-append, eq-eqb}
-use Rattle.std.specs.Prelude.{Ok, Err, Result}
+use Rattle.std.specs.Prelude.{Ok, Err, Result, OnOk, OnErr, IfErr}
 use Rattle.std.proofs.lemmas.List.{append-nil}
 use Rattle.std.proofs.lemmas.Bool.Decides.{nat_tests}
 use mathlib.Core.Option.{some}
@@ -22,6 +22,7 @@ use Rattle.counter_directory.specs.declared.acquired.AcquireFault.TheVariants.{O
 use Rattle.counter_directory.specs.Claims.{claims_of}
 use Rattle.counter_directory.specs.Keys.{keys_at, key_count}
 use Rattle.counter_directory.specs.Spots.{Bound, pinned_on}
+use Rattle.counter_directory.specs.Answered.{answered}
 use Rattle.counter_directory.specs.Acquired.{Bounds, ClaimTableView, HasTicked, PinsAfterMisses, HasBound, IsWanted, AreHeld}
 use Rattle.counter_directory.specs.Turns.{Turned}
 use Rattle.rate_limiter.specs.Known.{pins_under, PinsGrow, AreClaimedOnce}
@@ -118,7 +119,7 @@ claimed_of b m keys found left t u h turn =
       made = h.grows.2;
     }
 
-pub turned_ok : (b : Bounds) (names : List CounterName) (a : Acquired) (v w : CellView) (t u : KnownClaims) → Turned b names v (Ok a) w t u
+turned_ok : (b : Bounds) (names : List CounterName) (a : Acquired) (v w : CellView) (t u : KnownClaims) → Turned b names v (Ok a) w t u
     → HasPins names a.spots.items v w t u
 turned_ok b names a v w t u h =
     let d = h.did.0 in
@@ -141,7 +142,7 @@ module _ (t u : KnownClaims) (found left : List Claim) (turn : HasTurned found l
       let none : length left - length found ≡ 0 = let e : length left ≡ length found = ap length same in omega arith in
       turn.own ∙ ap (λ n. t.own ++ count_from (length found) n) none ∙ append-nil t.own
 
-pub turned_err : (b : Bounds) (names : List CounterName) (fault : AcquireFault) (v w : CellView) (t u : KnownClaims) → w.good ≡ []
+turned_err : (b : Bounds) (names : List CounterName) (fault : AcquireFault) (v w : CellView) (t u : KnownClaims) → w.good ≡ []
     → Turned b names v (Err fault) w t u → HasNoPins b names fault v w t u
 turned_err b names OutOfMemory v w t u bare h =
     let same : h.left.claims ≡ h.found.claims = ap (λ (x : ClaimTableView). x.claims) h.did.1 in
@@ -206,6 +207,17 @@ no_turn v t = record {
   };
 }
 
+-- a turn that pinned the counters, or didn't
+pub turned_pins : (b : Bounds) (names : List CounterName) (r : Result (Unit {0}) AcquireFault) (a : Acquired) (v w : CellView) (t u : KnownClaims)
+    → Turned b names v (answered r a) w t u → OnOk r (HasPins names a.spots.items v w t u)
+turned_pins b names (Ok x) a v w t u h = turned_ok b names a v w t u h
+turned_pins b names (Err fault) a v w t u h = tt
+
+pub turned_not : (b : Bounds) (names : List CounterName) (r : Result (Unit {0}) AcquireFault) (a : Acquired) (v w : CellView) (t u : KnownClaims)
+    → OnErr r (w.good ≡ []) → Turned b names v (answered r a) w t u → IfErr r (λ fault. HasNoPins b names fault v w t u)
+turned_not b names (Ok x) a v w t u bare h = tt
+turned_not b names (Err fault) a v w t u bare h = turned_err b names fault v w t u bare h
+
 -- without names there is no turn
 pub no_names : (names : List CounterName) (spots : List Spot) → (length names == 0) ≡ true → spots ≡ [] → (v : CellView) (t : KnownClaims) → HasPins names spots v v t t
 no_names [] spots e s v t = subst (λ (l : List Spot). HasPins [] l v v t t) (sym s) (no_turn v t)
@@ -248,12 +260,13 @@ turned_grow b names (Err OutOfMemory) v w t u h = ticked_grow v w h.did.0
 turned_grow b names (Err (ClaimsSpent claims wanted)) v w t u h = ticked_grow v w h.did.0
 turned_grow b names (Err (CountersFull moment live held wanted)) v w t u h = ticked_grow v w h.did.0
 
-pub turned_had : (b : Bounds) (names : List CounterName) (a : Acquired) (v w : CellView) (t u : KnownClaims) → Turned b names v (Ok a) w t u
-    → All (λ (s : Spot). 1 ≤ pins_under s.cell s.claim w.pairs) a.spots.items
-turned_had b names a v w t u h =
+pub turned_had : (b : Bounds) (names : List CounterName) (r : Result (Unit {0}) AcquireFault) (a : Acquired) (v w : CellView) (t u : KnownClaims)
+    → Turned b names v (answered r a) w t u → OnOk r (All (λ (s : Spot). 1 ≤ pins_under s.cell s.claim w.pairs) a.spots.items)
+turned_had b names (Ok x) a v w t u h =
     let p = h.did.0.pins in
     subst (λ (x : CellView). All (λ (s : Spot). 1 ≤ pins_under s.cell s.claim x.pairs) a.spots.items) (sym p.1)
     (pinned_had a.spots.items (record h.did.0.ticked { others = h.did.0.ticked.others ++ p.0 }))
+turned_had b names (Err fault) a v w t u h = tt
 
 -- without names nothing is pinned
 pub none_had : (pins : List (ℕ × ℕ)) (ss : List Spot) → ss ≡ [] → All (λ (s : Spot). 1 ≤ pins_under s.cell s.claim pins) ss

@@ -10,6 +10,7 @@ pub mod Turns
 pub mod Planned
 pub mod Pinned
 pub mod Sought
+pub mod Replied
 pub mod Opens
 pub mod Opening
 pub mod Versions

@@ -4,10 +4,13 @@ use crate::Limiter;
 use crate::count_each::count_pinned;
 use crate::known_counters::KnownCounters;
 use crate::over::is_over;
-use crate::plan::plan;
+use crate::plan::write_plan;
+use crate::planned::Planned;
+use arrayvec::ArrayVec;
 use counter_cells::{CellNaming, CellPass, Spot};
 use counter_directory::DirectoryPass;
 use rate_types::Request;
+use rate_types::limits::MOST_DESCRIPTORS;
 use rls_core::Reply;
 use rule_lookup::Found;
 
@@ -28,8 +31,8 @@ impl<N: CellNaming> Limiter<N> {
     ghost use Rattle.rate_limiter.specs.Sought.{AreSeenAt};
     ghost use Rattle.rate_limiter.specs.Planned.{names_under, planned_each, DoneEach};
 
-    // The reply to a request whose counters are pinned on the spots: each descriptor is counted, in order, and the pins are given
-    // back. `seen` has the values that are known of the counters, or is empty.
+    // Writes the reply to a request whose counters are pinned on the spots: each descriptor is counted, in order, and the pins are
+    // given back. `seen` has the values that are known of the counters, or is empty.
     pub(crate) fn answer(
         &self,
         claims: &DirectoryPass<N>,
@@ -41,7 +44,9 @@ impl<N: CellNaming> Limiter<N> {
         rules: &[Found],
         spots: &[Spot],
         seen: &[u64],
-    ) -> Reply
+        plan: &mut ArrayVec<Planned, MOST_DESCRIPTORS>,
+        reply: &mut Reply,
+    )
         requires rules { length rules.now ≡ length request.now.descriptors }
         requires count { length spots.now ≡ length (names_under request.now request.now.descriptors rules.now) }
         requires within { All (λ s. s.cell < N.setup.cells) spots.now }
@@ -57,7 +62,7 @@ impl<N: CellNaming> Limiter<N> {
         requires looks { looks.old ≡ looks_counted cell_pass.old }
         ensures done { (mid : CellView)
             × DoneEach cell_pass.old.moment (planned_each request.now request.now.descriptors rules.now spots.now)
-            result.statuses.items cell_pass.old mid
+            reply.new.statuses.items cell_pass.old mid
             × LeavesAllButPins mid cell_pass.new }
         ensures bare { cell_pass.new.good ≡ [] }
         ensures pins { cell_pass.new.pairs ≡ cell_pass.old.pairs }
@@ -65,14 +70,15 @@ impl<N: CellNaming> Limiter<N> {
         ensures seen { AreSeenEntries cell_pass.new known.new }
         ensures spots { SameSpots known.old known.new }
         ensures looks { looks.new ≡ looks_counted cell_pass.new }
-        ensures version { result.version ≡ version }
-        ensures moment { result.moment ≡ cell_pass.old.moment }
-        ensures over { result.over ≡ (list_any (λ s. is_over_limit s.code) result.statuses.items && not self.now.global_shadow) }
+        ensures version { reply.new.version ≡ version }
+        ensures moment { reply.new.moment ≡ cell_pass.old.moment }
+        ensures over { reply.new.over
+            ≡ (list_any (λ s. is_over_limit s.code) reply.new.statuses.items && not self.now.global_shadow) }
     {
         let moment = cell_pass.moment();
         let descriptors = request.descriptors();
-        let plan = plan(request, descriptors, rules, spots);
-        let statuses = count_pinned(
+        write_plan(request, descriptors, rules, spots, plan);
+        count_pinned(
             &self.cells,
             claims,
             cell_pass,
@@ -84,13 +90,10 @@ impl<N: CellNaming> Limiter<N> {
             spots,
             seen,
             moment,
+            &mut reply.statuses,
         );
-        let over = is_over(statuses.as_slice(), self.global_shadow);
-        Reply {
-            version,
-            moment,
-            over,
-            statuses,
-        }
+        reply.version = version;
+        reply.moment = moment;
+        reply.over = is_over(reply.statuses.as_slice(), self.global_shadow);
     }
 }

@@ -2,20 +2,20 @@ ghost use Rattle.std.specs.Prelude.{◌≡◌};
 
 use crate::pinned::refuse;
 use crate::{Limiter, Pass};
-use arrayvec::ArrayVec;
 use counter_cells::CellNaming;
 use rate_types::{Request, Seconds};
 use rls_core::{CheckFault, Reply};
-use rule_lookup::find_rules;
+use rule_lookup::find_rules_into;
 use std::alloc::Global;
 use std::sync::Wait;
 
 impl<N: CellNaming> Limiter<N> {
-    ghost use Rattle.std.specs.Prelude.{◌≡◌, ◌≤◌, length};
+    ghost use Rattle.std.specs.Prelude.{◌≡◌, ◌≤◌, length, OnErr};
     ghost use Rattle.rate_types.specs.declared.limits.TheConstants.{MOST_DESCRIPTORS};
     ghost use Rattle.rate_limiter.specs.Passes.{bounds_of};
     ghost use Rattle.rate_limiter.specs.Refusals.{Checks};
     ghost use Rattle.rate_limiter.specs.Turns.{TakesNoTurn};
+    ghost use Rattle.rate_limiter.specs.Replied.{replied};
 
     /// Answers a request in the windows of a moment that is the pass's afterwards, and no earlier than `now`. It may wait for
     /// other calls on this limiter. It asks the directory for nothing where the pass knows all counters of the request and their
@@ -34,11 +34,39 @@ impl<N: CellNaming> Limiter<N> {
         ensures step { Checks (bounds_of N.setup.cells self.now) self.now request.now now pass.old result pass.new }
         ensures turns { TakesNoTurn request.now pass.old pass.new }
     {
+        let mut reply = Reply::new();
+        self.check_into(rt, alloc, pass, request, now, &mut reply)?;
+        Ok(reply)
+    }
+
+    /// Answers a request as [`Limiter::check`] does, and writes the reply where it is answered. The reply is lent, so that a caller with
+    /// many checks makes and moves none for each. A refused check leaves it as it was.
+    pub fn check_into<R: Wait>(
+        &self,
+        rt: &R,
+        alloc: Global,
+        pass: &mut Pass<N>,
+        request: &Request,
+        now: Seconds,
+        reply: &mut Reply,
+    ) -> Result<(), CheckFault>
+        requires pass { pass.old.limiter ≡ self.now.id }
+        ensures pass { pass.new.limiter ≡ self.now.id }
+        ensures few { length request.now.descriptors ≤ MOST_DESCRIPTORS }
+        ensures step { Checks (bounds_of N.setup.cells self.now) self.now request.now now pass.old (replied result reply.new) pass.new }
+        ensures turns { TakesNoTurn request.now pass.old pass.new }
+        ensures kept { OnErr result (reply.new ≡ reply.old) }
+    {
         let descriptors = request.descriptors();
         self.tick(pass, now);
         self.renew(rt, pass)?;
-        let rules = find_rules(pass.version.index(), request.domain(), descriptors);
-        let mut seen = ArrayVec::new();
+        let scratch = &mut *pass.scratch;
+        find_rules_into(
+            pass.version.index(),
+            request.domain(),
+            descriptors,
+            &mut scratch.rules,
+        );
         match self.pin_counters(
             rt,
             alloc,
@@ -47,21 +75,28 @@ impl<N: CellNaming> Limiter<N> {
             &mut pass.known,
             request,
             descriptors,
-            rules.as_slice(),
-            &mut seen,
+            scratch.rules.as_slice(),
+            &mut scratch.found,
+            &mut scratch.seen,
+            &mut scratch.acquired,
         ) {
             Err(fault) => Err(refuse(&mut pass.refused, fault)),
-            Ok(spots) => Ok(self.answer(
-                &pass.claims,
-                &mut pass.cells,
-                &mut pass.known,
-                &mut pass.looks,
-                pass.version.version(),
-                request,
-                rules.as_slice(),
-                spots.as_slice(),
-                seen.as_slice(),
-            )),
+            Ok(()) => {
+                self.answer(
+                    &pass.claims,
+                    &mut pass.cells,
+                    &mut pass.known,
+                    &mut pass.looks,
+                    pass.version.version(),
+                    request,
+                    scratch.rules.as_slice(),
+                    scratch.acquired.spots.as_slice(),
+                    scratch.seen.as_slice(),
+                    &mut scratch.plan,
+                    reply,
+                );
+                Ok(())
+            }
         }
     }
 }

@@ -2,16 +2,16 @@ ghost use Rattle.std.specs.Prelude.{◌≡◌};
 
 use crate::sought::pin_known;
 use crate::{Limiter, NotOpen, Pass};
-use arrayvec::ArrayVec;
 use counter_cells::CellNaming;
 use rate_types::{Request, Seconds};
 use rls_core::Reply;
-use rule_lookup::find_rules;
+use rule_lookup::find_rules_into;
 
 impl<N: CellNaming> Limiter<N> {
-    ghost use Rattle.std.specs.Prelude.{◌≡◌, ◌≤◌, length};
+    ghost use Rattle.std.specs.Prelude.{◌≡◌, ◌≤◌, length, OnErr};
     ghost use Rattle.rate_types.specs.declared.limits.TheConstants.{MOST_DESCRIPTORS};
     ghost use Rattle.rate_limiter.specs.Opens.{Opens};
+    ghost use Rattle.rate_limiter.specs.Replied.{replied};
 
     /// Answers a request as [`Limiter::check`] does, where no newer version is installed, the pass knows each counter of the
     /// request at its moment, and their cells are theirs still. It takes no lock and no memory, and waits for nobody.
@@ -29,13 +29,38 @@ impl<N: CellNaming> Limiter<N> {
         ensures few { length request.now.descriptors ≤ MOST_DESCRIPTORS }
         ensures step { Opens self.now request.now now pass.old result pass.new }
     {
+        let mut reply = Reply::new();
+        self.check_open_into(pass, request, now, &mut reply)?;
+        Ok(reply)
+    }
+
+    /// Answers a request as [`Limiter::check_open`] does, and writes the reply where it is answered. A refused check leaves it as it
+    /// was.
+    pub fn check_open_into(
+        &self,
+        pass: &mut Pass<N>,
+        request: &Request,
+        now: Seconds,
+        reply: &mut Reply,
+    ) -> Result<(), NotOpen>
+        requires pass { pass.old.limiter ≡ self.now.id }
+        ensures pass { pass.new.limiter ≡ self.now.id }
+        ensures few { length request.now.descriptors ≤ MOST_DESCRIPTORS }
+        ensures step { Opens self.now request.now now pass.old (replied result reply.new) pass.new }
+        ensures kept { OnErr result (reply.new ≡ reply.old) }
+    {
         let descriptors = request.descriptors();
         if let Some(version) = self.versions.is_behind(&mut pass.version) {
             return Err(NotOpen::Behind { version });
         }
         self.tick(pass, now);
-        let rules = find_rules(pass.version.index(), request.domain(), descriptors);
-        let mut seen = ArrayVec::new();
+        let scratch = &mut *pass.scratch;
+        find_rules_into(
+            pass.version.index(),
+            request.domain(),
+            descriptors,
+            &mut scratch.rules,
+        );
         match pin_known(
             &self.cells,
             &pass.claims,
@@ -43,21 +68,28 @@ impl<N: CellNaming> Limiter<N> {
             &mut pass.known,
             request,
             descriptors,
-            rules.as_slice(),
-            &mut seen,
+            scratch.rules.as_slice(),
+            &mut scratch.found,
+            &mut scratch.acquired.spots,
+            &mut scratch.seen,
         ) {
             Err(missed) => Err(NotOpen::of(missed)),
-            Ok(spots) => Ok(self.answer(
-                &pass.claims,
-                &mut pass.cells,
-                &mut pass.known,
-                &mut pass.looks,
-                pass.version.version(),
-                request,
-                rules.as_slice(),
-                spots.as_slice(),
-                seen.as_slice(),
-            )),
+            Ok(()) => {
+                self.answer(
+                    &pass.claims,
+                    &mut pass.cells,
+                    &mut pass.known,
+                    &mut pass.looks,
+                    pass.version.version(),
+                    request,
+                    scratch.rules.as_slice(),
+                    scratch.acquired.spots.as_slice(),
+                    scratch.seen.as_slice(),
+                    &mut scratch.plan,
+                    reply,
+                );
+                Ok(())
+            }
         }
     }
 }

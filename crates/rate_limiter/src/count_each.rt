@@ -78,7 +78,7 @@ fn values_left(seen: &[u64], is_noted: bool) -> &[u64]
     if is_noted { &[] } else { seen }
 }
 
-/// Counts what each descriptor has planned, in order, and answers their statuses. `seen` has the values that are known of their
+/// Counts what each descriptor has planned, in order, and writes their statuses. `seen` has the values that are known of their
 /// counters, or is empty.
 pub(crate) fn count_each<N: CellNaming>(
     cells: &Cells<N>,
@@ -91,7 +91,8 @@ pub(crate) fn count_each<N: CellNaming>(
     plan: &[Planned],
     seen: &[u64],
     moment: Seconds,
-) -> ArrayVec<Status, MOST_DESCRIPTORS>
+    statuses: &mut ArrayVec<Status, MOST_DESCRIPTORS>,
+)
     requires few { length plan.now ≤ MOST_DESCRIPTORS }
     requires count { length descriptors.now ≡ length plan.now }
     requires ready { All (IsReady N.setup.cells pass.old) plan.now }
@@ -101,7 +102,7 @@ pub(crate) fn count_each<N: CellNaming>(
     requires seen { AreSeenEntries pass.old known.old }
     requires once { AreClaimedOnce (knows claims.now).known }
     requires looks { looks.old ≡ looks_counted pass.old }
-    ensures done { DoneEach moment plan.now result.items pass.old pass.new }
+    ensures done { DoneEach moment plan.now statuses.new.items pass.old pass.new }
     ensures good { pass.new.good ≡ pass.old.good }
     ensures pins { pass.new.pairs ≡ pass.old.pairs }
     ensures known { AreBoundEntries N.setup.cells (knows claims.now).known pass.new.pairs known.new }
@@ -109,7 +110,7 @@ pub(crate) fn count_each<N: CellNaming>(
     ensures spots { SameSpots known.old known.new }
     ensures looks { looks.new ≡ looks_counted pass.new }
 {
-    let mut statuses = ArrayVec::new();
+    statuses.clear();
     let mut seen = seen;
     'plan: for place in 0..plan.len() {
         let descriptor = &descriptors[place];
@@ -130,7 +131,6 @@ pub(crate) fn count_each<N: CellNaming>(
         statuses.push(answered.status);
         seen = values_left(seen, answered.is_noted);
     }
-    statuses
 }
 
 /// Counts what each descriptor has planned on the pinned cells, and gives the pins back.
@@ -146,7 +146,8 @@ pub(crate) fn count_pinned<N: CellNaming>(
     spots: &[Spot],
     seen: &[u64],
     moment: Seconds,
-) -> ArrayVec<Status, MOST_DESCRIPTORS>
+    statuses: &mut ArrayVec<Status, MOST_DESCRIPTORS>,
+)
     requires few { length plan.now ≤ MOST_DESCRIPTORS }
     requires count { length descriptors.now ≡ length plan.now }
     requires within { All (λ s. s.cell < N.setup.cells) spots.now }
@@ -158,7 +159,7 @@ pub(crate) fn count_pinned<N: CellNaming>(
     requires seen { AreSeenEntries pass.old known.old }
     requires once { AreClaimedOnce (knows claims.now).known }
     requires looks { looks.old ≡ looks_counted pass.old }
-    ensures done { (mid : CellView) × DoneEach moment plan.now result.items pass.old mid × LeavesAllButPins mid pass.new }
+    ensures done { (mid : CellView) × DoneEach moment plan.now statuses.new.items pass.old mid × LeavesAllButPins mid pass.new }
     ensures bare { pass.new.good ≡ [] }
     ensures pins { pass.new.pairs ≡ pass.old.pairs }
     ensures known { AreBoundEntries N.setup.cells (knows claims.now).known pass.new.pairs known.new }
@@ -166,7 +167,7 @@ pub(crate) fn count_pinned<N: CellNaming>(
     ensures spots { SameSpots known.old known.new }
     ensures looks { looks.new ≡ looks_counted pass.new }
 {
-    let statuses = count_each(
+    count_each(
         cells,
         claims,
         pass,
@@ -177,7 +178,7 @@ pub(crate) fn count_pinned<N: CellNaming>(
         plan,
         seen,
         moment,
+        statuses,
     );
     give_back(cells, pass, spots);
-    statuses
 }

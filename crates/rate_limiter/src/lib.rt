@@ -37,6 +37,7 @@ mod plan;
 mod planned;
 mod reload;
 mod renew;
+mod scratch;
 mod sought;
 mod split;
 mod totals;

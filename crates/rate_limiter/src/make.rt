@@ -7,6 +7,7 @@ ghost use Rattle.rate_limiter.specs.Passes.{IsNewPass};
 ghost use Rattle.rate_limiter.specs.Made.{IsNewCellPass};
 
 use crate::known_counters::KnownCounters;
+use crate::scratch::Scratch;
 use crate::{Limiter, Limits, Pass};
 use config_versions::{VersionPass, Versions};
 use counter_cells::{CellNaming, CellPass, OpenedCells};
@@ -15,6 +16,7 @@ use descriptor_tree::Config;
 use rate_types::OutOfMemory;
 use rule_lookup::Index;
 use std::alloc::Global;
+use std::boxed::Box;
 use std::hash::RandomState;
 use std::sync::Arc;
 
@@ -51,7 +53,8 @@ fn passes_of<N: CellNaming>(
             unreachable!()
         };
         let known = KnownCounters::make(alloc, seed)?;
-        let pass = Pass::new(version, claims, cells, known);
+        let scratch = Box::new(alloc, Scratch::new())?;
+        let pass = Pass::new(version, claims, cells, known, scratch);
         passes.push_reserved(pass);
     }
     Ok(passes)

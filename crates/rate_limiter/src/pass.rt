@@ -1,11 +1,13 @@
 ghost use Rattle.std.specs.Prelude.{◌≡◌};
 
 use crate::known_counters::KnownCounters;
+use crate::scratch::Scratch;
 use config_versions::VersionPass;
 use counter_cells::{CellNaming, CellPass};
 use counter_directory::DirectoryPass;
 use rate_types::Seconds;
 use rule_lookup::Index;
+use std::boxed::Box;
 use std::marker::Model;
 
 /// What one worker has of a limiter. It goes with the [`Limiter`](crate::Limiter) that it was made with. Between two calls it
@@ -18,6 +20,7 @@ pub struct Pass<N: CellNaming> {
     pub(crate) known: KnownCounters,
     pub(crate) looks: u64,
     pub(crate) refused: u64,
+    pub(crate) scratch: Box<Scratch>,
 }
 
 impl<N: CellNaming> Model for Pass<N> {
@@ -58,6 +61,7 @@ impl<N: CellNaming> Pass<N> {
         claims: DirectoryPass<N>,
         cells: CellPass<N>,
         known: KnownCounters,
+        scratch: Box<Scratch>,
     ) -> Pass<N>
         requires bare { (cells.good ≡ []) × (cells.looks ≡ []) }
         requires claims { (knows claims).known ≡ [] }
@@ -78,6 +82,7 @@ impl<N: CellNaming> Pass<N> {
             known,
             looks: 0,
             refused: 0,
+            scratch,
         }
     }
 

@@ -18,7 +18,7 @@ use std::alloc::Global;
 use std::sync::Wait;
 
 impl<N: CellNaming> Limiter<N> {
-    ghost use Rattle.std.specs.Prelude.{◌≡◌, ◌≤◌, ◌<◌, ℕ, [], All, IfOk, IfErr, length};
+    ghost use Rattle.std.specs.Prelude.{◌≡◌, ◌≤◌, ◌<◌, ℕ, [], All, OnOk, IfErr, length};
     ghost use Rattle.rate_types.specs.declared.limits.TheConstants.{MOST_PINS, MOST_DESCRIPTORS};
     ghost use Rattle.counter_directory.specs.Passes.{list_of, knows};
     ghost use Rattle.counter_cells.specs.Views.{good_on};
@@ -36,37 +36,35 @@ impl<N: CellNaming> Limiter<N> {
         claims: &mut DirectoryPass<N>,
         cell_pass: &mut CellPass<N>,
         names: &[CounterName],
-    ) -> Result<ArrayVec<Spot, 32>, AcquireFault>
+        acquired: &mut Acquired,
+    ) -> Result<(), AcquireFault>
         requires pass { list_of claims.old ≡ self.now.id.claims }
         requires bare { cell_pass.old.good ≡ [] }
         requires few { length names.now ≤ MOST_PINS }
         ensures pass { list_of claims.new ≡ self.now.id.claims }
-        ensures within { IfOk result (λ ss. All (λ s. s.cell < N.setup.cells) ss.items) }
-        ensures pins { IfOk result (λ ss. (cell : ℕ) → good_on cell cell_pass.new ≡ spots_on cell ss.items) }
-        ensures had { IfOk result (λ ss. All (λ s. 1 ≤ pins_under s.cell s.claim cell_pass.new.pairs) ss.items) }
+        ensures within { OnOk result (All (λ s. s.cell < N.setup.cells) acquired.new.spots.items) }
+        ensures pins { OnOk result ((cell : ℕ) → good_on cell cell_pass.new ≡ spots_on cell acquired.new.spots.items) }
+        ensures had { OnOk result (All (λ s. 1 ≤ pins_under s.cell s.claim cell_pass.new.pairs) acquired.new.spots.items) }
         ensures grow { PinsGrow cell_pass.old.pairs cell_pass.new.pairs }
         ensures once { AreClaimedOnce (knows claims.old).known → AreClaimedOnce (knows claims.new).known }
         ensures others { length cell_pass.old.others ≤ length cell_pass.new.others }
-        ensures pinned { IfOk result
-            (λ ss. HasPins names.now ss.items cell_pass.old cell_pass.new (knows claims.old) (knows claims.new)) }
+        ensures pinned { OnOk result
+            (HasPins names.now acquired.new.spots.items cell_pass.old cell_pass.new (knows claims.old) (knows claims.new)) }
         ensures refused { IfErr result (λ f. HasNoPins (bounds_of N.setup.cells self.now) names.now f cell_pass.old cell_pass.new
             (knows claims.old) (knows claims.new)) }
     {
         if names.is_empty() {
-            return Ok(ArrayVec::new());
-        }
-        let mut acquired = Acquired::new();
-        match self
-            .directory
-            .acquire(rt, claims, &self.cells, cell_pass, names, &mut acquired)
-        {
-            Ok(()) => Ok(acquired.spots),
-            Err(fault) => Err(fault),
+            acquired.spots.clear();
+            Ok(())
+        } else {
+            self.directory
+                .acquire(rt, claims, &self.cells, cell_pass, names, acquired)
         }
     }
 
-    // Pins the counters of the descriptors that have a limit: without a turn at the directory where the pass knows each and its
-    // cell is the counter's still. Then `seen` is the greatest value that the pass has seen of each; else it is empty.
+    // Pins the counters of the descriptors that have a limit on the spots of `acquired`: without a turn at the directory where the pass
+    // knows each and its cell is the counter's still. Then `seen` is the greatest value that the pass has seen of each; else it is
+    // empty.
     pub(crate) fn pin_counters<R: Wait>(
         &self,
         rt: &R,
@@ -77,8 +75,10 @@ impl<N: CellNaming> Limiter<N> {
         request: &Request,
         descriptors: &[Descriptor],
         rules: &[Found],
+        found: &mut ArrayVec<Option<Spot>, MOST_DESCRIPTORS>,
         seen: &mut ArrayVec<u64, MOST_DESCRIPTORS>,
-    ) -> Result<ArrayVec<Spot, 32>, AcquireFault>
+        acquired: &mut Acquired,
+    ) -> Result<(), AcquireFault>
         requires pass { list_of claims.old ≡ self.now.id.claims }
         requires bare { cell_pass.old.good ≡ [] }
         requires few { length descriptors.now ≤ MOST_DESCRIPTORS }
@@ -93,16 +93,16 @@ impl<N: CellNaming> Limiter<N> {
         ensures looks { cell_pass.new.looks ≡ cell_pass.old.looks }
         ensures turns { KnowsUnder (length descriptors.now) request.now cell_pass.old.moment known.old descriptors.now rules.now
             → cell_pass.new.others ≡ cell_pass.old.others → knows claims.new ≡ knows claims.old }
-        ensures values { IfOk result (λ _. AreSeenAt (knows claims.new).known request.now cell_pass.new.moment known.new descriptors.now
+        ensures values { OnOk result (AreSeenAt (knows claims.new).known request.now cell_pass.new.moment known.new descriptors.now
             rules.now seen.new.items) }
-        ensures within { IfOk result (λ ss. All (λ s. s.cell < N.setup.cells) ss.items) }
-        ensures pins { IfOk result (λ ss. (cell : ℕ) → good_on cell cell_pass.new ≡ spots_on cell ss.items) }
-        ensures pinned { IfOk result (λ ss. HasPins (names_under request.now descriptors.now rules.now) ss.items
+        ensures within { OnOk result (All (λ s. s.cell < N.setup.cells) acquired.new.spots.items) }
+        ensures pins { OnOk result ((cell : ℕ) → good_on cell cell_pass.new ≡ spots_on cell acquired.new.spots.items) }
+        ensures pinned { OnOk result (HasPins (names_under request.now descriptors.now rules.now) acquired.new.spots.items
             cell_pass.old cell_pass.new (knows claims.old) (knows claims.new)) }
         ensures refused { IfErr result (λ f. HasNoPins (bounds_of N.setup.cells self.now)
             (names_under request.now descriptors.now rules.now) f cell_pass.old cell_pass.new (knows claims.old) (knows claims.new)) }
     {
-        if let Ok(spots) = pin_known(
+        if let Ok(()) = pin_known(
             &self.cells,
             claims,
             cell_pass,
@@ -110,19 +110,27 @@ impl<N: CellNaming> Limiter<N> {
             request,
             descriptors,
             rules,
+            found,
+            &mut acquired.spots,
             seen,
         ) {
-            return Ok(spots);
+            return Ok(());
         }
         seen.clear();
         let Ok(names) = names_of(alloc, request, descriptors, rules) else {
             return Err(AcquireFault::OutOfMemory);
         };
-        match self.pin_names(rt, claims, cell_pass, names.as_slice()) {
+        match self.pin_names(rt, claims, cell_pass, names.as_slice(), acquired) {
             Err(fault) => Err(fault),
-            Ok(spots) => {
-                note_names(claims, known, names.as_slice(), spots.as_slice(), cell_pass);
-                Ok(spots)
+            Ok(()) => {
+                note_names(
+                    claims,
+                    known,
+                    names.as_slice(),
+                    acquired.spots.as_slice(),
+                    cell_pass,
+                );
+                Ok(())
             }
         }
     }

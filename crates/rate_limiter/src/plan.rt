@@ -25,18 +25,19 @@ fn take_spot(found: Found, spots: &[Spot]) -> (Option<Spot>, &[Spot])
     }
 }
 
-/// What is planned for each descriptor: those with a limit take the spots, in order.
-pub(crate) fn plan(
+/// Writes what is planned for each descriptor: those with a limit take the spots, in order.
+pub(crate) fn write_plan(
     request: &Request,
     descriptors: &[Descriptor],
     rules: &[Found],
     spots: &[Spot],
-) -> ArrayVec<Planned, MOST_DESCRIPTORS>
+    plan: &mut ArrayVec<Planned, MOST_DESCRIPTORS>,
+)
     requires few { length descriptors.now ≤ MOST_DESCRIPTORS }
     requires rules { length rules.now ≡ length descriptors.now }
-    ensures { result.items ≡ planned_each request.now descriptors.now rules.now spots.now }
+    ensures { plan.new.items ≡ planned_each request.now descriptors.now rules.now spots.now }
 {
-    let mut plan = ArrayVec::new();
+    plan.clear();
     let mut left = spots;
     'descriptors: for place in 0..descriptors.len() {
         let found = rules[place];
@@ -45,5 +46,4 @@ pub(crate) fn plan(
         left = rest;
         plan.push(Planned { found, hits, spot });
     }
-    plan
 }

@@ -1,5 +1,5 @@
 // Counters that the pass knows are pinned without a turn at the directory: first all are looked up, then all are pinned.
-ghost use Rattle.std.specs.Prelude.{◌≡◌, ◌≤◌, ◌<◌, ◌+◌, ◌++◌, ℕ, List, [], All, IfOk, IfErr, IfSome, IsOk, length};
+ghost use Rattle.std.specs.Prelude.{◌≡◌, ◌≤◌, ◌<◌, ◌+◌, ◌++◌, ℕ, List, [], All, IfOk, IfErr, IfSome, OnOk, IsOk, length};
 ghost use Rattle.rate_types.specs.declared.limits.TheConstants.{MOST_DESCRIPTORS, MOST_PINS};
 ghost use Rattle.rate_types.specs.declared.counter_name.CounterName.{CounterName as CounterNameValue};
 ghost use Rattle.counter_cells.specs.declared.view.CellView.{CellView};
@@ -107,23 +107,25 @@ fn find_known<N: CellNaming>(
     request: &Request,
     descriptors: &[Descriptor],
     rules: &[Found],
+    spots: &mut ArrayVec<Option<Spot>, MOST_DESCRIPTORS>,
     seen: &mut ArrayVec<u64, MOST_DESCRIPTORS>,
-) -> Result<ArrayVec<Option<Spot>, MOST_DESCRIPTORS>, u32>
+) -> Result<(), u32>
     requires few { length descriptors.now ≤ MOST_DESCRIPTORS }
     requires rules { length rules.now ≡ length descriptors.now }
     requires known { AreBoundEntries N.setup.cells (knows claims.now).known cell_pass.now.pairs known.old }
     ensures known { AreBoundEntries N.setup.cells (knows claims.now).known cell_pass.now.pairs known.new }
     ensures same { SameKnown known.old known.new }
-    ensures count { IfOk result (λ os. length os.items ≡ length descriptors.now) }
-    ensures own { IfOk result (λ os. AreOwn N.setup.cells (knows claims.now).known cell_pass.now.pairs request.now cell_pass.now.moment
-        descriptors.now rules.now os.items) }
-    ensures spots { IfOk result (λ os. AreKnown request.now cell_pass.now.moment known.old descriptors.now rules.now os.items) }
-    ensures seen { IfOk result
-        (λ _. AreSeenAt (knows claims.now).known request.now cell_pass.now.moment known.old descriptors.now rules.now seen.new.items) }
+    ensures count { OnOk result (length spots.new.items ≡ length descriptors.now) }
+    ensures own { OnOk result (AreOwn N.setup.cells (knows claims.now).known cell_pass.now.pairs request.now cell_pass.now.moment
+        descriptors.now rules.now spots.new.items) }
+    ensures spots { OnOk result
+        (AreKnown request.now cell_pass.now.moment known.old descriptors.now rules.now spots.new.items) }
+    ensures seen { OnOk result
+        (AreSeenAt (knows claims.now).known request.now cell_pass.now.moment known.old descriptors.now rules.now seen.new.items) }
     ensures unknown { IfErr result
         (λ place. IsFirstUnknown request.now cell_pass.now.moment known.old descriptors.now rules.now place) }
 {
-    let mut spots = ArrayVec::new();
+    spots.clear();
     seen.clear();
     'descriptors: for place in 0..descriptors.len() {
         match find_next(
@@ -141,7 +143,7 @@ fn find_known<N: CellNaming>(
             Err(UnknownCounter) => return Err(place as u32),
         }
     }
-    Ok(spots)
+    Ok(())
 }
 
 // Pins the spot that was found for a descriptor, where there is one. Or the claim under which the pin found the cell.
@@ -196,20 +198,21 @@ fn pin_found<N: CellNaming>(
     descriptors: &[Descriptor],
     rules: &[Found],
     found: &[Option<Spot>],
-) -> Result<ArrayVec<Spot, 32>, Missed>
+    spots: &mut ArrayVec<Spot, 32>,
+) -> Result<(), Missed>
     requires bare { cell_pass.old.good ≡ [] }
     requires few { length descriptors.now ≤ MOST_DESCRIPTORS }
     requires rules { length rules.now ≡ length descriptors.now }
     requires count { length found.now ≡ length descriptors.now }
     requires own { AreOwn N.setup.cells (knows claims.now).known cell_pass.old.pairs request.now cell_pass.old.moment descriptors.now
         rules.now found.now }
-    ensures pinned { IfOk result (λ ss. ArePinned N.setup.cells (knows claims.now).known
-        (names_under request.now descriptors.now rules.now) ss.items cell_pass.old cell_pass.new) }
+    ensures pinned { OnOk result (ArePinned N.setup.cells (knows claims.now).known
+        (names_under request.now descriptors.now rules.now) spots.new.items cell_pass.old cell_pass.new) }
     ensures kept { IfErr result (λ _. SameButPins cell_pass.old cell_pass.new × (cell_pass.new.good ≡ [])) }
     ensures missed { IfErr result (λ m. HasMissedFirst found.now m cell_pass.old cell_pass.new) }
     ensures pins { PinsGrow cell_pass.old.pairs cell_pass.new.pairs }
 {
-    let mut spots = ArrayVec::new();
+    spots.clear();
     'descriptors: for place in 0..descriptors.len() {
         let pinned = pin_next(
             cells,
@@ -219,7 +222,7 @@ fn pin_found<N: CellNaming>(
             &descriptors[place],
             rules[place],
             found[place],
-            &mut spots,
+            spots,
         );
         if let Err(claim) = pinned {
             give_back(cells, cell_pass, spots.as_slice());
@@ -229,12 +232,12 @@ fn pin_found<N: CellNaming>(
             });
         }
     }
-    Ok(spots)
+    Ok(())
 }
 
 /// Pins the counters of all descriptors that have a limit, at the pass's moment, where the pass knows each and its cell is the
-/// counter's still: then `seen` is the greatest value that the pass has seen of each. Where not, nothing is pinned. A counter that
-/// isn't known comes before a cell that is another's.
+/// counter's still: then `spots` has where, and `seen` the greatest value that the pass has seen of each. Where not, nothing is pinned.
+/// A counter that isn't known comes before a cell that is another's.
 pub(crate) fn pin_known<N: CellNaming>(
     cells: &Cells<N>,
     claims: &DirectoryPass<N>,
@@ -243,29 +246,40 @@ pub(crate) fn pin_known<N: CellNaming>(
     request: &Request,
     descriptors: &[Descriptor],
     rules: &[Found],
+    found: &mut ArrayVec<Option<Spot>, MOST_DESCRIPTORS>,
+    spots: &mut ArrayVec<Spot, 32>,
     seen: &mut ArrayVec<u64, MOST_DESCRIPTORS>,
-) -> Result<ArrayVec<Spot, 32>, Missed>
+) -> Result<(), Missed>
     requires bare { cell_pass.old.good ≡ [] }
     requires few { length descriptors.now ≤ MOST_DESCRIPTORS }
     requires rules { length rules.now ≡ length descriptors.now }
     requires known { AreBoundEntries N.setup.cells (knows claims.now).known cell_pass.old.pairs known.old }
     ensures known { AreBoundEntries N.setup.cells (knows claims.now).known cell_pass.new.pairs known.new }
     ensures same { SameKnown known.old known.new }
-    ensures pinned { IfOk result (λ ss. ArePinned N.setup.cells (knows claims.now).known
-        (names_under request.now descriptors.now rules.now) ss.items cell_pass.old cell_pass.new) }
-    ensures all { IfOk result (λ _. KnowsUnder (length descriptors.now) request.now cell_pass.old.moment known.old descriptors.now
+    ensures pinned { OnOk result (ArePinned N.setup.cells (knows claims.now).known
+        (names_under request.now descriptors.now rules.now) spots.new.items cell_pass.old cell_pass.new) }
+    ensures all { OnOk result (KnowsUnder (length descriptors.now) request.now cell_pass.old.moment known.old descriptors.now
         rules.now) }
-    ensures seen { IfOk result
-        (λ _. AreSeenAt (knows claims.now).known request.now cell_pass.old.moment known.old descriptors.now rules.now seen.new.items) }
+    ensures seen { OnOk result
+        (AreSeenAt (knows claims.now).known request.now cell_pass.old.moment known.old descriptors.now rules.now seen.new.items) }
     ensures kept { IfErr result (λ _. SameButPins cell_pass.old cell_pass.new × (cell_pass.new.good ≡ [])) }
     ensures grew { IfErr result (λ _. KnowsUnder (length descriptors.now) request.now cell_pass.old.moment known.old descriptors.now
         rules.now → length cell_pass.old.others < length cell_pass.new.others) }
     ensures missed { IfErr result (λ m. HasMissCause request.now cell_pass.old.moment known.old descriptors.now rules.now m
         cell_pass.old cell_pass.new) }
 {
-    match find_known(claims, cell_pass, known, request, descriptors, rules, seen) {
+    match find_known(
+        claims,
+        cell_pass,
+        known,
+        request,
+        descriptors,
+        rules,
+        found,
+        seen,
+    ) {
         Err(place) => Err(Missed::Unknown { place }),
-        Ok(found) => pin_found(
+        Ok(()) => pin_found(
             cells,
             claims,
             cell_pass,
@@ -273,6 +287,7 @@ pub(crate) fn pin_known<N: CellNaming>(
             descriptors,
             rules,
             found.as_slice(),
+            spots,
         ),
     }
 }

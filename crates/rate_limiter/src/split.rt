@@ -43,6 +43,7 @@ pub(crate) fn parts_of<N: CellNaming>(
             known: _,
             looks: _,
             refused: _,
+            scratch: _,
         } = pass;
         versions.push_reserved(version);
         claims.push_reserved(claim_pass);

@@ -29,4 +29,4 @@ mod wildcards;
 
 pub use found::Found;
 pub use index::{Index, lookup};
-pub use rules::{Rules, find_rules};
+pub use rules::{Rules, find_rules, find_rules_into};

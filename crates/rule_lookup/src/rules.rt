@@ -13,15 +13,14 @@ use rate_types::{Descriptor, Text};
 pub type Rules = ArrayVec<Found, MOST_DESCRIPTORS>;
 
 // The rule of each descriptor, without regard to the others.
-fn own_rules(index: &Index, domain: &Text, descriptors: &[Descriptor]) -> Rules
+fn own_rules(index: &Index, domain: &Text, descriptors: &[Descriptor], rules: &mut Rules)
     requires { length descriptors.now ≤ MOST_DESCRIPTORS }
-    ensures { result.items ≡ map (rule_of index.now domain.now) descriptors.now }
+    ensures { rules.new.items ≡ map (rule_of index.now domain.now) descriptors.now }
 {
-    let mut rules = ArrayVec::new();
+    rules.clear();
     'descriptors: for descriptor in descriptors {
         rules.push(lookup(index, domain, descriptor));
     }
-    rules
 }
 
 // Whether a rule replaces any.
@@ -79,15 +78,24 @@ fn without_replaced(index: &Index, rules: &[Found]) -> Rules
     left
 }
 
-/// What each descriptor of a request finds: its rule, and none where the rule of another one replaces its own. It takes no
-/// memory.
+/// Writes what each descriptor of a request finds: its rule, and none where the rule of another one replaces its own. It takes no
+/// memory. The list is lent, so that a caller with many requests makes and moves none for each.
+pub fn find_rules_into(index: &Index, domain: &Text, descriptors: &[Descriptor], rules: &mut Rules)
+    requires { length descriptors.now ≤ MOST_DESCRIPTORS }
+    ensures { rules.new.items ≡ map (found_among index.now domain.now descriptors.now) descriptors.now }
+{
+    own_rules(index, domain, descriptors, rules);
+    if any_replaces(index, rules.as_slice()) {
+        *rules = without_replaced(index, rules.as_slice());
+    }
+}
+
+/// What [`find_rules_into`] writes, in a list of its own.
 pub fn find_rules(index: &Index, domain: &Text, descriptors: &[Descriptor]) -> Rules
     requires { length descriptors.now ≤ MOST_DESCRIPTORS }
     ensures { result.items ≡ map (found_among index.now domain.now descriptors.now) descriptors.now }
 {
-    let rules = own_rules(index, domain, descriptors);
-    if !any_replaces(index, rules.as_slice()) {
-        return rules;
-    }
-    without_replaced(index, rules.as_slice())
+    let mut rules = ArrayVec::new();
+    find_rules_into(index, domain, descriptors, &mut rules);
+    rules
 }

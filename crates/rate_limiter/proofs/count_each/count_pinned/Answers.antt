@@ -6,5 +6,5 @@ use Rattle.rate_limiter.proofs.count_each.count_pinned.Goals as goal
 pub returns-clause-seen : goal.returns-clause-seen
 returns-clause-seen g c =
     let rest = c.give_back.ensures.rest in
-    seen_kept c.count_each-statuses.new.pass c.give_back.new.cell_pass c.count_each-statuses.new.known
-    (record { looks = ap (λ (v : CellView). v.looks) rest; charges = ap (λ (v : CellView). v.charges) rest }) c.count_each-statuses.ensures.seen
+    seen_kept c.count_each.new.pass c.give_back.new.cell_pass c.count_each.new.known
+    (record { looks = ap (λ (v : CellView). v.looks) rest; charges = ap (λ (v : CellView). v.charges) rest }) c.count_each.ensures.seen

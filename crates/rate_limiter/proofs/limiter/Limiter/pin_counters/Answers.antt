@@ -16,7 +16,7 @@ use Rattle.rate_limiter.proofs.limiter.Limiter.pin_counters.Goals as goal
 
 pub returns-in-Ok-clause-pinned : goal.returns-in-Ok-clause-pinned
 returns-in-Ok-clause-pinned g c =
-    pinned_known g.N.CellNaming.setup.cells (names_under c.args.request.now c.args.descriptors.now c.args.rules.now) c.in-Ok.spots.items c.args.cell_pass.now
+    pinned_known g.N.CellNaming.setup.cells (names_under c.args.request.now c.args.descriptors.now c.args.rules.now) c.pin_known.new.spots.items c.args.cell_pass.now
     c.pin_known.new.cell_pass (knows c.args.claims.now) c.in-Ok.ensures.pinned
 
 pub returns-in-Ok-clause-seen : goal.returns-in-Ok-clause-seen
@@ -99,7 +99,7 @@ returns-clause-pinned g c =
     let w = c.pin_names.new.cell_pass in
     let t = knows c.args.claims.now in
     let u = knows c.pin_names.new.claims in
-    let spots = c.in-Ok-pin_names.spots.items in
+    let spots = c.pin_names.new.acquired.spots.items in
     let missed : SameButPins v mid × (mid.good ≡ []) = search rules in
     pins_after v mid w missed.0 (names_under c.args.request.now c.args.descriptors.now c.args.rules.now) spots t u
     (subst (λ (l : List CounterName). HasPins l spots mid w t u) (c.as_slice.ensures.value ∙ c.in-Ok-names_of.ensures.names) c.in-Ok-pin_names.ensures.pinned)

@@ -24,7 +24,7 @@ use Rattle.rate_limiter.proofs.Readying.{ready_all}
 use Rattle.rate_limiter.proofs.Stepping.{early, refused_early, refusal_of, step_of, still_then, each_still, leaves_still}
 use Rattle.rate_limiter.proofs.Resting.{no_turn, no_turn_at_all}
 use Rattle.rate_limiter.proofs.Seeing.{looks_kept}
-use Rattle.rate_limiter.proofs.limiter.Limiter.check.Goals as goal
+use Rattle.rate_limiter.proofs.limiter.Limiter.check_into.Goals as goal
 
 pub returns-in_err-renew-clause-step : goal.returns-in_err-renew-clause-step
 returns-in_err-renew-clause-step g c =
@@ -34,7 +34,7 @@ returns-in_err-renew-clause-step g c =
     let q = c.renew.new.pass in
     let s = c.in_err-renew.ensures.stayed in
     let v = s.version in
-    early (bounds_of g.N.CellNaming.setup.cells limiter) limiter request c.args.now p q c.from_residual.result c.from_residual.ensures
+    early (bounds_of g.N.CellNaming.setup.cells limiter) limiter request c.args.now p q c.from_residual.result c.args.reply.now c.from_residual.ensures
     (refused_early limiter request c.args.now p c.tick.new.pass q q c.tick.ensures.offered c.tick.ensures.rest c.renew.ensures.rest
     refl c.renew.ensures.bare (omega (arith, v)) s.knows s.own)
 
@@ -58,7 +58,7 @@ returns-in-Err-clause-step g c =
     let all = c.descriptors-descriptors.ensures.all in
     let rules = c.as_slice.result.now in
     let rules_are : rules ≡ map (found_for p2.version.index request) request.descriptors
-    = c.as_slice.ensures.value ∙ c.find_rules-rules.ensures ∙ (λ i. map (found_among (c.index.ensures.same i) (c.domain.ensures.same i) (all i)) (all i)) in
+    = c.as_slice.ensures.value ∙ c.find_rules_into.ensures ∙ (λ i. map (found_among (c.index.ensures.same i) (c.domain.ensures.same i) (all i)) (all i)) in
     let names = names_under request c.descriptors-descriptors.result.now rules in
     let names_are : names ≡ names_under request request.descriptors rules = ap (λ (ds : List Descriptor). names_under request ds rules) all in
     let id : p2.limiter ≡ limiter.id
@@ -102,7 +102,7 @@ answer-requires-clause-bound g c =
     let w = c.pin_counters.new.cell_pass in
     let all = c.descriptors-descriptors.ensures.all in
     subst (Bound claims (keys_at w.moment (names_under request request.descriptors c.as_slice-in-Ok.result.now))) (sym c.as_slice-in-Ok-2.ensures.value)
-    (subst (λ (ns : List CounterName). Bound claims (keys_at w.moment ns) c.in-Ok.spots.items)
+    (subst (λ (ns : List CounterName). Bound claims (keys_at w.moment ns) c.pin_counters.new.acquired.spots.items)
     (λ i. names_under request (all i) ((c.as_slice.ensures.value ∙ sym c.as_slice-in-Ok.ensures.value) i)) c.in-Ok.ensures.pinned.bound)
 
 pub answer-requires-clause-values : goal.answer-requires-clause-values
@@ -135,7 +135,7 @@ returns-in-Ok-clause-step g c =
     let all = c.descriptors-descriptors.ensures.all in
     let rules = c.as_slice.result.now in
     let rules_are : rules ≡ map (found_for p2.version.index request) request.descriptors
-    = c.as_slice.ensures.value ∙ c.find_rules-rules.ensures ∙ (λ i. map (found_among (c.index.ensures.same i) (c.domain.ensures.same i) (all i)) (all i)) in
+    = c.as_slice.ensures.value ∙ c.find_rules_into.ensures ∙ (λ i. map (found_among (c.index.ensures.same i) (c.domain.ensures.same i) (all i)) (all i)) in
     let names = names_under request c.descriptors-descriptors.result.now rules in
     let names_are : names ≡ names_under request request.descriptors rules = ap (λ (ds : List Descriptor). names_under request ds rules) all in
     let id : p2.limiter ≡ limiter.id
@@ -150,8 +150,8 @@ returns-in-Ok-clause-step g c =
       known = c.answer.new.known;
       refused = inside.refused;
     } in
-    let r = c.answer.result in
-    let spots = c.in-Ok.spots.items in
+    let r = c.answer.new.reply in
+    let spots = c.pin_counters.new.acquired.spots.items in
     let did = c.answer.ensures.done in
     let done : DoneEach w.moment (planned_each request request.descriptors rules spots) r.statuses.items w did.0
     = subst (λ (ss : List Spot). DoneEach w.moment (planned_each request request.descriptors rules ss) r.statuses.items w did.0) c.as_slice-in-Ok-2.ensures.value
@@ -185,7 +185,7 @@ returns-in-Err-clause-turns g c =
     let all = c.descriptors-descriptors.ensures.all in
     let rules = c.as_slice.result.now in
     let rules_are : rules ≡ map (found_for p2.version.index request) request.descriptors
-    = c.as_slice.ensures.value ∙ c.find_rules-rules.ensures ∙ (λ i. map (found_among (c.index.ensures.same i) (c.domain.ensures.same i) (all i)) (all i)) in
+    = c.as_slice.ensures.value ∙ c.find_rules_into.ensures ∙ (λ i. map (found_among (c.index.ensures.same i) (c.domain.ensures.same i) (all i)) (all i)) in
     let q : PassView = record {
       limiter = record { claims = list_of c.pin_counters.new.claims; versions = versions_of inside.version };
       version = p2.version;
@@ -216,7 +216,7 @@ returns-in-Ok-clause-turns g c =
     let all = c.descriptors-descriptors.ensures.all in
     let rules = c.as_slice.result.now in
     let rules_are : rules ≡ map (found_for p2.version.index request) request.descriptors
-    = c.as_slice.ensures.value ∙ c.find_rules-rules.ensures ∙ (λ i. map (found_among (c.index.ensures.same i) (c.domain.ensures.same i) (all i)) (all i)) in
+    = c.as_slice.ensures.value ∙ c.find_rules_into.ensures ∙ (λ i. map (found_among (c.index.ensures.same i) (c.domain.ensures.same i) (all i)) (all i)) in
     let w = c.pin_counters.new.cell_pass in
     let q : PassView = record {
       limiter = record { claims = list_of c.pin_counters.new.claims; versions = versions_of inside.version };
@@ -228,7 +228,7 @@ returns-in-Ok-clause-turns g c =
     } in
     let did = c.answer.ensures.done in
     let still = still_then w did.0 q.cells
-    (each_still w.moment (planned_each request request.descriptors c.as_slice-in-Ok.result.now c.as_slice-in-Ok-2.result.now) c.answer.result.statuses.items w did.0 did.1)
+    (each_still w.moment (planned_each request request.descriptors c.as_slice-in-Ok.result.now c.as_slice-in-Ok-2.result.now) c.answer.new.reply.statuses.items w did.0 did.1)
     (leaves_still did.0 q.cells did.2) in
     let waited = c.in-Ok.ensures.pinned.waited in
     no_turn request c.tick.result c.args.now p p1 p2 q c.tick.ensures.ticked c.tick.ensures.rest rest c.descriptors-descriptors.result.now rules all rules_are refl

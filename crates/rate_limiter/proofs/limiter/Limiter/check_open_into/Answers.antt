@@ -26,7 +26,7 @@ use Rattle.rate_limiter.proofs.Seeking.{seen_still, spots_then}
 use Rattle.rate_limiter.proofs.Seeing.{seen_kept, seen_same, looks_kept}
 use Rattle.rate_limiter.proofs.Opening.{loaded_alone, between, first_offered, first_ticks, then_version, open_renews, stayed_open, knows_first, opens_not}
 use Rattle.rate_limiter.proofs.Stepping.{step_of}
-use Rattle.rate_limiter.proofs.limiter.Limiter.check_open.Goals as goal
+use Rattle.rate_limiter.proofs.limiter.Limiter.check_open_into.Goals as goal
 
 pub invariant_of-pass-in-Err : goal.invariant_of-pass-in-Err
 invariant_of-pass-in-Err g c =
@@ -80,7 +80,7 @@ returns-in-Err-clause-step g c =
     let all = c.descriptors-descriptors.ensures.all in
     let rules = c.as_slice.result.now in
     let rules_are : rules ≡ map (found_for p2.version.index request) request.descriptors
-    = c.as_slice.ensures.value ∙ c.find_rules-rules.ensures ∙ (λ i. map (found_among (c.index.ensures.same i) (c.domain.ensures.same i) (all i)) (all i)) in
+    = c.as_slice.ensures.value ∙ c.find_rules_into.ensures ∙ (λ i. map (found_among (c.index.ensures.same i) (c.domain.ensures.same i) (all i)) (all i)) in
     let q : PassView = record {
       limiter = p2.limiter;
       version = p2.version;
@@ -107,9 +107,9 @@ answer-requires-clause-bound g c =
     let all = c.descriptors-descriptors.ensures.all in
     let m = c.pin_known.new.cell_pass.moment in
     subst (Bound claims (keys_at m (names_under request request.descriptors c.as_slice-in-Ok.result.now))) (sym c.as_slice-in-Ok-2.ensures.value)
-    (subst (λ (ns : List CounterName). Bound claims (keys_at m ns) c.in-Ok.spots.items)
+    (subst (λ (ns : List CounterName). Bound claims (keys_at m ns) c.pin_known.new.spots.items)
     (λ i. names_under request (all i) ((c.as_slice.ensures.value ∙ sym c.as_slice-in-Ok.ensures.value) i))
-    (subst (λ n. Bound claims (keys_at n (names_under request c.descriptors-descriptors.result.now c.as_slice.result.now)) c.in-Ok.spots.items)
+    (subst (λ n. Bound claims (keys_at n (names_under request c.descriptors-descriptors.result.now c.as_slice.result.now)) c.pin_known.new.spots.items)
     (sym a.same.moment) a.bound))
 
 pub answer-requires-clause-values : goal.answer-requires-clause-values
@@ -174,7 +174,7 @@ returns-in-Ok-clause-step g c =
     let all = c.descriptors-descriptors.ensures.all in
     let rules = c.as_slice.result.now in
     let rules_are : rules ≡ map (found_for p2.version.index request) request.descriptors
-    = c.as_slice.ensures.value ∙ c.find_rules-rules.ensures ∙ (λ i. map (found_among (c.index.ensures.same i) (c.domain.ensures.same i) (all i)) (all i)) in
+    = c.as_slice.ensures.value ∙ c.find_rules_into.ensures ∙ (λ i. map (found_among (c.index.ensures.same i) (c.domain.ensures.same i) (all i)) (all i)) in
     let ds = c.descriptors-descriptors.result.now in
     let names = names_under request ds rules in
     let names_are : names ≡ names_under request request.descriptors rules = ap (λ (l : List Descriptor). names_under request l rules) all in
@@ -189,8 +189,8 @@ returns-in-Ok-clause-step g c =
     } in
     let spots_kept : SameSpots p2.known q.known
     = spots_then p2.known c.pin_known.new.known q.known (spots_same p2.known c.pin_known.new.known c.pin_known.ensures.same) c.answer.ensures.spots in
-    let r = c.answer.result in
-    let spots = c.in-Ok.spots.items in
+    let r = c.answer.new.reply in
+    let spots = c.pin_known.new.spots.items in
     let did = c.answer.ensures.done in
     let done : DoneEach w.moment (planned_each request request.descriptors rules spots) r.statuses.items w did.0
     = subst (λ (ss : List Spot). DoneEach w.moment (planned_each request request.descriptors rules ss) r.statuses.items w did.0) c.as_slice-in-Ok-2.ensures.value

@@ -8,7 +8,7 @@ use Rattle.rls_core.specs.Reply.{hits_of}
 use Rattle.rate_limiter.specs.declared.planned.Planned.{Planned}
 use Rattle.rate_limiter.specs.Planned.{spot_for, spots_after, spots_left, planned_for, planned_each}
 use Rattle.rate_limiter.proofs.Counting.{planned_next, left_more}
-use Rattle.rate_limiter.proofs.plan.plan.Goals as goal
+use Rattle.rate_limiter.proofs.plan.write_plan.Goals as goal
 
 pub descriptors-preserved : goal.descriptors-preserved
 descriptors-preserved c =

@@ -1,6 +1,6 @@
 use Rattle.std.proofs.Common.{◌≡◌, take, length}
 use Rattle.rate_limiter.specs.Planned.{planned_each, spots_left}
-use Rattle.rate_limiter.proofs.plan.plan.Given as goal
+use Rattle.rate_limiter.proofs.plan.write_plan.Given as goal
 
 abbrev pub invariant-descriptors : goal.invariant-descriptors
 invariant-descriptors l = record {
