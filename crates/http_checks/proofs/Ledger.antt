@@ -15,13 +15,16 @@ use Rattle.descriptor_tree.specs.Trees.{DomainTree}
 use Rattle.told_list.specs.Lists.{IsOwnedOnce}
 use Rattle.rls_core.specs.Reply.{charges_of, sights_of}
 use Rattle.rls_core.specs.declared.fault.CheckFault.{CheckFault}
+use Rattle.rls_core.specs.declared.fault.CheckFault.TheVariants.{CountersFull, ClaimsSpent, OutOfMemory}
 use Rattle.rls_core.specs.declared.reply.Reply.{Reply}
 use Rattle.counter_cells.specs.Ledgers.{charge_of}
 use Rattle.counter_cells.specs.Ledgers as cells
 use Rattle.counter_cells.specs.declared.view.CellView.{CellView}
 use Rattle.counter_cells.specs.declared.view.Charge as cell_charge
 use Rattle.counter_directory.specs.declared.claim.Claim.{Claim}
+use Rattle.counter_directory.specs.Passes.{KnownClaims}
 use Rattle.rate_limiter.specs.Passes.{LimiterView, PassView, IsNewPass}
+use Rattle.rate_limiter.specs.Refusals.{HasRefused}
 use Rattle.rate_limiter.specs.Named.{AreNamed}
 use Rattle.rate_limiter.specs.Values.{HasSight, HasSights}
 use Rattle.rate_limiter.specs.Closing.{cells_of, IsOneLedger, AreSightsInIt}
@@ -43,6 +46,21 @@ record Made (p q : Checker) (charges : List (Charge CounterKey)) (sights : List 
   versions : IsPrefix p.pass.version.view.known q.pass.version.view.known
   own : q.pass.version.view.own ≡ p.pass.version.view.own
 
+-- a refused check charged and saw nothing
+none_made : {now : ℕ} (p q : Checker) {t : KnownClaims} → q.limiter ≡ p.limiter → HasRefused now p.pass (record q.pass { claims = t })
+    → IsPrefix p.pass.claims.known q.pass.claims.known → Made p q [] []
+none_made p q limiter s claims = record {
+  limiter = limiter;
+  added = [];
+  grew = s.counts.charges ∙ sym (append-nil p.pass.cells.charges);
+  named = tt;
+  seen = tt;
+  claims = claims;
+  looks = prefix_same p.pass.cells.looks q.pass.cells.looks s.counts.looks;
+  versions = s.versions;
+  own = s.own_versions;
+}
+
 module _ (size : ℕ) where
   one_made : (p : Checker) (request : RequestParts) (now : ℕ) (result : Result Reply CheckFault) (q : Checker) → ChecksBy size p request now result q
       → Made p q (charges_shown request result) (sights_shown request result)
@@ -61,19 +79,11 @@ module _ (size : ℕ) where
         versions = s.version.knows;
         own = s.version.own;
       }
-  one_made p request now (Err fault) q h =
-      let s = h.step.0 in
-      record {
-        limiter = h.limiter;
-        added = [];
-        grew = s.counts.charges ∙ sym (append-nil p.pass.cells.charges);
-        named = tt;
-        seen = tt;
-        claims = s.claims;
-        looks = prefix_same p.pass.cells.looks q.pass.cells.looks s.counts.looks;
-        versions = s.versions;
-        own = s.own_versions;
-      }
+  one_made p request now (Err OutOfMemory) q h =
+      let k = h.step.1.1 in
+      none_made p q h.limiter h.step.0 (prefix_added p.pass.claims.known k.found k.added q.pass.claims.known k.knew k.known)
+  one_made p request now (Err (ClaimsSpent claims wanted)) q h = none_made p q h.limiter h.step.0 h.step.0.claims
+  one_made p request now (Err (CountersFull moment live held wanted)) q h = none_made p q h.limiter h.step.0 h.step.0.claims
 
   -- checks one after the other
   lead_made : (bounds : Option (ℕ × ℕ)) (p : Checker) (asked : List Asked) (q : Checker) → Lead (ChecksBy size) bounds p asked q → Made p q (ledger_of asked) (sights_in asked)

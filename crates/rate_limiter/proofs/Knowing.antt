@@ -34,7 +34,7 @@ use Rattle.counter_directory.specs.Spots.{Bound}
 use Rattle.over_cache.specs.Entries.{Entries, is_key, known_of, known_then, asked, noted, without}
 use Rattle.over_cache.specs.declared.known.Known.{Known}
 use Rattle.over_cache.specs.declared.over_cache.TheConstants.{MOST_KNOWN}
-use Rattle.rate_limiter.specs.Known.{key_of, key_bindings, pins_under, IsBoundEntry, AreBoundEntries, AreSeenEntries, SameSpots, spot_in, PinsGrow}
+use Rattle.rate_limiter.specs.Known.{key_of, key_bindings, IsBoundEntry, AreBoundEntries, AreSeenEntries, SameSpots, spot_in, PinsGrow}
 use Rattle.rate_limiter.specs.Values.{HasValue, HasSeen}
 use Rattle.rate_limiter.specs.Sought.{SameKnown, IsOwnSpot}
 use Rattle.rate_limiter.specs.PassStep.{HasClaimed}

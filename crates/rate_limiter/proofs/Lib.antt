@@ -15,6 +15,7 @@ pub mod Parting
 pub mod Summing
 pub mod Totalling
 pub mod Knowing
+pub mod Noting
 pub mod Seeking
 pub mod Opening
 pub mod Claiming

@@ -1,5 +1,5 @@
 -- Lists, sums over them and prefixes.
-use Rattle.std.proofs.Common.{◌≡◌, ℕ, zero, suc, ◌+◌, ◌≤◌, ◌&&◌, List, [], ◌∷◌, ◌++◌, Bool, true, false, refl, sym, ap, ◌∙◌, arith, append_assoc, subst}
+use Rattle.std.proofs.Common.{◌≡◌, ℕ, zero, suc, ◌+◌, ◌≤◌, ◌&&◌, List, [], ◌∷◌, ◌++◌, map, Bool, true, false, refl, sym, ap, ◌∙◌, arith, append_assoc, subst}
 use Rattle.std.proofs.lemmas.List.{append-nil}
 use Rattle.std.specs.List.{AllByRecursion}
 use mathlib.Core.Option.{some, some-injective, some-ne-none}
@@ -70,3 +70,9 @@ parts false b h = absurd (omega arith)
 pub last_then : (m : ℕ) (xs ys : List Tick) → last_moment m (xs ++ ys) ≡ last_moment (last_moment m xs) ys
 last_then m [] ys = refl
 last_then m (x ∷ xs) ys = last_then x.moment xs ys
+
+-- what stands at a place of a list, after a function
+pub map_some : {A B : Type 0} (f : A → B) (xs : List A) (i : ℕ) (x : A) → get_elem? xs i ≡ some x → get_elem? (map f xs) i ≡ some (f x)
+map_some f [] i x e = absurd (some-ne-none x (sym e))
+map_some f (y ∷ xs) zero x e = ap (λ z. some (f z)) (some-injective y x e)
+map_some f (y ∷ xs) (suc i) x e = map_some f xs i x e

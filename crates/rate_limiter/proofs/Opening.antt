@@ -1,6 +1,6 @@
 -- From the parts of a check without lock and memory to what it promises.
-use Rattle.std.proofs.Common.{◌≡◌, ℕ, zero, suc, ◌+◌, ◌≤◌, ◌<◌, List, [], ◌∷◌, ◌++◌, length, map, Some, None, refl, sym, ap, ◌∙◌, subst, arith}
-use mathlib.Core.Option.{some, some-injective, some-ne-none}
+use Rattle.std.proofs.Common.{◌≡◌, ℕ, ◌+◌, ◌≤◌, List, [], ◌∷◌, ◌++◌, length, map, Some, None, sym, ap, ◌∙◌, subst}
+use mathlib.Core.Option.{some, some-injective}
 use lib.ListN.{get_elem?}
 use Rattle.rate_types.specs.Requests.{RequestParts}
 use Rattle.rate_types.specs.declared.counter_key.CounterKey.{CounterKey}
@@ -8,7 +8,6 @@ use Rattle.rate_types.specs.declared.request.Descriptor.{Descriptor}
 use Rattle.descriptor_tree.specs.Trees.{DomainTree}
 use Rattle.rule_lookup.specs.declared.found.Found.{Found}
 use Rattle.config_versions.specs.PassState.{PassState, IsVersion, HasLoaded}
-use Rattle.counter_cells.specs.Steps.{number_of}
 use Rattle.counter_cells.specs.declared.view.CellView.{CellView}
 use Rattle.counter_cells.specs.declared.view.OtherGate.{OtherGate}
 use Rattle.counter_cells.specs.declared.answers.Spot.{Spot}
@@ -18,22 +17,14 @@ use Rattle.rate_limiter.specs.declared.missed.Missed.{Missed}
 use Rattle.rate_limiter.specs.declared.missed.Missed.TheVariants.{Unknown, Reclaimed}
 use Rattle.rate_limiter.specs.Known.{spot_of, SameSpots, HasCounter, HasMissed}
 use Rattle.rate_limiter.specs.Passes.{LimiterView, PassView, KeepsAllButTicks, KeepsAllButVersion}
-use Rattle.rate_limiter.specs.Counts.{Keeps}
 use Rattle.rate_limiter.specs.PassStep.{HasRenewed, HasOffered}
 use Rattle.rate_limiter.specs.Pinned.{SameButPins}
 use Rattle.rate_limiter.specs.Sought.{KnowsUnder, IsAt, HasMissCause}
 use Rattle.rate_limiter.specs.Opens.{IsUpToDate, HasStayedOpen, HasNotCounted, HasOnlyTicked, KnowsFirst, IsCounterAt, Opens}
 use Rattle.rate_limiter.specs.Opening.{refusal_for}
-use Rattle.rate_limiter.specs.declared.not_open.NotOpen.{NotOpen}
-use Rattle.std.specs.Prelude.{Result, Ok, Err}
-use Rattle.rls_core.specs.declared.reply.Reply.{Reply}
+use Rattle.std.specs.Prelude.{Err}
 use Rattle.rate_limiter.proofs.Renewing.{shown_renews}
-
--- what stands at a place of a list, after a function
-pub map_some : {A B : Type 0} (f : A → B) (xs : List A) (i : ℕ) (x : A) → get_elem? xs i ≡ some x → get_elem? (map f xs) i ≡ some (f x)
-map_some f [] i x e = absurd (some-ne-none x (sym e))
-map_some f (y ∷ xs) zero x e = ap (λ z. some (f z)) (some-injective y x e)
-map_some f (y ∷ xs) (suc i) x e = map_some f xs i x e
+use Rattle.rate_limiter.proofs.Lists.{map_some}
 
 -- a pass of which nothing changed but its version
 pub loaded_alone : (p p1 : PassView) → p1.limiter ≡ p.limiter → p1.claims ≡ p.claims → p1.cells ≡ p.cells → p1.known ≡ p.known → p1.refused ≡ p.refused → KeepsAllButVersion p p1

@@ -1,5 +1,5 @@
 -- A check that took no turn at the directory.
-use Rattle.std.proofs.Common.{◌≡◌, ℕ, ◌+◌, ◌<◌, List, [], ◌∷◌, ◌++◌, length, map, refl, sym, ap, ◌∙◌, subst, append_assoc}
+use Rattle.std.proofs.Common.{◌≡◌, ℕ, List, [], ◌∷◌, ◌++◌, length, map, sym, ap, ◌∙◌, subst, append_assoc}
 use mathlib.Core.Option.{some, some-injective}
 use lib.ListN.{get_elem?}
 use Rattle.rate_types.specs.Requests.{RequestParts}
@@ -15,8 +15,8 @@ use Rattle.rls_core.specs.Reply.{found_for}
 use Rattle.rate_limiter.specs.Known.{KnowsCounter}
 use Rattle.rate_limiter.specs.Passes.{PassView, KeepsAllButTicks, KeepsAllButVersion}
 use Rattle.rate_limiter.specs.Sought.{KnowsUnder}
-use Rattle.rate_limiter.specs.Turns.{KnewAll, TakesNoTurn}
-use Rattle.rate_limiter.proofs.Opening.{map_some}
+use Rattle.rate_limiter.specs.Turns.{TakesNoTurn}
+use Rattle.rate_limiter.proofs.Lists.{map_some}
 
 -- lists that are equal behind equal ones
 rest_same : {A : Type 0} (xs ys zs : List A) → xs ++ ys ≡ xs ++ zs → ys ≡ zs

@@ -2,7 +2,6 @@
 use Rattle.std.proofs.Common.{◌≡◌, ◌⊎◌, inl, inr, ℕ, zero, suc, ◌+◌, ◌≤◌, ◌<◌, ◌==◌, ◌&&◌, max, min, take, length, List, [], ◌∷◌, ◌++◌, cond}
 use Rattle.std.proofs.Common.{Bool, true, false, true≢false, Option, Some, None, IfSome, refl, sym, ap, ◌∙◌, subst, arith, eq-eqb, length-append}
 use Rattle.std.specs.List.{AllByRecursion}
-use Rattle.std.specs.Map.{lookup}
 use Rattle.std.specs.Cmp.Lexicographic.{bytes_decides}
 use Rattle.std.proofs.lemmas.Bool.Decides.{nat_tests}
 use Rattle.std.proofs.lemmas.List.{append-nil}
@@ -32,7 +31,7 @@ use Rattle.rls_core.specs.declared.status.Count.TheVariants.{NoCount, Before, Se
 use Rattle.rate_limiter.specs.Counts.{Keeps}
 use Rattle.rate_limiter.specs.Values.{looks_at, charges_to, HasValue, HasSeen, looks_counted}
 use Rattle.rate_limiter.specs.Known.{key_of, key_bindings, pins_under, IsBoundEntry, AreBoundEntries, AreSeenEntries, AreClaimedOnce, spot_in, SameSpots}
-use Rattle.rate_limiter.specs.Sought.{SameKnown, seen_in, IsSeenOf, IsSeenAt, IsOwnSpot}
+use Rattle.rate_limiter.specs.Sought.{SameKnown, seen_in, IsSeenOf, IsSeenAt}
 use Rattle.rate_limiter.specs.declared.planned.Planned.{Planned}
 use Rattle.rate_limiter.specs.Planned.{CountedAt, value_of, IsBoundAt, AreValues, HasRaised}
 use Rattle.rate_limiter.proofs.Lists.{each_append, each_at, each_more, parts, total_more, total_some}

@@ -1,12 +1,11 @@
 -- What is known of the counters of a request, and pins of it.
-use Rattle.std.proofs.Common.{◌≡◌, ◌≢◌, ◌⊎◌, inl, inr, ℕ, zero, suc, ◌+◌, ◌≤◌, ◌<◌, ◌==◌, ◌&&◌, List, [], ◌∷◌, ◌++◌, length, true≢false, Option, Some, None}
+use Rattle.std.proofs.Common.{◌≡◌, ◌⊎◌, inl, inr, ℕ, zero, suc, ◌≤◌, ◌<◌, List, [], ◌∷◌, ◌++◌, length, true≢false, Option, Some, None}
 use Rattle.std.proofs.Common.{refl, sym, ap, ◌∙◌, subst, arith, length-append}
 use Rattle.std.specs.Prelude.{IsSome, IfSome}
 use Rattle.std.specs.List.{AllByRecursion}
 use Rattle.std.proofs.lemmas.List.{append-nil}
-use mathlib.Core.Option.{some, some-injective, some-ne-none}
+use mathlib.Core.Option.{some, some-injective}
 use lib.ListN.{get_elem?}
-use Rattle.rate_types.specs.Sums.{total, one_if}
 use Rattle.rate_types.specs.Requests.{RequestParts}
 use Rattle.rate_types.specs.declared.counter_key.CounterKey.{CounterKey}
 use Rattle.rate_types.specs.declared.counter_name.CounterName.{CounterName}
@@ -21,12 +20,12 @@ use Rattle.counter_directory.specs.Claims.{bindings_of}
 use Rattle.counter_directory.specs.Keys.{key_at}
 use Rattle.over_cache.specs.Entries.{Entries, known_of}
 use Rattle.over_cache.specs.declared.known.Known.{Known}
-use Rattle.rate_limiter.specs.Known.{key_of, spot_in, spot_of, SameSpots, PinsGrow, pins_under, KnowsCounter, HasCounter}
+use Rattle.rate_limiter.specs.Known.{key_of, spot_of, SameSpots, PinsGrow, KnowsCounter, HasCounter}
 use Rattle.rate_limiter.specs.Planned.{name_under}
 use Rattle.rate_limiter.specs.Pinned.{ArePinned}
 use Rattle.rate_limiter.specs.declared.missed.Missed.{Missed}
 use Rattle.rate_limiter.specs.declared.missed.Missed.TheVariants.{Unknown, Reclaimed}
-use Rattle.rate_limiter.specs.Sought.{HasMissedFirst, HasMissedKnown, HasMissCause, IsOwnSpot, IsOwnAt, AreOwn, IsKnownAt, AreKnown, KnowsUnder, IsUnknownAt, IsAt}
+use Rattle.rate_limiter.specs.Sought.{HasMissedFirst, HasMissCause, IsOwnSpot, IsOwnAt, AreOwn, IsKnownAt, AreKnown, KnowsUnder, IsUnknownAt}
 use Rattle.rate_limiter.specs.Sought.{SameKnown, seen_in, IsSeenOf, IsSeenAt}
 use Rattle.rate_limiter.proofs.Knowing.{at_less, at_append}
 

@@ -1,5 +1,5 @@
 -- From the parts of a check to the step of its pass.
-use Rattle.std.proofs.Common.{◌≡◌, inl, inr, ℕ, ◌≤◌, ◌&&◌, not, List, [], ◌∷◌, ◌++◌, map, Option, Some, None, IfSome, sym, ap, ◌∙◌, subst, arith, append_assoc, length-append}
+use Rattle.std.proofs.Common.{◌≡◌, inl, inr, ℕ, ◌≤◌, ◌&&◌, not, List, [], ◌∷◌, ◌++◌, length, map, Option, Some, None, IfSome, refl, sym, ap, ◌∙◌, subst, arith, append_assoc, length-append}
 use Rattle.std.specs.Prelude.{Result, Ok, Err, IsErr, IsErrAnd}
 use Rattle.std.specs.List.{AllByRecursion, list_any}
 use mathlib.Core.List.{IsPrefix}
@@ -20,6 +20,7 @@ use Rattle.counter_directory.specs.Keys.{keys_at}
 use Rattle.counter_directory.specs.Gates.{HeldSince}
 use Rattle.counter_directory.specs.Acquired.{Bounds, OffersNothing}
 use Rattle.counter_directory.specs.Spots.{LeavesAllButPins}
+use Rattle.over_cache.specs.Entries.{Entries}
 use Rattle.rls_core.specs.Reply.{found_for, counters_named, charges_of, sights_of, IsReplyOf, is_over_limit}
 use Rattle.rls_core.specs.declared.status.Count.{Count}
 use Rattle.rls_core.specs.declared.status.Count.TheVariants.{NoCount, Before, Seen}
@@ -35,10 +36,14 @@ use Rattle.rate_limiter.specs.Counts.{Keeps, CountsEach}
 use Rattle.rate_limiter.specs.Values.{HasSights}
 use Rattle.rate_limiter.specs.PassStep.{HasRenewed, HasOffered, HasClaimed, HasCharged, IsPassStep}
 use Rattle.rate_limiter.specs.Replied.{replied}
-use Rattle.rate_limiter.specs.Refusals.{HasRefused, HasCause, AreClaimsSpent, AreCountersFull, one_more, Checks}
+use Rattle.rate_limiter.specs.Refusals.{HasRefused, HasCause, AreClaimsSpent, AreCountersFull, one_more, but_for_claims, Checks}
+use Rattle.rate_limiter.specs.Known.{SameSpots}
+use Rattle.rate_limiter.specs.Sought.{KnowsUnder}
 use Rattle.rate_limiter.specs.Planned.{names_under, planned_each, CountedAt, DoneAt, DoneEach}
-use Rattle.rate_limiter.specs.Pinned.{HasWaited, HasPins, HasNoPins, HasPinCause, fault_of, refused_after}
+use Rattle.rate_limiter.specs.Pinned.{HasWaited, HasPins, HasNoPins, fault_of, refused_after}
 use Rattle.rate_limiter.proofs.Lists.{each_append, each_more, prefix_self, last_then}
+use Rattle.rate_limiter.proofs.Noting.{knows_all}
+use Rattle.rate_limiter.proofs.Turning.{claimed_none}
 use Rattle.rate_limiter.proofs.Showing.{charged_of, seen_of}
 use Rattle.rate_limiter.proofs.Counting.{counts_of, statuses_of, keys_named, each_front, each_back}
 
@@ -188,8 +193,9 @@ module _ (limiter : LimiterView) (request : RequestParts) (now : ℕ) (p p1 p2 q
       → q.version ≡ p2.version → q.limiter ≡ p2.limiter → q.refused ≡ p2.refused
       → r.version ≡ q.version.version → r.moment ≡ w.moment
       → r.over ≡ (list_any (λ s. is_over_limit s.code) r.statuses.items && not limiter.global_shadow)
+      → (known : Entries) → SameSpots known q.known → KnowsUnder (length request.descriptors) request w.moment known request.descriptors rules
       → IsPassStep limiter request now p r q
-  step_of names rules spots w mid r renewed rules_are names_are pins done leaves bare version same refused version_is moment_is over =
+  step_of names rules spots w mid r renewed rules_are names_are pins done leaves bare version same refused version_is moment_is over known spots_same knows =
       let ds = request.descriptors in
       let config = p2.version.index in
       let sts = r.statuses.items in
@@ -230,6 +236,7 @@ module _ (limiter : LimiterView) (request : RequestParts) (now : ℕ) (p p1 p2 q
             (seen_of q.claims.known request w.moment config ds sts p.cells q.cells statuses from_start);
         claims = subst (λ c. HasClaimed (counters_named c request q.cells.moment) q.cells.moment p.claims q.claims) (sym index)
             (subst (λ n. HasClaimed (counters_named config request n) n p.claims q.claims) (sym moment) claimed);
+        knows = knows_all request q known w.moment rules (rules_are ∙ ap (λ (c : List DomainTree). map (found_for c request) ds) (sym index)) moment spots_same knows;
         bare = bare;
         refused = refused ∙ start_refused;
       }
@@ -238,7 +245,7 @@ module _ (limiter : LimiterView) (request : RequestParts) (now : ℕ) (p p1 p2 q
 
   -- for want of memory before the counters were asked for
   pub refused_early : q ≡ p2 → p2.cells.good ≡ [] → p1.version.version ≤ p2.version.version → IsPrefix p1.version.view.known p2.version.view.known
-      → p2.version.view.own ≡ p1.version.view.own → HasRefused now p q × (q.refused ≡ p.refused)
+      → p2.version.view.own ≡ p1.version.view.own → HasRefused now p q × (q.refused ≡ p.refused) × (q.claims ≡ p.claims)
   refused_early e bare rises knows own = (
     subst (HasRefused now p) (sym e) (record {
       same = start_limiter;
@@ -252,6 +259,7 @@ module _ (limiter : LimiterView) (request : RequestParts) (now : ℕ) (p p1 p2 q
       bare = bare;
     }),
     ap (λ (x : PassView). x.refused) e ∙ start_refused,
+    ap (λ (x : PassView). x.claims) e ∙ start_claims,
   )
 
   held_same : (w : CellView) (held : List ℕ) → HeldSince p2.cells w [] held → HeldSince p.cells w [] held
@@ -273,47 +281,69 @@ module _ (limiter : LimiterView) (request : RequestParts) (now : ℕ) (p p1 p2 q
     abbrev ended : ℕ → PassView
     ended refused = record { limiter = p2.limiter; version = p2.version; claims = u; cells = w; known = q.known; refused = refused }
 
-    cause_of : (fault : AcquireFault) → HasPinCause b names p2.cells fault w u → HasCause b request p (fault_of fault) (ended (refused_after fault p2.refused))
-    cause_of OutOfMemory c = start_refused
-    cause_of (ClaimsSpent claims wanted) c = (
-      ap one_more start_refused,
-      renewed_so,
-      subst (λ ks. AreClaimsSpent b ks u.known claims wanted) named_so c,
+    -- what is left of it, with these claims
+    left_of : (refused : ℕ) (made : KnownClaims) → HasWaited p2.cells w → w.good ≡ [] → IsPrefix p.claims.known made.known → made.own ≡ p.claims.own
+        → HasRefused now p (record (ended refused) { claims = made })
+    left_of refused made waited bare knew own = record {
+      same = start_limiter;
+      version = renewed_so.rises;
+      versions = renewed_so.knows;
+      own_versions = renewed_so.own;
+      ticks = waited_offers w waited;
+      counts = waited_keeps w waited;
+      claims = knew;
+      own_claims = own;
+      bare = bare;
+    }
+
+    knew_so : IsPrefix p2.claims.known u.known → IsPrefix p.claims.known u.known
+    knew_so h = subst (λ (t : KnownClaims). IsPrefix t.known u.known) start_claims h
+
+    own_so : u.own ≡ p2.claims.own → u.own ≡ p.claims.own
+    own_so h = h ∙ ap (λ (t : KnownClaims). t.own) start_claims
+
+    claimed_so : HasClaimed (keys_at w.moment names) w.moment p2.claims u → HasClaimed (counters_named p2.version.index request w.moment) w.moment p.claims u
+    claimed_so h =
+        subst (λ (t : KnownClaims). HasClaimed (counters_named p2.version.index request w.moment) w.moment t u) start_claims
+        (subst (λ ks. HasClaimed ks w.moment p2.claims u) named_so h)
+
+    full_so : (moment live held wanted : ℕ) → AreCountersFull b (keys_at w.moment names) u.known p2.cells w moment live held wanted
+        → AreCountersFull b (counters_named p2.version.index request w.moment) u.known p.cells w moment live held wanted
+    full_so moment live held wanted c = subst (λ ks. AreCountersFull b ks u.known p.cells w moment live held wanted) named_so (record {
+      moment_is = c.moment_is;
+      wanted_is = c.wanted_is;
+      some = c.some;
+      live_is = c.live_is;
+      held_is = (c.held_is.0, c.held_is.1, held_same w c.held_is.0 c.held_is.2, c.held_is.3);
+      few = c.few;
+      full = c.full;
+    })
+
+    ended_so : (fault : AcquireFault) → HasNoPins b names fault p2.cells w p2.claims u
+        → HasRefused now p (but_for_claims (fault_of fault) p (ended (refused_after fault p2.refused)))
+        × HasCause b request p (fault_of fault) (ended (refused_after fault p2.refused))
+    ended_so OutOfMemory h = (left_of p2.refused p.claims h.waited h.bare (prefix_self p.claims.known) refl, (start_refused, claimed_so h.own))
+    ended_so (ClaimsSpent claims wanted) h = (
+      left_of (one_more p2.refused) u h.waited h.bare (knew_so h.knew) (own_so h.own),
+      (ap one_more start_refused, renewed_so, subst (λ ks. AreClaimsSpent b ks u.known claims wanted) named_so h.cause),
     )
-    cause_of (CountersFull moment live held wanted) c = (
-      ap one_more start_refused,
-      renewed_so,
-      subst (λ ks. AreCountersFull b ks u.known p.cells w moment live held wanted) named_so
-          (record {
-            moment_is = c.moment_is;
-            wanted_is = c.wanted_is;
-            some = c.some;
-            live_is = c.live_is;
-            held_is = (c.held_is.0, c.held_is.1, held_same w c.held_is.0 c.held_is.2, c.held_is.3);
-            few = c.few;
-            full = c.full;
-          }),
+    ended_so (CountersFull moment live held wanted) h = (
+      left_of (one_more p2.refused) u h.waited h.bare (knew_so h.knew) (own_so h.own),
+      (ap one_more start_refused, renewed_so, full_so moment live held wanted h.cause),
     )
 
     pub refusal_of : (fault : AcquireFault) → HasNoPins b names fault p2.cells w p2.claims u → q ≡ ended (refused_after fault p2.refused)
-        → HasRefused now p q × HasCause b request p (fault_of fault) q
-    refusal_of fault h e = subst (λ (x : PassView). HasRefused now p x × HasCause b request p (fault_of fault) x) (sym e) (
-      record {
-        same = start_limiter;
-        version = renewed_so.rises;
-        versions = renewed_so.knows;
-        own_versions = renewed_so.own;
-        ticks = waited_offers w h.waited;
-        counts = waited_keeps w h.waited;
-        claims = subst (λ (t : KnownClaims). IsPrefix t.known u.known) start_claims h.knew;
-        own_claims = h.own ∙ ap (λ (t : KnownClaims). t.own) start_claims;
-        bare = h.bare;
-      },
-      cause_of fault h.cause,
-    )
+        → HasRefused now p (but_for_claims (fault_of fault) p q) × HasCause b request p (fault_of fault) q
+    refusal_of fault h e =
+        subst (λ (x : PassView). HasRefused now p (but_for_claims (fault_of fault) p x) × HasCause b request p (fault_of fault) x) (sym e) (ended_so fault h)
 
 -- for want of memory
 pub early : (b : Bounds) (limiter : LimiterView) (request : RequestParts) (now : ℕ) (p q : PassView) (r : Result (Unit {0}) CheckFault) (reply : Reply)
-    → IsErr r × IsErrAnd r (λ f. f ≡ check.OutOfMemory) → HasRefused now p q × (q.refused ≡ p.refused) → Checks b limiter request now p (replied r reply) q
+    → IsErr r × IsErrAnd r (λ f. f ≡ check.OutOfMemory) → HasRefused now p q × (q.refused ≡ p.refused) × (q.claims ≡ p.claims)
+    → Checks b limiter request now p (replied r reply) q
 early b limiter request now p q (Ok x) reply e h = absurd e.1
-early b limiter request now p q (Err fault) reply e h = subst (λ (f : CheckFault). HasRefused now p q × HasCause b request p f q) (sym e.1) h
+early b limiter request now p q (Err fault) reply e h =
+    let knew : IsPrefix p.claims.known q.claims.known = subst (λ (t : KnownClaims). IsPrefix p.claims.known t.known) (sym h.2) (prefix_self p.claims.known) in
+    let none = claimed_none (counters_named q.version.index request q.cells.moment) q.cells.moment p.claims q.claims knew (ap (λ (t : KnownClaims). t.own) h.2) in
+    subst (λ (f : CheckFault). HasRefused now p (but_for_claims f p q) × HasCause b request p f q) (sym e.1)
+    (subst (HasRefused now p) (λ i. record q { claims = h.2 i }) h.0, (h.1, none))

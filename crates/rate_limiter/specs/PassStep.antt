@@ -7,6 +7,7 @@ use lib.ListN.{get_elem?}
 use Rattle.rate_types.specs.Requests.{RequestParts}
 use Rattle.rate_types.specs.Ledger.{Charge}
 use Rattle.rate_types.specs.declared.counter_key.CounterKey.{CounterKey}
+use Rattle.rate_types.specs.declared.request.Descriptor.{Descriptor}
 use Rattle.counter_directory.specs.Passes.{KnownClaims}
 use Rattle.told_list.specs.Lists.{count_from}
 use Rattle.config_versions.specs.PassState.{PassState, IsVersion}
@@ -17,9 +18,10 @@ use Rattle.counter_cells.specs.declared.view.Tick.{Tick}
 use Rattle.counter_cells.specs.declared.view.Charge as cell_charge
 use Rattle.counter_directory.specs.declared.claim.Claim.{Claim}
 use Rattle.counter_directory.specs.Keys.{key_count}
-use Rattle.rls_core.specs.Reply.{IsReplyOf, counters_named, charges_of, sights_of}
+use Rattle.rls_core.specs.Reply.{IsReplyOf, counters_named, found_for, charges_of, sights_of}
 use Rattle.rls_core.specs.declared.reply.Reply.{Reply}
 use Rattle.rate_limiter.specs.Passes.{LimiterView, PassView}
+use Rattle.rate_limiter.specs.Known.{KnowsCounter}
 use Rattle.rate_limiter.specs.Named.{AreNamed}
 use Rattle.rate_limiter.specs.Values.{HasSights}
 use Rattle.rate_limiter.specs.Counts.{CountsEach}
@@ -62,11 +64,16 @@ pub record HasCharged (claims : List Claim) (charges : List (Charge CounterKey))
   pub named : AreNamed claims (map charge_of added) charges
   pub looks : IsPrefix v.looks w.looks
 
+-- the pass knows the counter of each descriptor, by its version and at its moment
+abbrev pub KnowsAll : RequestParts → PassView → Type 0
+KnowsAll request q = (i : ℕ) (d : Descriptor) → get_elem? request.descriptors i ≡ some d
+    → KnowsCounter request q.cells.moment q.known d (found_for q.version.index request d)
+
 -- A check with `now` that was answered. The version is the pass's, after one load at least, and no older than that load showed or than
 -- before. The moment is the pass's, and no earlier than `now` or than before. The reply is that of this one version, at this moment,
 -- with its counts. The pass counted what the reply shows, in order, each on a claim that binds its counter, and nothing else: so it
--- charged just what the reply shows, and has what the reply says was seen. It claimed nothing but these counters, at its moment. It
--- holds no pin.
+-- charged just what the reply shows, and has what the reply says was seen. It claimed nothing but these counters, at its moment, and
+-- knows each of them. It holds no pin.
 pub record IsPassStep (limiter : LimiterView) (request : RequestParts) (now : ℕ) (p : PassView) (r : Reply) (q : PassView) : Type 0 where
   pub same : q.limiter ≡ p.limiter
   pub version : HasRenewed p.version q.version
@@ -78,5 +85,6 @@ pub record IsPassStep (limiter : LimiterView) (request : RequestParts) (now : �
   pub charged : HasCharged q.claims.known (charges_of request q.cells.moment request.descriptors r.statuses.items) p.cells q.cells
   pub seen : HasSights q.claims.known q.cells (sights_of request q.cells.moment request.descriptors r.statuses.items)
   pub claims : HasClaimed (counters_named q.version.index request q.cells.moment) q.cells.moment p.claims q.claims
+  pub knows : KnowsAll request q
   pub bare : q.cells.good ≡ []
   pub refused : q.refused ≡ p.refused

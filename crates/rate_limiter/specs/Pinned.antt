@@ -61,12 +61,18 @@ HasPinCause b names v (ClaimsSpent claims wanted) w u = AreClaimsSpent b (keys_a
 HasPinCause b names v (CountersFull moment live held wanted) w u =
     AreCountersFull b (keys_at w.moment names) u.known v w moment live held wanted
 
--- they aren't pinned, and nothing was claimed
+-- what was claimed: for want of memory at most some of the counters, at the moment, and else nothing
+abbrev pub HasClaimedFor : List CounterName → AcquireFault → CellView → KnownClaims → KnownClaims → Type 0
+HasClaimedFor names OutOfMemory w t u = HasClaimed (keys_at w.moment names) w.moment t u
+HasClaimedFor names (ClaimsSpent claims wanted) w t u = u.own ≡ t.own
+HasClaimedFor names (CountersFull moment live held wanted) w t u = u.own ≡ t.own
+
+-- they aren't pinned
 pub record HasNoPins (b : Bounds) (names : List CounterName) (fault : AcquireFault) (v w : CellView) (t u : KnownClaims) : Type 0 where
   pub waited : HasWaited v w
   pub bare : w.good ≡ []
   pub knew : IsPrefix t.known u.known
-  pub own : u.own ≡ t.own
+  pub own : HasClaimedFor names fault w t u
   pub cause : HasPinCause b names v fault w u
 
 -- the fault of the check then

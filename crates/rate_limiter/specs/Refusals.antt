@@ -13,7 +13,7 @@ use Rattle.rls_core.specs.declared.fault.CheckFault.TheVariants.{CountersFull, C
 use Rattle.rls_core.specs.declared.reply.Reply.{Reply}
 use Rattle.rate_limiter.specs.Passes.{LimiterView, PassView}
 use Rattle.rate_limiter.specs.Counts.{Keeps}
-use Rattle.rate_limiter.specs.PassStep.{HasRenewed, HasOffered, IsPassStep}
+use Rattle.rate_limiter.specs.PassStep.{HasRenewed, HasOffered, HasClaimed, IsPassStep}
 
 -- What is left of a pass whose check wasn't answered: it neither looked nor charged, its version and its moment haven't fallen, it
 -- offered nothing but `now`, and it holds no pin
@@ -50,9 +50,11 @@ pub record AreCountersFull (b : Bounds) (keys : List CounterKey) (made : List Cl
   pub few : held ≤ b.held
   pub full : b.cells < live + held + wanted
 
--- the cause of each fault, by the version, the moment and the claims that the pass has after the check
+-- The cause of each fault, by the version, the moment and the claims that the pass has after the check. Before there was no memory the
+-- pass may have claimed counters of the check, at its moment
 abbrev pub HasCause : Bounds → RequestParts → PassView → CheckFault → PassView → Type 0
-HasCause b request p OutOfMemory q = q.refused ≡ p.refused
+HasCause b request p OutOfMemory q =
+    (q.refused ≡ p.refused) × HasClaimed (counters_named q.version.index request q.cells.moment) q.cells.moment p.claims q.claims
 HasCause b request p (ClaimsSpent claims wanted) q =
     (q.refused ≡ one_more p.refused) × HasRenewed p.version q.version
     × AreClaimsSpent b (counters_named q.version.index request q.cells.moment) q.claims.known claims wanted
@@ -60,7 +62,13 @@ HasCause b request p (CountersFull moment live held wanted) q =
     (q.refused ≡ one_more p.refused) × HasRenewed p.version q.version
     × AreCountersFull b (counters_named q.version.index request q.cells.moment) q.claims.known p.cells q.cells moment live held wanted
 
+-- the pass, but for the claims that it made before there was no memory
+abbrev pub but_for_claims : CheckFault → PassView → PassView → PassView
+but_for_claims OutOfMemory p q = record q { claims = p.claims }
+but_for_claims (ClaimsSpent claims wanted) p q = q
+but_for_claims (CountersFull moment live held wanted) p q = q
+
 -- a check was answered, or refused for a cause
 abbrev pub Checks : Bounds → LimiterView → RequestParts → ℕ → PassView → Result Reply CheckFault → PassView → Type 0
 Checks b limiter request now p (Ok reply) q = IsPassStep limiter request now p reply q
-Checks b limiter request now p (Err fault) q = HasRefused now p q × HasCause b request p fault q
+Checks b limiter request now p (Err fault) q = HasRefused now p (but_for_claims fault p q) × HasCause b request p fault q

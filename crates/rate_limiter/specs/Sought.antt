@@ -1,10 +1,11 @@
 -- Inside: what a pass knows of the counters of a request, before they are pinned.
-use Rattle.std.specs.Prelude.{◌≡◌, ℕ, ◌≤◌, ◌<◌, List, length, Option, Some, None}
+use Rattle.std.specs.Prelude.{◌≡◌, ℕ, ◌≤◌, ◌<◌, List, length, Option, Some, None, IsSome}
 use Rattle.std.specs.List.{AllByRecursion}
 use mathlib.Core.Option.{some}
 use lib.ListN.{get_elem?}
 use Rattle.rate_types.specs.Requests.{RequestParts}
 use Rattle.rate_types.specs.declared.counter_key.CounterKey.{CounterKey}
+use Rattle.rate_types.specs.declared.counter_name.CounterName.{CounterName}
 use Rattle.rate_types.specs.declared.request.Descriptor.{Descriptor}
 use Rattle.window_keys.specs.Counter.{counter_of}
 use Rattle.rule_lookup.specs.declared.found.Found.{Found}
@@ -13,6 +14,7 @@ use Rattle.counter_cells.specs.declared.view.CellView.{CellView}
 use Rattle.counter_cells.specs.declared.answers.Spot.{Spot}
 use Rattle.counter_directory.specs.declared.claim.Claim.{Claim}
 use Rattle.counter_directory.specs.Claims.{bindings_of}
+use Rattle.counter_directory.specs.Keys.{key_at}
 use Rattle.over_cache.specs.Entries.{Entries, known_of}
 use Rattle.over_cache.specs.declared.known.Known.{Known}
 use Rattle.rls_core.specs.Reply.{counter_under}
@@ -74,6 +76,10 @@ AreKnown request moment entries ds fs spots = (i : ℕ) (d : Descriptor) (f : Fo
 abbrev pub KnowsUnder : ℕ → RequestParts → ℕ → Entries → List Descriptor → List Found → Type 0
 KnowsUnder n request moment entries ds fs = (i : ℕ) (d : Descriptor) (f : Found) → i < n → get_elem? ds i ≡ some d → get_elem? fs i ≡ some f
     → KnowsCounter request moment entries d f
+
+-- the counters of the names are known, at the moment
+abbrev pub AreNoted : List CounterName → ℕ → Entries → Type 0
+AreNoted names moment entries = (i : ℕ) (name : CounterName) → get_elem? names i ≡ some name → IsSome (spot_of (key_at moment name) entries)
 
 -- the counter of the descriptor isn't known
 pub record IsUnknownAt (request : RequestParts) (moment : ℕ) (entries : Entries) (d : Descriptor) (found : Found) : Type 0 where

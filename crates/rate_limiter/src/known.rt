@@ -1,25 +1,29 @@
 // What a pass notes of its counters.
-ghost use Rattle.std.specs.Prelude.{◌≡◌, ◌≤◌, ◌<◌, All, length};
+ghost use Rattle.std.specs.Prelude.{◌≡◌, ◌≤◌, ◌<◌, ℕ, [], All, OnOk, OnErr, IfErr, length};
+ghost use Rattle.rate_types.specs.declared.limits.TheConstants.{MOST_PINS};
 ghost use Rattle.counter_directory.specs.Passes.{knows};
 ghost use Rattle.counter_cells.specs.declared.view.CellView.{CellView};
 ghost use Rattle.counter_directory.specs.Keys.{keys_at};
-ghost use Rattle.counter_directory.specs.Spots.{Bound};
+ghost use Rattle.counter_directory.specs.Spots.{Bound, spots_on, LeavesAllButPins};
+ghost use Rattle.counter_cells.specs.Views.{good_on};
+ghost use Rattle.counter_directory.specs.declared.acquired.AcquireFault.TheVariants.{OutOfMemory as NoMemory};
 ghost use Rattle.rate_limiter.specs.Known.{AreBoundEntries, AreSeenEntries, pins_under};
+ghost use Rattle.rate_limiter.specs.Sought.{AreNoted};
 
 use crate::known_counters::KnownCounters;
-use counter_cells::{CellNaming, CellPass, Spot};
-use counter_directory::DirectoryPass;
-use rate_types::CounterName;
+use counter_cells::{CellNaming, CellPass, Cells, Spot};
+use counter_directory::{AcquireFault, DirectoryPass, give_back};
+use rate_types::{CounterName, OutOfMemory};
 
-/// Notes the counters that are pinned at the pass's moment, so that the next check needn't ask for them. What finds no memory is left
-/// out.
-pub(crate) fn note_names<N: CellNaming>(
+// Notes the counters that are pinned at the pass's moment. Where there is no memory, those before are noted.
+fn note_names<N: CellNaming>(
     claims: &DirectoryPass<N>,
     known: &mut KnownCounters,
     names: &[CounterName],
     spots: &[Spot],
     cell_pass: &CellPass<N>,
-)
+) -> Result<(), OutOfMemory>
+    requires few { length names.now ≤ MOST_PINS }
     requires count { length spots.now ≡ length names.now }
     requires within { All (λ s. s.cell < N.setup.cells) spots.now }
     requires bound { Bound (knows claims.now).known (keys_at cell_pass.now.moment names.now) spots.now }
@@ -27,11 +31,47 @@ pub(crate) fn note_names<N: CellNaming>(
     requires known { AreBoundEntries N.setup.cells (knows claims.now).known cell_pass.now.pairs known.old }
     ensures known { AreBoundEntries N.setup.cells (knows claims.now).known cell_pass.now.pairs known.new }
     ensures seen { (v : CellView) → AreSeenEntries v known.old → AreSeenEntries v known.new }
+    ensures noted { OnOk result (AreNoted names.now cell_pass.now.moment known.new) }
 {
     let _ = claims;
     let moment = cell_pass.moment();
     'names: for place in 0..names.len() {
         let name = &names[place];
-        let _ = known.note(&name.domain, &name.entries, name.unit, moment, spots[place]);
+        known.note(&name.domain, &name.entries, name.unit, moment, spots[place])?;
+    }
+    Ok(())
+}
+
+/// Notes the counters that are pinned at the pass's moment, so that the next check needn't ask for them. Where there is no memory, the
+/// pins are given back.
+pub(crate) fn note_pinned<N: CellNaming>(
+    cells: &Cells<N>,
+    claims: &DirectoryPass<N>,
+    known: &mut KnownCounters,
+    names: &[CounterName],
+    spots: &[Spot],
+    cell_pass: &mut CellPass<N>,
+) -> Result<(), AcquireFault>
+    requires few { length names.now ≤ MOST_PINS }
+    requires count { length spots.now ≡ length names.now }
+    requires within { All (λ s. s.cell < N.setup.cells) spots.now }
+    requires pins { (cell : ℕ) → good_on cell cell_pass.old ≡ spots_on cell spots.now }
+    requires bound { Bound (knows claims.now).known (keys_at cell_pass.old.moment names.now) spots.now }
+    requires had { All (λ s. 1 ≤ pins_under s.cell s.claim cell_pass.old.pairs) spots.now }
+    requires known { AreBoundEntries N.setup.cells (knows claims.now).known cell_pass.old.pairs known.old }
+    ensures known { AreBoundEntries N.setup.cells (knows claims.now).known cell_pass.new.pairs known.new }
+    ensures seen { (v : CellView) → AreSeenEntries v known.old → AreSeenEntries v known.new }
+    ensures noted { OnOk result (AreNoted names.now cell_pass.new.moment known.new) }
+    ensures same { OnOk result (cell_pass.new ≡ cell_pass.old) }
+    ensures fault { IfErr result (λ f. f ≡ NoMemory) }
+    ensures bare { OnErr result (cell_pass.new.good ≡ []) }
+    ensures rest { LeavesAllButPins cell_pass.old cell_pass.new }
+{
+    match note_names(claims, known, names, spots, cell_pass) {
+        Ok(()) => Ok(()),
+        Err(OutOfMemory) => {
+            give_back(cells, cell_pass, spots);
+            Err(AcquireFault::OutOfMemory)
+        }
     }
 }

@@ -3,7 +3,7 @@ ghost use Rattle.std.specs.Prelude.{◌≡◌};
 ghost use Rattle.rate_limiter.specs.Pinned.{fault_of, refused_after};
 
 use crate::Limiter;
-use crate::known::note_names;
+use crate::known::note_pinned;
 use crate::known_counters::KnownCounters;
 use crate::names::names_of;
 use crate::sought::pin_known;
@@ -64,7 +64,7 @@ impl<N: CellNaming> Limiter<N> {
 
     // Pins the counters of the descriptors that have a limit on the spots of `acquired`: without a turn at the directory where the pass
     // knows each and its cell is the counter's still. Then `seen` is the greatest value that the pass has seen of each; else it is
-    // empty.
+    // empty, and the pass knows each now.
     pub(crate) fn pin_counters<R: Wait>(
         &self,
         rt: &R,
@@ -93,6 +93,8 @@ impl<N: CellNaming> Limiter<N> {
         ensures looks { cell_pass.new.looks ≡ cell_pass.old.looks }
         ensures turns { KnowsUnder (length descriptors.now) request.now cell_pass.old.moment known.old descriptors.now rules.now
             → cell_pass.new.others ≡ cell_pass.old.others → knows claims.new ≡ knows claims.old }
+        ensures knows { OnOk result
+            (KnowsUnder (length descriptors.now) request.now cell_pass.new.moment known.new descriptors.now rules.now) }
         ensures values { OnOk result (AreSeenAt (knows claims.new).known request.now cell_pass.new.moment known.new descriptors.now
             rules.now seen.new.items) }
         ensures within { OnOk result (All (λ s. s.cell < N.setup.cells) acquired.new.spots.items) }
@@ -122,16 +124,14 @@ impl<N: CellNaming> Limiter<N> {
         };
         match self.pin_names(rt, claims, cell_pass, names.as_slice(), acquired) {
             Err(fault) => Err(fault),
-            Ok(()) => {
-                note_names(
-                    claims,
-                    known,
-                    names.as_slice(),
-                    acquired.spots.as_slice(),
-                    cell_pass,
-                );
-                Ok(())
-            }
+            Ok(()) => note_pinned(
+                &self.cells,
+                claims,
+                known,
+                names.as_slice(),
+                acquired.spots.as_slice(),
+                cell_pass,
+            ),
         }
     }
 }

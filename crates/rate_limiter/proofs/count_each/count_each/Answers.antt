@@ -1,11 +1,10 @@
-use Rattle.std.proofs.Common.{◌≡◌, ◌∙◌, ℕ, List, Option, Some, None, IfSome, cond, Bool, true, false, get_or, length, sym, subst, ap, arith}
-use mathlib.Core.Option.{some, some-ne-none}
+use Rattle.std.proofs.Common.{◌≡◌, ◌∙◌, ℕ, Option, Some, None, IfSome, get_or, sym, ap, arith}
+use mathlib.Core.Option.{some}
 use lib.ListN.{get_elem?}
 use Rattle.counter_directory.specs.Passes.{knows}
 use Rattle.rate_types.specs.declared.request.Descriptor.{Descriptor}
 use Rattle.rate_limiter.specs.declared.planned.Planned.{Planned}
 use Rattle.rate_limiter.specs.Sought.{IsSeenAt}
-use Rattle.rate_limiter.specs.Planned.{AreValues}
 use Rattle.rate_limiter.proofs.Counting.{no_plan, done_good, done_at_next, ready_still}
 use Rattle.rate_limiter.proofs.Stepping.{done_still}
 use Rattle.rate_limiter.proofs.Totalling.{item_at}

@@ -1,4 +1,4 @@
-use Rattle.std.proofs.Common.{◌<◌, arith}
+use Rattle.std.proofs.Common.{arith}
 use Rattle.rate_limiter.proofs.Totalling.{item_at}
 use Rattle.rate_limiter.proofs.count_each.value_at.Goals as goal
 

@@ -7,6 +7,9 @@ use Rattle.counter_directory.specs.Keys.{key_at, keys_at}
 use Rattle.counter_directory.specs.Spots.{Bound}
 use Rattle.rate_limiter.specs.Known.{key_of}
 use Rattle.rate_limiter.proofs.Knowing.{note_bound, note_seen, map_at, no_spot}
+use Rattle.over_cache.specs.Entries.{noted}
+use Rattle.rate_limiter.specs.Known.{AreSeenEntries}
+use Rattle.rate_limiter.proofs.Noting.{within_next, noted_all_names}
 use Rattle.rate_limiter.proofs.Totalling.{item_at}
 use Rattle.rate_limiter.proofs.known.note_names.Goals as goal
 
@@ -35,4 +38,13 @@ names-preserved g c =
       seen = λ w h.
           note_seen w (key_of q) s c.names.known c.note.new.self c.note.result c.note.ensures.noted c.note.ensures.refused c.note.ensures.others
           (c.names.invariant.seen w h);
+      noted = within_next names i v.moment name s c.names.known c.note.new.self (item_at names i name within ∙ sym (ap (λ (n : CounterName). some n) c.index-names-place.is))
+          (omega (arith, c.requires.few))
+          (subst (λ k. c.note.new.self ≡ noted (key_of (key_at k name)) s 0 c.names.known) c.moment-moment.ensures c.in_ok-note.ensures.noted) c.names.invariant.noted _ (omega arith);
     }
+
+pub returns-in_err-note-clause-seen : goal.returns-in_err-note-clause-seen
+returns-in_err-note-clause-seen g c = λ w h. subst (AreSeenEntries w) (sym c.in_err-note.ensures.refused) (c.names.invariant.seen w h)
+
+pub returns-clause-noted : goal.returns-clause-noted
+returns-clause-noted g c = noted_all_names c.args.names.now c.names.place c.args.cell_pass.now.moment c.names.known (omega arith) c.names.invariant.noted

@@ -1,4 +1,4 @@
-use Rattle.std.proofs.Common.{◌≡◌, ◌∙◌, ◌<◌, ◌++◌, ◌∷◌, [], ℕ, List, Option, length, get_or, sym, subst, ap, arith}
+use Rattle.std.proofs.Common.{◌≡◌, ◌∙◌, ◌<◌, ◌++◌, ◌∷◌, [], ℕ, Option, length, get_or, sym, subst, ap, arith}
 use mathlib.Core.Option.{some}
 use lib.ListN.{get_elem?}
 use Rattle.counter_directory.specs.Passes.{knows}
@@ -7,7 +7,7 @@ use Rattle.rate_types.specs.declared.request.Descriptor.{Descriptor}
 use Rattle.rule_lookup.specs.declared.found.Found.{Found}
 use Rattle.rule_lookup.specs.declared.found.Found.TheVariants.{NoRule}
 use Rattle.rate_limiter.specs.Known.{spot_in}
-use Rattle.rate_limiter.specs.Sought.{seen_in, IsOwnAt, AreOwn, IsKnownAt, AreKnown, IsSeenAt, AreSeenAt, IsAt}
+use Rattle.rate_limiter.specs.Sought.{seen_in, IsOwnAt, AreOwn, IsKnownAt, AreKnown, IsSeenAt, AreSeenAt}
 use Rattle.rate_limiter.proofs.Totalling.{item_at}
 use Rattle.rate_limiter.proofs.Seeking.{each_next, known_since, unknown_since, knows_under, seen_since, same_known_then}
 use Rattle.rate_limiter.proofs.Knowing.{spots_same}

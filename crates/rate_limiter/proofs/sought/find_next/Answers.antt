@@ -1,9 +1,9 @@
-use Rattle.std.proofs.Common.{◌≡◌, Some, None, sym, subst, ap, refl}
+use Rattle.std.proofs.Common.{Some, sym, subst, ap, refl}
 use Rattle.counter_directory.specs.Passes.{knows}
 use Rattle.rule_lookup.specs.declared.found.Found.{Found}
 use Rattle.window_keys.specs.Counter.{counter_of}
 use Rattle.rate_limiter.specs.Known.{spot_in}
-use Rattle.rate_limiter.specs.Sought.{seen_in, IsOwnAt, IsKnownAt, IsSeenAt, IsUnknownAt}
+use Rattle.rate_limiter.specs.Sought.{IsOwnAt, IsKnownAt, IsSeenAt, IsUnknownAt}
 use Rattle.rate_limiter.proofs.Seeking.{seen_found}
 use Rattle.rate_limiter.proofs.sought.find_next.Goals as goal
 

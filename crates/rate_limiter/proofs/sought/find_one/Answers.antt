@@ -1,12 +1,9 @@
-use Rattle.std.proofs.Common.{◌≡◌, ◌∙◌, List, Option, Some, None, IfSome, sym, subst, ap}
+use Rattle.std.proofs.Common.{◌≡◌, ◌∙◌, sym, subst, ap}
 use Rattle.counter_directory.specs.Passes.{knows}
 use Rattle.rate_types.specs.declared.counter_key.CounterKey.{CounterKey}
 use Rattle.window_keys.specs.Counter.{counter_of}
-use Rattle.counter_directory.specs.declared.claim.Claim.{Claim}
-use Rattle.over_cache.specs.Entries.{Entries, known_of}
-use Rattle.over_cache.specs.declared.known.Known.{Known}
+use Rattle.over_cache.specs.Entries.{known_of}
 use Rattle.rate_limiter.specs.Known.{counter_named, key_of, IsBoundEntry, AreBoundEntries}
-use Rattle.rate_limiter.specs.Sought.{IsOwnSpot}
 use Rattle.rate_limiter.proofs.Knowing.{asked_all, asked_same, own_entry}
 use Rattle.rate_limiter.proofs.sought.find_one.Goals as goal
 

@@ -1,4 +1,4 @@
-use Rattle.std.proofs.Common.{◌≡◌, ◌∙◌, ◌++◌, ◌∷◌, [], ◌<◌, ℕ, List, Option, Some, None, get_or, length, take, sym, subst, ap, arith, rules}
+use Rattle.std.proofs.Common.{◌≡◌, ◌∙◌, ◌++◌, ◌∷◌, [], List, Option, None, get_or, take, sym, subst, ap, arith, rules}
 use Rattle.std.specs.Prelude.{IsOk}
 use mathlib.Core.Option.{some}
 use lib.ListN.{get_elem?}

@@ -1,4 +1,4 @@
-use Rattle.std.proofs.Common.{List, Option, length, refl, sym, subst, ap, ◌∙◌, arith}
+use Rattle.std.proofs.Common.{List, Option, length, refl, subst, arith}
 use Rattle.std.proofs.lemmas.Result.{on_ok_weaker, IfErr-weaker}
 use Rattle.counter_directory.specs.Passes.{knows}
 use Rattle.counter_cells.specs.declared.answers.Spot.{Spot}

@@ -1,13 +1,12 @@
-use Rattle.std.proofs.Common.{◌≡◌, ◌∷◌, ◌++◌, [], List, refl, sym, subst, ap}
+use Rattle.std.proofs.Common.{◌∷◌, ◌++◌, [], List, sym, subst, ap}
 use Rattle.counter_directory.specs.Passes.{knows}
 use Rattle.rate_types.specs.declared.counter_name.CounterName.{CounterName}
 use Rattle.counter_cells.specs.declared.view.CellView.{CellView}
 use Rattle.counter_cells.specs.declared.answers.Spot.{Spot}
-use Rattle.rate_limiter.specs.Known.{PinsGrow}
 use Rattle.rate_limiter.specs.Planned.{name_under}
 use Rattle.rate_limiter.specs.Pinned.{ArePinned}
-use Rattle.rate_limiter.proofs.Knowing.{pinned_next, grow_self}
-use Rattle.rate_limiter.proofs.Seeking.{no_name, name_at, pinned_none, pin_grows}
+use Rattle.rate_limiter.proofs.Knowing.{pinned_next}
+use Rattle.rate_limiter.proofs.Seeking.{name_at}
 use Rattle.rate_limiter.proofs.sought.pin_next.Goals as goal
 
 pub returns-in-Pinned-clause-pinned : goal.returns-in-Pinned-clause-pinned

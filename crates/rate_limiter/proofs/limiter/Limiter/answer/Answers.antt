@@ -1,4 +1,4 @@
-use Rattle.std.proofs.Common.{◌≡◌, ◌∙◌, ◌<◌, ◌&&◌, not, ℕ, List, All, length, sym, subst, ap, arith}
+use Rattle.std.proofs.Common.{◌≡◌, ◌∙◌, ◌&&◌, not, List, All, length, sym, subst, ap}
 use Rattle.std.specs.List.{list_any}
 use mathlib.Core.Option.{some}
 use lib.ListN.{get_elem?}
@@ -6,7 +6,6 @@ use Rattle.counter_directory.specs.Passes.{knows}
 use Rattle.rate_types.specs.declared.request.Descriptor.{Descriptor}
 use Rattle.counter_directory.specs.Keys.{keys_at}
 use Rattle.counter_directory.specs.Spots.{Bound}
-use Rattle.rule_lookup.specs.declared.found.Found.{Found}
 use Rattle.rls_core.specs.Reply.{is_over_limit}
 use Rattle.rls_core.specs.declared.status.Status.{Status}
 use Rattle.rate_limiter.specs.declared.planned.Planned.{Planned}

@@ -1,5 +1,4 @@
-use Rattle.std.proofs.Common.{◌≡◌, ◌∙◌, ◌<◌, ◌&&◌, not, ℕ, List, All, length, map, refl, sym, subst, ap, arith}
-use Rattle.std.specs.List.{list_any}
+use Rattle.std.proofs.Common.{◌≡◌, ◌∙◌, ℕ, List, length, map, refl, sym, subst, ap, arith}
 use mathlib.Core.Option.{some}
 use lib.ListN.{get_elem?}
 use Rattle.rate_types.specs.declared.counter_name.CounterName.{CounterName}
@@ -11,16 +10,13 @@ use Rattle.rule_lookup.specs.declared.found.Found.{Found}
 use Rattle.rule_lookup.specs.Replaces.{found_among}
 use Rattle.config_versions.specs.Passes.{pass_state, versions_of}
 use Rattle.counter_cells.specs.declared.answers.Spot.{Spot}
-use Rattle.rls_core.specs.Reply.{found_for, is_over_limit}
+use Rattle.rls_core.specs.Reply.{found_for}
 use Rattle.rls_core.specs.declared.fault.CheckFault.{CheckFault}
-use Rattle.rls_core.specs.declared.reply.Reply.{Reply}
-use Rattle.rls_core.specs.declared.status.Status.{Status}
-use Rattle.rate_limiter.specs.declared.planned.Planned.{Planned}
-use Rattle.rate_limiter.specs.Passes.{LimiterId, LimiterView, PassView, bounds_of, KeepsAllButVersion}
+use Rattle.rate_limiter.specs.Passes.{LimiterId, PassView, bounds_of, KeepsAllButVersion}
 use Rattle.rate_limiter.specs.PassStep.{HasRenewed}
-use Rattle.rate_limiter.specs.Planned.{names_under, planned_each, DoneEach, IsReady}
-use Rattle.rate_limiter.specs.Refusals.{HasRefused, HasCause}
-use Rattle.rate_limiter.proofs.Readying.{ready_all}
+use Rattle.rate_limiter.specs.Planned.{names_under, planned_each, DoneEach}
+use Rattle.rate_limiter.specs.Refusals.{HasRefused, HasCause, but_for_claims}
+use Rattle.rate_limiter.specs.Sought.{KnowsUnder}
 use Rattle.rate_limiter.proofs.Stepping.{early, refused_early, refusal_of, step_of, still_then, each_still, leaves_still}
 use Rattle.rate_limiter.proofs.Resting.{no_turn, no_turn_at_all}
 use Rattle.rate_limiter.proofs.Seeing.{looks_kept}
@@ -73,7 +69,7 @@ returns-in-Err-clause-step g c =
       known = c.pin_counters.new.known;
       refused = c.refuse.new.refused;
     } in
-    subst (λ (f : CheckFault). HasRefused c.args.now p q × HasCause b request p f q) (sym c.refuse.ensures.fault)
+    subst (λ (f : CheckFault). HasRefused c.args.now p (but_for_claims f p q) × HasCause b request p f q) (sym c.refuse.ensures.fault)
     (refusal_of limiter request c.args.now p p1 p2 q c.tick.ensures.offered c.tick.ensures.rest rest b
     names rules c.pin_counters.new.cell_pass (knows c.pin_counters.new.claims) renewed rules_are names_are c.in-Err.fault c.in-Err.ensures.refused
     (λ i. record {
@@ -160,7 +156,8 @@ returns-in-Ok-clause-step g c =
     step_of limiter request c.args.now p p1 p2 q c.tick.ensures.offered c.tick.ensures.rest rest
     names rules spots w did.0 r renewed rules_are names_are c.in-Ok.ensures.pinned done did.2
     c.answer.ensures.bare refl (λ i. record { claims = list i; versions = versions_of inside.version }) refl (c.answer.ensures.version ∙ c.version.ensures) c.answer.ensures.moment
-    c.answer.ensures.over
+    c.answer.ensures.over c.pin_counters.new.known c.answer.ensures.spots
+    (subst (λ (l : List Descriptor). KnowsUnder (length l) request w.moment c.pin_counters.new.known l rules) all c.in-Ok.ensures.knows)
 
 pub returns-in_err-renew-clause-turns : goal.returns-in_err-renew-clause-turns
 returns-in_err-renew-clause-turns g c =

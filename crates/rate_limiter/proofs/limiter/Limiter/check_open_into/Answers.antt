@@ -1,4 +1,4 @@
-use Rattle.std.proofs.Common.{◌≡◌, ◌∙◌, ◌<◌, ◌+◌, ℕ, List, length, map, refl, sym, subst, ap, arith}
+use Rattle.std.proofs.Common.{◌≡◌, ◌∙◌, ◌+◌, ℕ, List, length, map, refl, sym, subst, ap}
 use Rattle.std.specs.Prelude.{Err}
 use mathlib.Core.Option.{some}
 use lib.ListN.{get_elem?}
@@ -197,14 +197,15 @@ returns-in-Ok-clause-step g c =
     (subst (λ (fs : List Found). DoneEach w.moment (planned_each request request.descriptors fs c.as_slice-in-Ok-2.result.now) r.statuses.items w did.0)
     (c.as_slice-in-Ok.ensures.value ∙ sym c.as_slice.ensures.value) did.1) in
     let renewed : HasRenewed p.version p2.version = open_renews c.args.now p p1 p2 loads offered ticks loaded c.is_behind.ensures.at newest in
+    let knew = subst (λ (l : List Descriptor). KnowsUnder (length l) request p2.cells.moment p2.known l rules) all c.in-Ok.ensures.all in
     let step : IsPassStep limiter request c.args.now p r q
     = step_of limiter request c.args.now p (between c.args.now p p1 p2 loads offered ticks) p2 q (first_offered c.args.now p p1 p2 loads offered ticks)
     (first_ticks c.args.now p p1 p2 loads offered ticks) (then_version c.args.now p p1 p2 loads offered ticks)
     names rules spots w did.0 r renewed rules_are names_are (pinned_known g.N.CellNaming.setup.cells names spots p2.cells w p2.claims c.in-Ok.ensures.pinned) done did.2
-    c.answer.ensures.bare refl refl refl (c.answer.ensures.version ∙ c.version.ensures) c.answer.ensures.moment c.answer.ensures.over in
+    c.answer.ensures.bare refl refl refl (c.answer.ensures.version ∙ c.version.ensures) c.answer.ensures.moment c.answer.ensures.over p2.known spots_kept
+    (subst (λ m. KnowsUnder (length request.descriptors) request m p2.known request.descriptors rules) (sym c.in-Ok.ensures.pinned.same.moment) knew) in
     let moment : q.cells.moment ≡ p2.cells.moment = sym step.moment_is ∙ c.answer.ensures.moment ∙ c.in-Ok.ensures.pinned.same.moment in (
       step,
       stayed_open c.args.now p p1 p2 loads offered ticks q refl refl refl spots_kept refl loaded newest,
-      knows_first c.args.now p p1 p2 loads offered ticks q refl refl refl spots_kept refl loaded newest request moment rules rules_are (length request.descriptors)
-          (subst (λ (l : List Descriptor). KnowsUnder (length l) request p2.cells.moment p2.known l rules) all c.in-Ok.ensures.all),
+      knows_first c.args.now p p1 p2 loads offered ticks q refl refl refl spots_kept refl loaded newest request moment rules rules_are (length request.descriptors) knew,
     )

@@ -1,17 +1,26 @@
-use Rattle.std.proofs.Common.{◌≡◌, ◌∙◌, ◌<◌, ℕ, [], List, length, sym, subst, ap, arith, rules}
+use Rattle.std.proofs.Common.{◌≡◌, ◌∙◌, ◌<◌, ℕ, [], List, length, refl, sym, subst, ap, arith, rules}
+use Rattle.std.proofs.lemmas.Result.{on_ok_weaker}
 use mathlib.Core.Option.{some, some-ne-none}
 use lib.ListN.{get_elem?}
 use Rattle.counter_directory.specs.Passes.{knows}
 use Rattle.rate_types.specs.declared.counter_name.CounterName.{CounterName}
+use Rattle.counter_cells.specs.Views.{good_on}
+use Rattle.counter_cells.specs.declared.view.CellView.{CellView}
 use Rattle.counter_directory.specs.Keys.{keys_at}
+use Rattle.counter_directory.specs.Spots.{spots_on}
+use Rattle.counter_directory.specs.declared.acquired.AcquireFault.TheVariants.{OutOfMemory}
 use Rattle.rate_limiter.specs.Passes.{bounds_of}
 use Rattle.rate_limiter.specs.Planned.{names_under}
 use Rattle.rate_limiter.specs.Pinned.{SameButPins, HasPins, HasNoPins}
-use Rattle.rate_limiter.proofs.Knowing.{pinned_known, pins_after, no_pins_after, entries_later, claimed_prefix}
-use Rattle.rate_limiter.specs.Sought.{IsSeenAt, KnowsUnder}
+use Rattle.rate_limiter.proofs.Knowing.{pinned_known, pins_after, no_pins_after, entries_later, claimed_prefix, spots_same}
+use Rattle.rate_limiter.specs.Sought.{IsSeenAt, KnowsUnder, AreNoted}
+use Rattle.rate_limiter.proofs.Lists.{prefix_self}
+use Rattle.rate_limiter.proofs.Meeting.{never_ticked}
+use Rattle.rate_limiter.proofs.Noting.{noted_under, knows_still}
 use Rattle.rate_limiter.proofs.Readying.{names_few}
 use Rattle.rate_limiter.proofs.Seeing.{seen_kept, seen_same}
 use Rattle.rate_limiter.proofs.Seeking.{seen_still}
+use Rattle.rate_limiter.proofs.Turning.{claimed_none, refused_noting}
 use Rattle.rate_limiter.proofs.limiter.Limiter.pin_counters.Goals as goal
 
 pub returns-in-Ok-clause-pinned : goal.returns-in-Ok-clause-pinned
@@ -26,6 +35,17 @@ returns-in-Ok-clause-seen g c =
     let known = c.pin_known.new.known in
     seen_kept v c.pin_known.new.cell_pass known (record { looks = a.same.looks; charges = a.same.charges })
     (seen_same v c.args.known.now known c.pin_known.ensures.same c.requires.seen)
+
+pub returns-in-Ok-clause-knows : goal.returns-in-Ok-clause-knows
+returns-in-Ok-clause-knows g c =
+    let r = c.args.request.now in
+    let v = c.args.cell_pass.now in
+    let ds = c.args.descriptors.now in
+    let fs = c.args.rules.now in
+    let old = c.args.known.now in
+    let known = c.pin_known.new.known in
+    subst (λ m. KnowsUnder (length ds) r m known ds fs) (sym c.in-Ok.ensures.pinned.same.moment)
+    (knows_still r v.moment old known (spots_same old known c.pin_known.ensures.same) ds fs (length ds) c.in-Ok.ensures.all)
 
 pub returns-in-Ok-clause-looks : goal.returns-in-Ok-clause-looks
 returns-in-Ok-clause-looks g c = c.in-Ok.ensures.pinned.same.looks
@@ -84,8 +104,8 @@ returns-in-Err-clause-refused g c =
     no_pins_after v mid w missed.0 b (names_under c.args.request.now c.args.descriptors.now c.args.rules.now) c.in-Err.fault t u
     (subst (λ (l : List CounterName). HasNoPins b l c.in-Err.fault mid w t u) (c.as_slice.ensures.value ∙ c.in-Ok-names_of.ensures.names) c.in-Err.ensures.refused)
 
-pub note_names-requires-clause-known : goal.note_names-requires-clause-known
-note_names-requires-clause-known g c =
+pub note_pinned-requires-clause-known : goal.note_pinned-requires-clause-known
+note_pinned-requires-clause-known g c =
     let t = knows c.args.claims.now in
     let u = knows c.pin_names.new.claims in
     entries_later g.N.CellNaming.setup.cells t.known u.known c.pin_known.new.cell_pass.pairs c.pin_names.new.cell_pass.pairs c.pin_known.new.known
@@ -99,10 +119,46 @@ returns-clause-pinned g c =
     let w = c.pin_names.new.cell_pass in
     let t = knows c.args.claims.now in
     let u = knows c.pin_names.new.claims in
+    let names = names_under c.args.request.now c.args.descriptors.now c.args.rules.now in
     let spots = c.pin_names.new.acquired.spots.items in
     let missed : SameButPins v mid × (mid.good ≡ []) = search rules in
-    pins_after v mid w missed.0 (names_under c.args.request.now c.args.descriptors.now c.args.rules.now) spots t u
-    (subst (λ (l : List CounterName). HasPins l spots mid w t u) (c.as_slice.ensures.value ∙ c.in-Ok-names_of.ensures.names) c.in-Ok-pin_names.ensures.pinned)
+    let pinned : HasPins names spots v w t u = pins_after v mid w missed.0 names spots t u
+    (subst (λ (l : List CounterName). HasPins l spots mid w t u) (c.as_slice.ensures.value ∙ c.in-Ok-names_of.ensures.names) c.in-Ok-pin_names.ensures.pinned) in
+    on_ok_weaker c.note_pinned.result (λ e. subst (λ (x : CellView). HasPins names spots v x t u) (sym e) pinned) c.note_pinned.ensures.same
+
+pub returns-clause-refused : goal.returns-clause-refused
+returns-clause-refused g c =
+    let v = c.args.cell_pass.now in
+    let mid = c.pin_known.new.cell_pass in
+    let w = c.pin_names.new.cell_pass in
+    let t = knows c.args.claims.now in
+    let u = knows c.pin_names.new.claims in
+    let names = names_under c.args.request.now c.args.descriptors.now c.args.rules.now in
+    let spots = c.pin_names.new.acquired.spots.items in
+    let missed : SameButPins v mid × (mid.good ≡ []) = search rules in
+    let pinned : HasPins names spots v w t u = pins_after v mid w missed.0 names spots t u
+    (subst (λ (l : List CounterName). HasPins l spots mid w t u) (c.as_slice.ensures.value ∙ c.in-Ok-names_of.ensures.names) c.in-Ok-pin_names.ensures.pinned) in
+    refused_noting (bounds_of g.N.CellNaming.setup.cells c.args.self.now) names spots v w c.note_pinned.new.cell_pass t u c.note_pinned.result pinned c.note_pinned.ensures.rest
+    c.note_pinned.ensures.bare c.note_pinned.ensures.fault
+
+pub returns-clause-within : goal.returns-clause-within
+returns-clause-within g c = on_ok_weaker c.note_pinned.result (λ _. c.in-Ok-pin_names.ensures.within) c.note_pinned.ensures.same
+
+pub returns-clause-pins : goal.returns-clause-pins
+returns-clause-pins g c =
+    on_ok_weaker c.note_pinned.result
+    (λ e cell. subst (λ (x : CellView). good_on cell x ≡ spots_on cell c.pin_names.new.acquired.spots.items) (sym e) (c.in-Ok-pin_names.ensures.pins cell)) c.note_pinned.ensures.same
+
+pub returns-clause-knows : goal.returns-clause-knows
+returns-clause-knows g c =
+    let r = c.args.request.now in
+    let ds = c.args.descriptors.now in
+    let fs = c.args.rules.now in
+    let known = c.note_pinned.new.known in
+    let moment = c.note_pinned.new.cell_pass.moment in
+    on_ok_weaker c.note_pinned.result
+    (λ noted. noted_under r moment known ds fs (subst (λ (l : List CounterName). AreNoted l moment known) (c.as_slice-in-Ok-pin_names.ensures.value ∙ c.in-Ok-names_of.ensures.names) noted) (length ds))
+    c.note_pinned.ensures.noted
 
 pub returns-clause-seen : goal.returns-clause-seen
 returns-clause-seen g c =
@@ -110,17 +166,37 @@ returns-clause-seen g c =
     let mid = c.pin_known.new.cell_pass in
     let w = c.pin_names.new.cell_pass in
     let known = c.pin_known.new.known in
+    let rest = c.note_pinned.ensures.rest in
     let missed : SameButPins v mid × (mid.good ≡ []) = search rules in
-    c.note_names.ensures.seen w (seen_kept mid w known c.in-Ok-pin_names.ensures.pinned.waited.keeps
-    (seen_kept v mid known (record { looks = missed.0.looks; charges = missed.0.charges }) (seen_same v c.args.known.now known c.pin_known.ensures.same c.requires.seen)))
+    seen_kept w c.note_pinned.new.cell_pass c.note_pinned.new.known
+    (record { looks = ap (λ (x : CellView). x.looks) rest; charges = ap (λ (x : CellView). x.charges) rest })
+    (c.note_pinned.ensures.seen w (seen_kept mid w known c.in-Ok-pin_names.ensures.pinned.waited.keeps
+    (seen_kept v mid known (record { looks = missed.0.looks; charges = missed.0.charges }) (seen_same v c.args.known.now known c.pin_known.ensures.same c.requires.seen))))
 
 pub returns-clause-looks : goal.returns-clause-looks
 returns-clause-looks g c =
     let missed : SameButPins c.args.cell_pass.now c.pin_known.new.cell_pass × (c.pin_known.new.cell_pass.good ≡ []) = search rules in
-    c.in-Ok-pin_names.ensures.pinned.waited.keeps.looks ∙ missed.0.looks
+    ap (λ (x : CellView). x.looks) c.note_pinned.ensures.rest ∙ c.in-Ok-pin_names.ensures.pinned.waited.keeps.looks ∙ missed.0.looks
 
 pub returns-clause-values : goal.returns-clause-values
-returns-clause-values g c = λ i d f n a b e. absurd (some-ne-none n (sym (subst (λ (l : List ℕ). get_elem? l i ≡ some n) c.clear.ensures e)))
+returns-clause-values g c =
+    on_ok_weaker c.note_pinned.result (λ _ i d f n a b e. absurd (some-ne-none n (sym (subst (λ (l : List ℕ). get_elem? l i ≡ some n) c.clear.ensures e))))
+    c.note_pinned.ensures.same
+
+pub returns-in_default-names_of-clause-refused : goal.returns-in_default-names_of-clause-refused
+returns-in_default-names_of-clause-refused g c =
+    let v = c.args.cell_pass.now in
+    let mid = c.pin_known.new.cell_pass in
+    let t = knows c.args.claims.now in
+    let missed : SameButPins v mid × (mid.good ≡ []) = search rules in
+    let names = names_under c.args.request.now c.args.descriptors.now c.args.rules.now in
+    no_pins_after v mid mid missed.0 (bounds_of g.N.CellNaming.setup.cells c.args.self.now) names OutOfMemory t t (record {
+      waited = record { ticked = never_ticked mid; keeps = record { looks = refl; charges = refl } };
+      bare = missed.1;
+      knew = prefix_self t.known;
+      own = claimed_none (keys_at mid.moment names) mid.moment t t (prefix_self t.known) refl;
+      cause = tt;
+    })
 
 pub returns-in_default-names_of-clause-turns : goal.returns-in_default-names_of-clause-turns
 returns-in_default-names_of-clause-turns g c = λ knows same.
@@ -152,4 +228,5 @@ returns-clause-turns g c = λ knows same.
     let more = grew knows in
     let kept = c.pin_names.ensures.others in
     let e = ap length same in
+    let rest = ap (λ (x : CellView). length x.others) c.note_pinned.ensures.rest in
     absurd (omega arith)
