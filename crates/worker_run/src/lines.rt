@@ -12,7 +12,7 @@ use descriptor_tree::Config;
 use rate_limiter::{Limiter, Pass};
 use rate_types::{OutOfMemory, Request, Seconds};
 use reply_text::{Outcome, Statuses};
-use rls_core::{CheckFault, ReloadFault};
+use rls_core::{CheckFault, ReloadFault, Reply};
 use script_run::Line;
 use std::alloc::Global;
 use std::sync::{Arc, Wait};
@@ -24,15 +24,16 @@ fn check_line<N: CellNaming, R: Wait>(
     pass: &mut Pass<N>,
     request: &Request,
     start: Seconds,
+    reply: &mut Reply,
 ) -> Result<Outcome, OutOfMemory>
     requires pass { pass.old.limiter ≡ limiter.now.id }
     ensures pass { pass.new.limiter ≡ limiter.now.id }
     ensures step { IfOk result (λ o. LineStep (bounds_of N.setup.cells limiter.now) limiter.now start (check request.now) pass.old o
         pass.new) }
 {
-    match limiter.check(rt, alloc, pass, request, start) {
-        Ok(reply) => {
-            let answer = Statuses::of_reply(alloc, &reply)?;
+    match limiter.check_into(rt, alloc, pass, request, start, reply) {
+        Ok(()) => {
+            let answer = Statuses::of_reply(alloc, reply)?;
             Ok(Outcome::Checked(answer))
         }
         Err(
@@ -70,7 +71,7 @@ fn reload_line<N: CellNaming, R: Wait>(
     }
 }
 
-/// Runs one line: checks offer `start`, ticks their number.
+/// Runs one line: checks offer `start`, ticks their number. The reply of a check is written to `reply`.
 pub(crate) fn run_line<N: CellNaming, R: Wait>(
     rt: &R,
     alloc: Global,
@@ -78,6 +79,7 @@ pub(crate) fn run_line<N: CellNaming, R: Wait>(
     pass: &mut Pass<N>,
     line: &Line,
     start: Seconds,
+    reply: &mut Reply,
 ) -> Result<Outcome, OutOfMemory>
     requires pass { pass.old.limiter ≡ limiter.now.id }
     ensures pass { pass.new.limiter ≡ limiter.now.id }
@@ -85,7 +87,7 @@ pub(crate) fn run_line<N: CellNaming, R: Wait>(
         pass.new) }
 {
     match line {
-        Line::Check(request) => check_line(rt, alloc, limiter, pass, request, start),
+        Line::Check(request) => check_line(rt, alloc, limiter, pass, request, start, reply),
         Line::Reload(config) => {
             let config = config.clone()?;
             reload_line(rt, alloc, limiter, pass, config, start)

@@ -16,6 +16,7 @@ use line_numbers::{Drawer, LineNumbers};
 use rate_limiter::{Limiter, Pass};
 use rate_types::{OutOfMemory, Seconds};
 use reply_text::{Record, Records};
+use rls_core::Reply;
 use std::alloc::Global;
 use std::sync::Wait;
 
@@ -52,6 +53,7 @@ fn run_drawn<N: CellNaming, L: ScriptLines, G: Gate, R: Wait>(
     worker: u32,
     pass: &mut Pass<N>,
     scratch: &mut Scratch,
+    reply: &mut Reply,
     number: u64,
 ) -> Result<Record, OutOfMemory>
     requires pass { pass.old.limiter ≡ run.now.limiter.now.id }
@@ -66,7 +68,7 @@ fn run_drawn<N: CellNaming, L: ScriptLines, G: Gate, R: Wait>(
     let number = number as u32 + 1;
     run.gate.before(worker, number);
     let line = run.lines.read(alloc, scratch, index)?;
-    let outcome = run_line(rt, alloc, run.limiter, pass, &line, run.start)?;
+    let outcome = run_line(rt, alloc, run.limiter, pass, &line, run.start, reply)?;
     let record = Record {
         line: number,
         worker,
@@ -99,9 +101,19 @@ pub fn work<N: CellNaming, L: ScriptLines, G: Gate, R: Wait>(
         mut drawer,
     } = worker;
     let mut scratch = Scratch::new(alloc);
+    let mut reply = Reply::new();
     let mut journal = Records::new(alloc);
     'lines: while let Some(number) = run.numbers.draw(&mut drawer) {
-        let record = run_drawn(rt, alloc, run, worker, &mut pass, &mut scratch, number)?;
+        let record = run_drawn(
+            rt,
+            alloc,
+            run,
+            worker,
+            &mut pass,
+            &mut scratch,
+            &mut reply,
+            number,
+        )?;
         journal.push(record)?;
     }
     Ok(Worked {
