@@ -80,7 +80,7 @@ fn finish<K: Sink>(replay: &mut Replay, sink: &mut K) -> Result<(), ReplayFault>
 }
 
 /// Replays a stream from a source, and writes its output line by line. It holds one line at a time, and leaves the flush of the
-/// sink to its caller. A stream of more than 67,108,864 bytes or 1,048,576 lines stops it with TooLong. After a fault the first lines
+/// sink to its caller. The hashes of buckets' names go by `seed`. A stream of more than 67,108,864 bytes or 1,048,576 lines stops it with TooLong. After a fault the first lines
 /// of the output of what was read were written.
 pub fn replay<S: Source, K: Sink>(
     alloc: Global,

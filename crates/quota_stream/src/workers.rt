@@ -121,7 +121,7 @@ fn run_all<R: Threads + Sync>(
 
 /// Replays streams that are in memory, on at most so many workers: the text of each, in order, whatever the number of workers.
 /// Each worker has some of the streams, and replays 64 lines of one after 64 lines of the other. A text is the lines of its
-/// stream's output, each with one line feed, at its end. A stream of more than 67,108,864 bytes or 1,048,576 lines is refused
+/// stream's output, each with one line feed, at its end. The hashes of buckets' names go by `seed`. A stream of more than 67,108,864 bytes or 1,048,576 lines is refused
 /// with TooLong.
 pub fn replay_all<R: Threads + Sync>(
     rt: &R,

@@ -119,7 +119,7 @@ fn write_texts<K: Sink>(alloc: Global, texts: &Names, sink: &mut K) -> Result<()
 }
 
 /// Replays the streams of a job by its settings file, and writes the output of each in the order of the streams, line by
-/// line, each line by one call, and then flushes. All files are read first.
+/// line, each line by one call, and then flushes. All files are read first. The hashes of buckets' names go by `seed`.
 pub fn run_quota<R: Threads + Sync, F: Files, K: Sink>(
     rt: &R,
     alloc: Global,
