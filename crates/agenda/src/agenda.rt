@@ -1,12 +1,12 @@
 ghost use Rattle.std.specs.Prelude.{◌≡◌, ◌<◌, List, [], ℕ, length, slice_set, IfOk};
 ghost use Rattle.agenda.specs.Reached.{reached};
-ghost use Rattle.agenda.specs.Halves.{IsTower, IsTowerButOver};
+ghost use Rattle.agenda.specs.Halves.{IsTower};
 
-use crate::row::{Row, all_reached, least, next_row, reached_below};
+use crate::row::{Row, add_below, earlier_of_pair, next_row};
 use std::alloc::{AllocError, Global};
 use std::marker::Model;
 
-/// The next moment of each index.
+/// The next moment of each index that has one.
 #[derive(Drop)]
 pub struct Agenda {
     base: Row,
@@ -14,7 +14,10 @@ pub struct Agenda {
 }
 
 impl Model for Agenda {
-    ghost Value = { List ℕ };
+    ghost use Rattle.std.specs.Prelude.{ℕ, List, Option};
+    ghost use Rattle.agenda.specs.Halves.{IsTower};
+
+    ghost Value = { List (Option ℕ) };
 
     ghost view = { λ a. a.base };
 
@@ -33,7 +36,7 @@ impl Agenda {
     }
 
     /// An agenda of these moments.
-    pub fn of(alloc: Global, moments: Vec<u64>) -> Result<Agenda, AllocError>
+    pub fn of(alloc: Global, moments: Vec<Option<u64>>) -> Result<Agenda, AllocError>
         ensures { IfOk result (λ agenda. agenda ≡ moments.items) }
     {
         let base = Row::of(moments);
@@ -49,25 +52,26 @@ impl Agenda {
     }
 
     /// Sets the moment of an index.
-    #[tactic(auto, using(crate::proofs::Halving::tower_set))]
-    pub fn set(&mut self, index: usize, moment: u64)
+    pub fn set(&mut self, index: usize, moment: Option<u64>)
         requires { index < length self.old }
         ensures { self.new ≡ slice_set self.old index moment }
     {
-        self.base.set(index, moment);
-        raise(self.base.moments(), &mut self.above, index);
+        set_in(&mut self.base, &mut self.above, index, moment);
     }
 
     /// The indices whose moment isn't later than `at`, in rising order.
+    #[tactic(auto, using(crate::proofs::Reaching::tower_reached))]
     pub fn reached(&self, alloc: Global, at: u64) -> Result<Vec<usize>, AllocError>
         ensures { IfOk result (λ found. found.items ≡ reached at self.now) }
     {
-        reached_in(alloc, self.base.moments(), &self.above, at)
+        let mut found = Vec::new(alloc);
+        add_below(&mut found, self.base.moments(), &self.above, 0, at)?;
+        Ok(found)
     }
 }
 
 /// The rows over these moments.
-fn rows_over(alloc: Global, moments: &[u64]) -> Result<Vec<Row>, AllocError>
+fn rows_over(alloc: Global, moments: &[Option<u64>]) -> Result<Vec<Row>, AllocError>
     ensures { IfOk result (λ above. IsTower moments.now above.items) }
 {
     if moments.len() < 2 {
@@ -79,31 +83,19 @@ fn rows_over(alloc: Global, moments: &[u64]) -> Result<Vec<Row>, AllocError>
     Ok(above)
 }
 
-/// Brings the rows over moments of which one was just set up to date.
-fn raise(moments: &[u64], above: &mut [Row], index: usize)
-    requires within { index < length moments.now }
-    requires but_one { IsTowerButOver index moments.now above.old }
-    ensures { IsTower moments.now above.new }
+/// Sets the moment of an index of a row, and brings the rows above up to date as far as they change.
+fn set_in(row: &mut Row, above: &mut [Row], index: usize, moment: Option<u64>)
+    requires within { index < length row.old }
+    requires tower { IsTower row.old above.old }
+    ensures row { row.new ≡ slice_set row.old index moment }
+    ensures tower { IsTower row.new above.new }
 {
-    if let Some((row, rest)) = above.split_first_mut() {
-        row.set(index / 2, least(moments, index));
-        raise(row.moments(), rest, index / 2);
+    if row.moments()[index] == moment {
+        return;
     }
-}
-
-/// The indices that a moment reaches, by those of the next row.
-fn reached_in(
-    alloc: Global,
-    moments: &[u64],
-    above: &[Row],
-    at: u64,
-) -> Result<Vec<usize>, AllocError>
-    requires { IsTower moments.now above.now }
-    ensures { IfOk result (λ found. found.items ≡ reached at moments.now) }
-{
-    let Some((row, rest)) = above.split_first() else {
-        return all_reached(alloc, moments, at);
-    };
-    let pairs = reached_in(alloc, row.moments(), rest, at)?;
-    reached_below(alloc, moments, &pairs, at)
+    row.set(index, moment);
+    if let Some((next, rest)) = above.split_first_mut() {
+        let earlier = earlier_of_pair(row.moments(), index);
+        set_in(next, rest, index / 2, earlier);
+    }
 }

@@ -15,10 +15,10 @@ use Rattle.quota_bucket.specs.declared.timed_phase.TimedPhase.TheVariants.{Gone,
 use Rattle.quota_bucket.specs.Strategies.{Decision, allows, allowed_in, allowed_between, interval_at, fills_at, tokens_left, tokens_before, millis_of}
 use Rattle.quota_bucket.specs.History.{Event, Advance, Request, Assignment, Abandonment, phase_after, decided, is_gone, after, after_advance, after_timeout, ended}
 use Rattle.quota_bucket.specs.History.{at_expiry, has_fallback, after_request, after_assignment, renewed, begins, begins_by_expiry, begins_by_assignment, with_event}
-use Rattle.quota_bucket.specs.History.{strategy_in, effect_in}
+use Rattle.quota_bucket.specs.History.{in_force, allowed_in as is_allowed_in}
 use Rattle.quota_bucket.specs.Machine.{one_if}
 use Rattle.quota_bucket.specs.TimeOrder.{Falls, IsInOrder}
-use Rattle.quota_bucket.specs.Allowance.{IsWithin, KeepsAllowance}
+use Rattle.quota_bucket.specs.Allowance.{IsWithin, IsWithinForce, KeepsAllowance}
 use Rattle.quota_bucket.specs.MeterLaws.{div-le}
 use Rattle.quota_bucket.specs.StateLaws.{decided_falls, count_cons}
 
@@ -102,25 +102,25 @@ event_stays rules (Request at up) before ds = request_stays rules before at ds
 event_stays rules (Assignment at lifetime strategy) before ds = assignment_stays rules before at lifetime strategy ds
 event_stays rules (Abandonment at) before ds = λ _. tt
 
-request_decided : (rules : BucketRules) (at : ℕ) (phase : TimedPhase) (ds : List Decision) → IsDecidedIn rules phase ds
-    → IsDecidedIn rules phase (record { at = at; allowed = allows (strategy_in rules phase) (effect_in phase) at ds } ∷ ds)
-request_decided rules at Gone ds before = tt
-request_decided rules at (Unassigned effect) ds before = (refl, before)
-request_decided rules at (Live strategy effect expiry) ds before = (refl, before)
-request_decided rules at (Expired strategy effect since) ds before = (refl, before)
+request_decided : (rules : BucketRules) (at : ℕ) (before : TimedPhase) (ds : List Decision) → IsDecidedIn rules (after_request before at) ds
+    → IsDecidedIn rules (after_request before at) (record { at = at; allowed = is_allowed_in rules before at ds } ∷ ds)
+request_decided rules at Gone ds by = (refl, by)
+request_decided rules at (Unassigned effect) ds by = (refl, by)
+request_decided rules at (Live strategy effect expiry) ds by = (refl, by)
+request_decided rules at (Expired strategy effect since) ds by = (refl, by)
 
-with_decided : (rules : BucketRules) (event : Event) (phase : TimedPhase) (ds : List Decision) → IsDecidedIn rules phase ds
-    → IsDecidedIn rules phase (with_event rules event phase ds)
-with_decided rules (Advance at up) phase ds before = before
-with_decided rules (Request at up) phase ds before = request_decided rules at phase ds before
-with_decided rules (Assignment at lifetime strategy) phase ds before = before
-with_decided rules (Abandonment at) phase ds before = before
+with_decided : (rules : BucketRules) (event : Event) (before : TimedPhase) (ds : List Decision) → IsDecidedIn rules (after rules event before) ds
+    → IsDecidedIn rules (after rules event before) (with_event rules event before ds)
+with_decided rules (Advance at up) before ds by = by
+with_decided rules (Request at up) before ds by = request_decided rules at before ds by
+with_decided rules (Assignment at lifetime strategy) before ds by = by
+with_decided rules (Abandonment at) before ds by = by
 
 -- the requests since an effect began were decided by it
 decided_in : (rules : BucketRules) (history : List Event) → IsDecidedIn rules (phase_after rules history) (decided rules history)
 decided_in rules [] = tt
 decided_in rules (event ∷ history) =
-    with_decided rules event (phase_after rules (event ∷ history)) _
+    with_decided rules event (phase_after rules history) _
     (event_stays rules event (phase_after rules history) (decided rules history) (decided_in rules history))
 
 -- one more request in an interval, decided by a number
@@ -287,7 +287,7 @@ strategy_within (PerUnit count unit) effect moment ds falls by = λ interval. co
 strategy_within (TokenBucket max p interval) effect moment ds falls by = tokens_within max p interval effect ds moment falls by
 
 phase_within : (rules : BucketRules) (phase : TimedPhase) (moment : ℕ) (ds : List Decision) → Falls moment ds
-    → IsDecidedIn rules phase ds → IsWithin (strategy_in rules phase) (effect_in phase) ds
+    → IsDecidedIn rules phase ds → IsWithinForce (in_force rules phase) ds
 phase_within rules Gone moment ds falls by = tt
 phase_within rules (Unassigned effect) moment ds falls by = strategy_within rules.unassigned effect moment ds falls by
 phase_within rules (Live strategy effect expiry) moment ds falls by = strategy_within strategy effect moment ds falls by

@@ -1,12 +1,12 @@
 -- What happened to a bucket, the latest event first, and its phase and decisions after that.
 use Rattle.std.specs.Prelude.{ℕ, ◌+◌, ◌&&◌, Bool, true, false, not, List, [], ◌∷◌, nat_le, if◌then◌else◌, Some, None}
-use Rattle.std.specs.Prelude.{Option, option_map}
+use Rattle.std.specs.Prelude.{Option, option_map, unwrap_or}
 use Rattle.quota_bucket.specs.Strategies.{Decision, allows, same_strategy}
 use Rattle.quota_bucket.specs.declared.strategy.Strategy.{Strategy}
-use Rattle.quota_bucket.specs.declared.strategy.Strategy.TheVariants.{AllowAll}
 use Rattle.quota_bucket.specs.declared.rules.BucketRules.{BucketRules}
 use Rattle.quota_bucket.specs.declared.rules.AtExpiry.{AtExpiry}
 use Rattle.quota_bucket.specs.declared.rules.AtExpiry.TheVariants.{Abandon, Fallback, Reuse}
+use Rattle.quota_bucket.specs.declared.timed_phase.InForce.{InForce}
 use Rattle.quota_bucket.specs.declared.timed_phase.TimedPhase.{TimedPhase}
 use Rattle.quota_bucket.specs.declared.timed_phase.TimedPhase.TheVariants.{Gone, Unassigned, Live, Expired}
 
@@ -90,19 +90,17 @@ abbrev pub phase_after : BucketRules → List Event → TimedPhase
 phase_after rules [] = Gone
 phase_after rules (event ∷ history) = after rules event (phase_after rules history)
 
--- the strategy of a phase
-abbrev pub strategy_in : BucketRules → TimedPhase → Strategy
-strategy_in rules Gone = AllowAll
-strategy_in rules (Unassigned effect) = rules.unassigned
-strategy_in rules (Live strategy effect expiry) = strategy
-strategy_in rules (Expired strategy effect since) = strategy
+-- the strategy in force in a phase, with the moment from which it has effect; none where there is no bucket
+abbrev pub in_force : BucketRules → TimedPhase → Option InForce
+in_force rules Gone = None
+in_force rules (Unassigned effect) = Some (record { strategy = rules.unassigned; effect = effect })
+in_force rules (Live strategy effect expiry) = Some (record { strategy = strategy; effect = effect })
+in_force rules (Expired strategy effect since) = Some (record { strategy = strategy; effect = effect })
 
--- the moment from which the strategy of a phase has effect
-abbrev pub effect_in : TimedPhase → ℕ
-effect_in Gone = 0
-effect_in (Unassigned effect) = effect
-effect_in (Live strategy effect expiry) = effect
-effect_in (Expired strategy effect since) = effect
+-- what decides a request at a moment, by the phase before it: the strategy in force, and for the request that makes the bucket
+-- that of its settings, from this moment on
+abbrev pub force_for : BucketRules → TimedPhase → ℕ → InForce
+force_for rules before at = unwrap_or (in_force rules before) (record { strategy = rules.unassigned; effect = at })
 
 -- whether an expiry begins a new effect
 abbrev pub has_fallback : AtExpiry → Bool
@@ -121,24 +119,25 @@ begins rules (Request at up) before = is_gone before
 begins rules (Assignment at lifetime strategy) before = begins_by_assignment before strategy
 begins rules (Abandonment at) before = true
 
--- whether a request at a moment is allowed, by the phase that it leaves and the earlier requests of its effect
+-- whether a request at a moment is allowed, by the phase before it and the earlier requests of its effect
 abbrev pub allowed_in : BucketRules → TimedPhase → ℕ → List Decision → Bool
-allowed_in rules phase at earlier = allows (strategy_in rules phase) (effect_in phase) at earlier
+allowed_in rules before at earlier =
+    let force = force_for rules before at in allows force.strategy force.effect at earlier
 
--- the requests after an event, by the phase that it leaves
+-- the requests after an event, by the phase before it
 abbrev pub with_event : BucketRules → Event → TimedPhase → List Decision → List Decision
-with_event rules (Request at up) phase earlier = record { at = at; allowed = allowed_in rules phase at earlier } ∷ earlier
-with_event rules _ phase earlier = earlier
+with_event rules (Request at up) before earlier = record { at = at; allowed = allowed_in rules before at earlier } ∷ earlier
+with_event rules _ before earlier = earlier
 
 -- the requests since the event that began the effect in force, each with its answer, the latest first
 abbrev pub decided : BucketRules → List Event → List Decision
 decided rules [] = []
 decided rules (event ∷ history) =
-    with_event rules event (phase_after rules (event ∷ history))
+    with_event rules event (phase_after rules history)
     (if begins rules event (phase_after rules history) then [] else decided rules history)
 
 -- whether a request at a moment is allowed after a history
 abbrev pub is_allowed : BucketRules → List Event → ℕ → Bool
 is_allowed rules history at =
-    allowed_in rules (after_request (phase_after rules history) at) at
+    allowed_in rules (phase_after rules history) at
     (if is_gone (phase_after rules history) then [] else decided rules history)

@@ -2,7 +2,7 @@
 use Rattle.std.specs.Prelude.{ℕ, ◌+◌, ◌-◌, ◌||◌, Bool, not, nat_lt, if◌then◌else◌, Some}
 use Rattle.std.specs.Prelude.{None, Option, option_map}
 use Rattle.quota_bucket.specs.History.{after_advance, after_request, after_assignment, begins_by_expiry, begins_by_assignment}
-use Rattle.quota_bucket.specs.History.{strategy_in, effect_in, is_gone}
+use Rattle.quota_bucket.specs.History.{force_for, is_gone}
 use Rattle.quota_bucket.specs.Reports.{reported_by_advance, shown}
 use Rattle.quota_bucket.specs.Meters.{judged}
 use Rattle.quota_bucket.specs.declared.strategy.Strategy.{Strategy}
@@ -73,7 +73,8 @@ one_if b = if b then 1 else 0
 abbrev pub asked : BucketRules → ℕ → Bool → BucketState → Asked
 asked rules at up state =
     let phase = after_request state.phase at in
-    let verdict = judged (strategy_in rules phase) state.meter (at - effect_in phase) in
+    let force = force_for rules state.phase at in
+    let verdict = judged force.strategy state.meter (at - force.effect) in
     if is_gone state.phase then record {
       allowed = verdict.allowed;
       report = if up then Some (record {

@@ -1,11 +1,12 @@
 -- The state that is kept of a history.
-use Rattle.std.specs.Prelude.{◌≡◌, ℕ, Bool, not, List, ◌∷◌}
+use Rattle.std.specs.Prelude.{◌≡◌, ℕ, Bool, not, List, ◌∷◌, Option, Some, None}
 use Rattle.std.specs.Prelude.{count_by}
 use Rattle.quota_bucket.specs.Strategies.{Decision, allowed_in, interval_at, fills_at, tokens_left, tokens_before, millis_of}
-use Rattle.quota_bucket.specs.History.{Event, Request, is_allowed, phase_after, decided, strategy_in, effect_in}
+use Rattle.quota_bucket.specs.History.{Event, Request, is_allowed, phase_after, decided, in_force}
 use Rattle.quota_bucket.specs.TimeOrder.{IsInOrder}
 use Rattle.quota_bucket.specs.Reports.{report_of_request, unreported, first_at, last_report, shown}
 use Rattle.quota_bucket.specs.declared.rules.BucketRules.{BucketRules}
+use Rattle.quota_bucket.specs.declared.timed_phase.InForce.{InForce}
 use Rattle.quota_bucket.specs.declared.timed_phase.TimedPhase.{TimedPhase}
 use Rattle.quota_bucket.specs.declared.bucket_state.BucketState.{BucketState}
 use Rattle.quota_bucket.specs.declared.bucket_state.Asked.{Asked}
@@ -23,13 +24,18 @@ meter_of (TokenBucket max per_fill interval) effect (d ∷ ds) =
     Filled (fills_at interval effect d.at) (tokens_left (tokens_before max per_fill interval effect d.at ds) d.allowed)
 meter_of _ effect _ = Fresh
 
+-- the same by the strategy in force, where there is a bucket
+abbrev pub meter_in : Option InForce → List Decision → Meter
+meter_in None _ = Fresh
+meter_in (Some force) requests = meter_of force.strategy force.effect requests
+
 -- the state of a bucket, by its phase, the requests since its effect began and those since its last report
 abbrev pub state_from : BucketRules → TimedPhase → List Decision → List Decision → ℕ → ℕ → BucketState
 state_from rules phase requests waiting first reported = record {
   first = first;
   reported = reported;
   phase = phase;
-  meter = meter_of (strategy_in rules phase) (effect_in phase) requests;
+  meter = meter_in (in_force rules phase) requests;
   allowed = shown (count_by (λ d. d.allowed) waiting);
   denied = shown (count_by (λ d. not d.allowed) waiting);
 }

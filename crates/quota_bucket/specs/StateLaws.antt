@@ -8,6 +8,7 @@ use Rattle.quota_bucket.specs.declared.strategy.Strategy.TheVariants.{AllowAll, 
 use Rattle.quota_bucket.specs.declared.rules.BucketRules.{BucketRules}
 use Rattle.quota_bucket.specs.declared.rules.AtExpiry.{AtExpiry}
 use Rattle.quota_bucket.specs.declared.rules.AtExpiry.TheVariants.{Abandon, Fallback, Reuse}
+use Rattle.quota_bucket.specs.declared.timed_phase.InForce.{InForce}
 use Rattle.quota_bucket.specs.declared.timed_phase.TimedPhase.{TimedPhase}
 use Rattle.quota_bucket.specs.declared.timed_phase.TimedPhase.TheVariants.{Gone, Unassigned, Live, Expired}
 use Rattle.quota_bucket.specs.declared.meter.Meter.{Meter}
@@ -18,9 +19,9 @@ use Rattle.quota_bucket.specs.Strategies.{Decision, allows}
 use Rattle.quota_bucket.specs.History.{Event}
 use Rattle.quota_bucket.specs.History.{Advance, Request, Assignment, Abandonment}
 use Rattle.quota_bucket.specs.History.{moment_of, phase_after, decided, is_allowed, is_gone, after_advance, after_timeout, ended, at_expiry, has_fallback}
-use Rattle.quota_bucket.specs.History.{after_request, after_assignment, renewed, begins, begins_by_expiry, begins_by_assignment, with_event, strategy_in, effect_in}
+use Rattle.quota_bucket.specs.History.{after_request, after_assignment, renewed, begins, begins_by_expiry, begins_by_assignment, with_event, in_force, allowed_in}
 use Rattle.quota_bucket.specs.Reports.{unreported, first_at, last_report, shown, waits, present, report_of_advance, report_of_request}
-use Rattle.quota_bucket.specs.State.{meter_of, state_from, state_after}
+use Rattle.quota_bucket.specs.State.{meter_of, meter_in, state_from, state_after}
 use Rattle.quota_bucket.specs.Machine.{advanced, advance_report, after_report, asked, assigned, one_if}
 use Rattle.quota_bucket.specs.TimeOrder.{Falls, IsInOrder}
 use Rattle.quota_bucket.specs.MeterLaws.{judged-meter_of}
@@ -30,6 +31,10 @@ meter_of-none AllowAll effect = refl
 meter_of-none DenyAll effect = refl
 meter_of-none (PerUnit count unit) effect = refl
 meter_of-none (TokenBucket max per_fill length) effect = refl
+
+meter_in-none : (force : Option InForce) → meter_in force [] ≡ Fresh
+meter_in-none None = refl
+meter_in-none (Some force) = meter_of-none force.strategy force.effect
 
 pub Falls-later : (a b : ℕ) (ds : List Decision) → a ≤ b → Falls a ds → Falls b ds
 Falls-later a b [] le falls = falls
@@ -68,17 +73,17 @@ ended_cases (Some timeout) strategy effect since at = over (nat_le (since + time
 -- the meter where an advance may begin an effect or erase the bucket
 abbrev MeterKept : BucketRules → TimedPhase → TimedPhase → Bool → List Decision → Type 0
 MeterKept rules before later begin ds =
-    (if (begin || is_gone later) then Fresh else meter_of (strategy_in rules before) (effect_in before) ds)
-    ≡ meter_of (strategy_in rules later) (effect_in later) (if begin then [] else ds)
+    (if (begin || is_gone later) then Fresh else meter_in (in_force rules before) ds)
+    ≡ meter_in (in_force rules later) (if begin then [] else ds)
 
 ended_keeps : (rules : BucketRules) (before : TimedPhase) (strategy : Strategy) (effect since : ℕ) (ds : List Decision) (later : TimedPhase)
-    → strategy_in rules before ≡ strategy → effect_in before ≡ effect
+    → in_force rules before ≡ Some (record { strategy = strategy; effect = effect })
     → (later ≡ Gone) ⊎ (later ≡ Expired strategy effect since) → MeterKept rules before later false ds
-ended_keeps rules before strategy effect since ds later s e (inl gone) = rw gone refl
-ended_keeps rules before strategy effect since ds later s e (inr is) = rw (is, s, e) refl
+ended_keeps rules before strategy effect since ds later force (inl gone) = rw gone refl
+ended_keeps rules before strategy effect since ds later force (inr is) = rw (is, force) refl
 
 began_keeps : (rules : BucketRules) (before later : TimedPhase) (ds : List Decision) → MeterKept rules before later true ds
-began_keeps rules before later ds = sym (meter_of-none (strategy_in rules later) (effect_in later))
+began_keeps rules before later ds = sym (meter_in-none (in_force rules later))
 
 expiry_keeps : (rules : BucketRules) (expired : AtExpiry) (strategy : Strategy) (effect expiry at : ℕ) (ds : List Decision)
     → MeterKept rules (Live strategy effect (Some expiry)) (after_timeout rules (at_expiry expired strategy effect expiry) at)
@@ -87,7 +92,7 @@ expiry_keeps rules Abandon strategy effect expiry at ds = refl
 expiry_keeps rules (Fallback fallback) strategy effect expiry at ds =
     began_keeps rules (Live strategy effect (Some expiry)) (ended rules.timeout fallback expiry expiry at) ds
 expiry_keeps rules Reuse strategy effect expiry at ds =
-    ended_keeps rules (Live strategy effect (Some expiry)) strategy effect expiry ds _ refl refl
+    ended_keeps rules (Live strategy effect (Some expiry)) strategy effect expiry ds _ refl
     (ended_cases rules.timeout strategy effect expiry at)
 
 live_keeps : (rules : BucketRules) (strategy : Strategy) (effect expiry at : ℕ) (ds : List Decision) (reached : Bool)
@@ -104,14 +109,14 @@ advance_keeps rules (Unassigned effect) at ds = refl
 advance_keeps rules (Live strategy effect None) at ds = refl
 advance_keeps rules (Live strategy effect (Some expiry)) at ds = live_keeps rules strategy effect expiry at ds (nat_le expiry at)
 advance_keeps rules (Expired strategy effect since) at ds =
-    ended_keeps rules (Expired strategy effect since) strategy effect since ds _ refl refl
+    ended_keeps rules (Expired strategy effect since) strategy effect since ds _ refl
     (ended_cases rules.timeout strategy effect since at)
 
 pub count_cons : (p : Decision → Bool) (d : Decision) (ds : List Decision) → count_by p (d ∷ ds) ≡ (if p d then 1 else 0) + count_by p ds
 count_cons p d ds = sum_by-cons (λ x. if p x then 1 else 0) d ds
 
 -- a request waits exactly where one of the shown counts isn't 0
-shown_some : (n m : ℕ) → 0 < n + m → (nat_lt 0 (shown n) || nat_lt 0 (shown m)) ≡ true
+pub shown_some : (n m : ℕ) → 0 < n + m → (nat_lt 0 (shown n) || nat_lt 0 (shown m)) ≡ true
 shown_some n m some = grind (arith, nat_tests)
 
 one_of : (b : Bool) (m n : ℕ) → 0 < ((if b then 1 else 0) + m) + ((if (not b) then 1 else 0) + n)
@@ -127,7 +132,7 @@ waits-shown (d ∷ ds) =
     (one_of d.allowed (count_by (λ x. x.allowed) ds) (count_by (λ x. not x.allowed) ds)))
 
 reported_step : (rules : BucketRules) (sent : Option ℕ) (phase : TimedPhase) (meter : Meter) (state : BucketState) (ds waiting : List Decision)
-    → meter ≡ meter_of (strategy_in rules phase) (effect_in phase) ds
+    → meter ≡ meter_in (in_force rules phase) ds
     → state.allowed ≡ shown (count_by (λ d. d.allowed) waiting) → state.denied ≡ shown (count_by (λ d. not d.allowed) waiting)
     → after_report sent phase meter state
     ≡ state_from rules phase ds (if is_some sent then [] else waiting) state.first (unwrap_or sent state.reported)
@@ -161,7 +166,7 @@ abbrev AskedOf : BucketRules → ℕ → Bool → TimedPhase → List Decision �
 AskedOf rules at up before ds waiting first reported =
     let phase = after_request before at in
     let earlier : List Decision = if is_gone before then [] else ds in
-    let answer = allows (strategy_in rules phase) (effect_in phase) at earlier in
+    let answer = allowed_in rules before at earlier in
     let request : Decision = record { at = at; allowed = answer } in
     record {
       allowed = answer;
@@ -239,8 +244,7 @@ asked-state_after rules history at up falls =
 -- the meter where an assignment may begin an effect
 renewed_keeps : (rules : BucketRules) (before : TimedPhase) (strategy : Strategy) (expires : Option ℕ) (ds : List Decision)
     → begins_by_assignment before strategy ≡ false
-    → meter_of (strategy_in rules before) (effect_in before) ds
-    ≡ meter_of (strategy_in rules (renewed before expires)) (effect_in (renewed before expires)) ds
+    → meter_in (in_force rules before) ds ≡ meter_in (in_force rules (renewed before expires)) ds
 renewed_keeps rules Gone strategy expires ds is = refl
 renewed_keeps rules (Unassigned effect) strategy expires ds is = refl
 renewed_keeps rules (Live old effect expiry) strategy expires ds is = refl
@@ -249,15 +253,13 @@ renewed_keeps rules (Expired old effect since) strategy expires ds is = refl
 begun_keeps : (rules : BucketRules) (before : TimedPhase) (at : ℕ) (expires : Option ℕ) (strategy : Strategy) (ds : List Decision) (begin : Bool)
     → begins_by_assignment before strategy ≡ begin
     → (let later = if begin then Live strategy at expires else renewed before expires in
-    (if begin then Fresh else meter_of (strategy_in rules before) (effect_in before) ds)
-    ≡ meter_of (strategy_in rules later) (effect_in later) (if begin then [] else ds))
+    (if begin then Fresh else meter_in (in_force rules before) ds) ≡ meter_in (in_force rules later) (if begin then [] else ds))
 begun_keeps rules before at expires strategy ds true is = sym (meter_of-none strategy at)
 begun_keeps rules before at expires strategy ds false is = renewed_keeps rules before strategy expires ds is
 
 assign_keeps : (rules : BucketRules) (before : TimedPhase) (at : ℕ) (lifetime : Option ℕ) (strategy : Strategy) (ds : List Decision)
-    → (if (begins_by_assignment before strategy) then Fresh else meter_of (strategy_in rules before) (effect_in before) ds)
-    ≡ (let later = after_assignment before at lifetime strategy in
-    meter_of (strategy_in rules later) (effect_in later) (if (begins_by_assignment before strategy) then [] else ds))
+    → (if (begins_by_assignment before strategy) then Fresh else meter_in (in_force rules before) ds)
+    ≡ meter_in (in_force rules (after_assignment before at lifetime strategy)) (if (begins_by_assignment before strategy) then [] else ds)
 assign_keeps rules Gone at lifetime strategy ds = refl
 assign_keeps rules (Unassigned effect) at lifetime strategy ds = sym (meter_of-none strategy at)
 assign_keeps rules (Live old effect expiry) at lifetime strategy ds =

@@ -2,7 +2,7 @@ ghost use Rattle.std.specs.Prelude.{◌≡◌, ◌≤◌, ◌∷◌, List};
 ghost use Rattle.quota_bucket.specs.Reports.{outlives};
 
 use crate::meter::Meter;
-use crate::moments::{next_report, reached, span};
+use crate::moments::{reached_report, span};
 use crate::rules::BucketRules;
 use crate::strategy::Strategy;
 use crate::timed_phase::TimedPhase;
@@ -93,8 +93,10 @@ impl BucketState {
         ensures history { (history : List Event) → IsStateOf rules.now history self.now → present history ≡ advance.now.from
             → result ≡ report_of_advance rules.now history advance.now.to advance.now.up }
     {
-        let moment = reached(
-            next_report(self.first, rules.reporting.get(), advance.from),
+        let moment = reached_report(
+            self.first,
+            rules.reporting.get(),
+            advance.from,
             advance.to,
         )?;
         if advance.up && self.waits() && outlives(rules, &self.phase, moment) {
@@ -148,8 +150,9 @@ impl BucketState {
             → KeepsAllowance rules.now (Request at up ∷ history) }
     {
         let phase = self.phase.after_request(at);
-        let elapsed = at.get().saturating_sub(phase.effect());
-        let verdict = phase.strategy(rules).judge(self.meter, elapsed);
+        let force = self.phase.force_for(rules, at);
+        let elapsed = at.get().saturating_sub(force.effect.get());
+        let verdict = force.strategy.judge(self.meter, elapsed);
         let (one, other) = if verdict.allowed { (1, 0) } else { (0, 1) };
         if self.phase.is_gone() {
             let usage = Usage {

@@ -20,4 +20,4 @@ pub use bucket_state::{Advance, Asked, BucketState, Usage};
 pub use meter::{Meter, Verdict};
 pub use rules::{AtExpiry, BucketRules};
 pub use strategy::Strategy;
-pub use timed_phase::TimedPhase;
+pub use timed_phase::{InForce, TimedPhase};

@@ -1,5 +1,6 @@
-ghost use Rattle.std.specs.Prelude.{◌≡◌, ◌<◌, ◌≤◌, ◌-◌, ◌^◌, Some, None, min, nat_le, if◌then◌else◌};
+ghost use Rattle.std.specs.Prelude.{◌≡◌, ◌<◌, ◌≤◌, ◌-◌, Some, None, nat_le, if◌then◌else◌};
 ghost use Rattle.quota_bucket.specs.Reports.{next_report};
+ghost use Rattle.quota_bucket.specs.Due.{reachable};
 
 use rate_types::Millis;
 
@@ -22,11 +23,22 @@ pub fn span(from: Millis, to: Millis) -> Millis
     Millis::new(to.get().saturating_sub(from.get())).unwrap()
 }
 
-/// The least `first + k * interval`, k at least 1, that is after `time`, or the greatest u64.
-pub fn next_report(first: Millis, interval: u64, time: Millis) -> u64
+/// The least `first + k * interval`, k at least 1, that is after `time`; none where 64 bits don't hold it.
+pub fn next_report(first: Millis, interval: u64, time: Millis) -> Option<u64>
     requires { 0 < interval }
-    ensures { result ≡ min (next_report first interval time) (2 ^ 64 - 1) }
+    ensures { result ≡ reachable (next_report first interval time) }
 {
     let periods = span(first, time).get() / interval + 1;
-    first.get().saturating_add(periods.saturating_mul(interval))
+    let since_first = periods.checked_mul(interval)?;
+    first.get().checked_add(since_first)
+}
+
+/// The next report moment after `from`, where an advance up to `to` reaches it.
+#[tactic(auto, using(crate::specs::QuietLaws::past_report))]
+pub fn reached_report(first: Millis, interval: u64, from: Millis, to: Millis) -> Option<Millis>
+    requires { 0 < interval }
+    ensures { result ≡ (if (nat_le (next_report first interval from) to) then (Some (next_report first interval from)) else None) }
+{
+    let moment = next_report(first, interval, from)?;
+    reached(moment, to)
 }

@@ -28,8 +28,15 @@ pub enum TimedPhase {
     },
 }
 
+/// A strategy that is in force, and the moment from which it has effect.
+#[derive(Clone, Copy, Debug, PartialEq, Eq)]
+pub struct InForce {
+    pub strategy: Strategy,
+    pub effect: Millis,
+}
+
 impl TimedPhase {
-    ghost use Rattle.quota_bucket.specs.History.{is_gone, effect_in, strategy_in, after_expiry, after_timeout, after_advance};
+    ghost use Rattle.quota_bucket.specs.History.{is_gone, in_force, force_for, after_expiry, after_timeout, after_advance};
     ghost use Rattle.quota_bucket.specs.History.{after_request, after_assignment, begins_by_expiry, begins_by_assignment};
     ghost use Rattle.quota_bucket.specs.History.{renewed};
 
@@ -40,27 +47,38 @@ impl TimedPhase {
         matches!(self, TimedPhase::Gone)
     }
 
-    /// The moment from which its strategy has effect; 0 if there is none.
-    pub fn effect(&self) -> u64
-        ensures { result ≡ effect_in self.now }
+    /// The strategy in force; None where there is no bucket.
+    pub fn in_force(&self, rules: &BucketRules) -> Option<InForce>
+        ensures { result ≡ in_force rules.now self.now }
     {
-        match self {
-            TimedPhase::Gone => 0,
-            TimedPhase::Unassigned { effect } => effect.get(),
-            TimedPhase::Live { effect, .. } => effect.get(),
-            TimedPhase::Expired { effect, .. } => effect.get(),
-        }
+        let (strategy, effect) = match self {
+            TimedPhase::Gone => return None,
+            TimedPhase::Unassigned { effect } => (rules.unassigned, *effect),
+            TimedPhase::Live {
+                strategy,
+                effect,
+                ..
+            } => (*strategy, *effect),
+            TimedPhase::Expired {
+                strategy,
+                effect,
+                ..
+            } => (*strategy, *effect),
+        };
+        Some(InForce { strategy, effect })
     }
 
-    /// The strategy in effect.
-    pub fn strategy(&self, rules: &BucketRules) -> Strategy
-        ensures { result ≡ strategy_in rules.now self.now }
+    /// What decides a request at `at` in this phase: the strategy in force, and for the request that makes the bucket that of
+    /// its settings, from then on.
+    pub fn force_for(&self, rules: &BucketRules, at: Millis) -> InForce
+        ensures { result ≡ force_for rules.now self.now at }
     {
-        match self {
-            TimedPhase::Gone => Strategy::AllowAll,
-            TimedPhase::Unassigned { .. } => rules.unassigned,
-            TimedPhase::Live { strategy, .. } => *strategy,
-            TimedPhase::Expired { strategy, .. } => *strategy,
+        match self.in_force(rules) {
+            Some(force) => force,
+            None => InForce {
+                strategy: rules.unassigned,
+                effect: at,
+            },
         }
     }
 

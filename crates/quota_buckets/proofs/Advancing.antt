@@ -1,17 +1,16 @@
 -- An advance, which changes only the slots that an agenda has as due.
-use Rattle.std.proofs.Common.{◌≡◌, ℕ, ◌+◌, ◌<◌, ◌≤◌, ◌⊎◌, inl, inr, Bool, true, false, List, [], ◌∷◌, ◌++◌, refl, ap, sym, ◌∙◌, arith, Option, Some, None, length, map}
+use Rattle.std.proofs.Common.{◌≡◌, ℕ, ◌+◌, ◌^◌, ◌<◌, ◌≤◌, ◌⊎◌, inl, inr, Bool, true, false, List, [], ◌∷◌, ◌++◌, refl, ap, sym, ◌∙◌, arith, Option, Some, None, length, map}
 use Rattle.std.proofs.Common.{filter, get_or, take, drop, suc, zero, cond, if◌then◌else◌, replicate, nat_le, add-zero, append_assoc, append-nil, zero-add}
 use Rattle.std.proofs.Math.ListN.{set, length-set}
 use Rattle.std.specs.List.{flat_map}
 use Rattle.std.proofs.lemmas.Bool.{cases_eq, leb-true, leb-false}
-use Rattle.std.proofs.lemmas.Bool.Decides.{nat_tests}
 use Rattle.std.proofs.lemmas.Grind.{flat_map-append}
-use Rattle.std.proofs.lemmas.List.{take-append-le, take_all, get_or-set_same, get_or-set_other, take_more, length-map, get_or_default, replicate-append-replicate}
-use Rattle.std.proofs.Math.ListN.{get_or-map, length-replicate}
+use Rattle.std.proofs.lemmas.List.{take-append-le, take_all, get_or-set_same, get_or-set_other, take_more, length-map, replicate-append-replicate}
+use Rattle.std.proofs.Math.ListN.{get_or-map}
 use Rattle.std.proofs.Common.{length-append}
 use Rattle.quota_buckets.proofs.Indexing.{push_other, push_last}
-use Rattle.agenda.specs.Reached.{reached_from, reached}
-use Rattle.quota_bucket.specs.Due.{never, due}
+use Rattle.agenda.specs.Reached.{is_reached, reached_from, reached}
+use Rattle.quota_bucket.specs.Due.{due}
 use Rattle.quota_bucket.specs.History.{is_gone}
 use Rattle.quota_bucket.specs.declared.bucket_state.Advance.{Advance}
 use Rattle.quota_bucket.specs.QuietLaws.{quiet, due_stays}
@@ -46,13 +45,10 @@ by_place change place [] = []
 by_place change place (x ∷ xs) = change place x ∷ by_place change (place + 1) xs
 
 -- where nothing is reached there is no place
-none_reached : (at place : ℕ) (ms : List ℕ) → at < never → ((k : ℕ) → at < get_or ms k never) → reached_from at place ms ≡ []
-none_reached at place [] bound late = refl
-none_reached at place (m ∷ ms) bound late =
-    let not_now : nat_le m at ≡ false = later m (late 0) in rw not_now (none_reached at (place + 1) ms bound (λ k. late (suc k)))
-  where
-    later : (n : ℕ) → at < n → nat_le n at ≡ false
-    later n lt = grind (arith, nat_tests)
+none_reached : (at place : ℕ) (ms : List (Option ℕ)) → ((k : ℕ) → is_reached at (get_or ms k None) ≡ false) → reached_from at place ms ≡ []
+none_reached at place [] late = refl
+none_reached at place (m ∷ ms) late =
+    let not_now : is_reached at m ≡ false = late 0 in rw not_now (none_reached at (place + 1) ms (λ k. late (suc k)))
 
 set_middle : {X : Type 0} (before : List X) (x y : X) (after : List X) → set (before ++ x ∷ after) (length before) y ≡ before ++ y ∷ after
 set_middle [] x y after = refl
@@ -67,15 +63,14 @@ length_last [] x = refl
 length_last (b ∷ before) x = let rest = length_last before x in omega arith
 
 -- setting the places that are reached is changing each element by its place, where the others stay
-each_reached : {X : Type 0} (change : ℕ → X → X) (default : X) (at : ℕ) (before xs : List X) (ms : List ℕ) → at < never
-    → length xs ≤ length ms
-    → ((k : ℕ) → k < length xs → at < get_or ms k never → change (length before + k) (get_or xs k default) ≡ get_or xs k default)
-    → ((k : ℕ) → length xs ≤ k → at < get_or ms k never)
+each_reached : {X : Type 0} (change : ℕ → X → X) (default : X) (at : ℕ) (before xs : List X) (ms : List (Option ℕ)) → length xs ≤ length ms
+    → ((k : ℕ) → k < length xs → is_reached at (get_or ms k None) ≡ false → change (length before + k) (get_or xs k default) ≡ get_or xs k default)
+    → ((k : ℕ) → length xs ≤ k → is_reached at (get_or ms k None) ≡ false)
     → each_set change default (before ++ xs) (reached_from at (length before) ms) ≡ before ++ by_place change (length before) xs
-each_reached change default at before [] ms bound room stays late = rw (none_reached at (length before) ms bound (λ k. late k (omega arith))) refl
-each_reached change default at before (x ∷ xs) [] bound room stays late = absurd (omega arith)
-each_reached change default at before (x ∷ xs) (m ∷ ms) bound room stays late =
-    over (nat_le m at) refl (each_reached change default at (before ++ change (length before) x ∷ []) xs ms bound (omega arith) stays_on (λ k le. late (suc k) (omega arith)))
+each_reached change default at before [] ms room stays late = rw (none_reached at (length before) ms (λ k. late k (omega arith))) refl
+each_reached change default at before (x ∷ xs) [] room stays late = absurd (omega arith)
+each_reached change default at before (x ∷ xs) (m ∷ ms) room stays late =
+    over (is_reached at m) refl (each_reached change default at (before ++ change (length before) x ∷ []) xs ms (omega arith) stays_on (λ k le. late (suc k) (omega arith)))
   where
     here : ℕ
     here = length before
@@ -83,13 +78,13 @@ each_reached change default at before (x ∷ xs) (m ∷ ms) bound room stays lat
     next : length (before ++ change (length before) x ∷ []) ≡ length before + 1
     next = length_last before (change (length before) x)
 
-    stays_on : (k : ℕ) → k < length xs → at < get_or ms k never
+    stays_on : (k : ℕ) → k < length xs → is_reached at (get_or ms k None) ≡ false
         → change (length (before ++ change (length before) x ∷ []) + k) (get_or xs k default) ≡ get_or xs k default
     stays_on k lt after =
         let same : length (before ++ change (length before) x ∷ []) + k ≡ length before + suc k = omega (arith, next) in
         rw same (stays (suc k) (omega arith) after)
 
-    over : (b : Bool) → nat_le m at ≡ b
+    over : (b : Bool) → is_reached at m ≡ b
         → each_set change default ((before ++ change (length before) x ∷ []) ++ xs) (reached_from at (length (before ++ change (length before) x ∷ [])) ms)
         ≡ (before ++ change (length before) x ∷ []) ++ by_place change (length (before ++ change (length before) x ∷ [])) xs
         → each_set change default (before ++ x ∷ xs) (if b then (length before ∷ reached_from at (length before + 1) ms) else reached_from at (length before + 1) ms)
@@ -103,7 +98,7 @@ each_reached change default at before (x ∷ xs) (m ∷ ms) bound room stays lat
         ∙ rw (next, append_assoc before (change (length before) x ∷ []) xs, append_assoc before (change (length before) x ∷ []) (by_place change (length before + 1) xs)) at rest
     over false is rest =
         let same : change (length before) x ≡ x =
-        (let h = stays 0 (omega arith) (leb-false m at is) in rw add-zero at h) in
+        (let h = stays 0 (omega arith) is in rw add-zero at h) in
         ap (λ y. each_set change default (before ++ y ∷ xs) (reached_from at (length before + 1) ms)) (sym same)
         ∙ rw (next, append_assoc before (change (length before) x ∷ []) xs, append_assoc before (change (length before) x ∷ []) (by_place change (length before + 1) xs)) at rest
 
@@ -135,44 +130,45 @@ record SlotStays (advance : Advance) (slot : Option Stored) : Type 0 where
   pub silent : slot_reports advance slot ≡ []
   pub due : slot_due advance.to slot ≡ slot_due advance.from slot
 
-slot_stays : (advance : Advance) (slot : Option Stored) → advance.from ≤ advance.to → ((stored : Stored) → slot ≡ Some stored → is_gone stored.state.phase ≡ false)
-    → advance.to < slot_due advance.from slot → SlotStays advance slot
-slot_stays advance None le there lt = record { same = refl; silent = refl; due = refl }
-slot_stays advance (Some stored) le there lt =
+slot_stays : (advance : Advance) (slot : Option Stored) → advance.from ≤ advance.to → advance.to < 2 ^ 64
+    → ((stored : Stored) → slot ≡ Some stored → is_gone stored.state.phase ≡ false)
+    → is_reached advance.to (slot_due advance.from slot) ≡ false → SlotStays advance slot
+slot_stays advance None le bound there later = record { same = refl; silent = refl; due = refl }
+slot_stays advance (Some stored) le bound there later =
     let here = there stored refl in
-    let still = quiet stored.rules stored.state advance here lt in
+    let still = quiet stored.rules stored.state advance here bound later in
     record {
       same = rw (still.same, here) refl;
       silent = rw still.silent refl;
-      due = due_stays stored.rules stored.state advance.from advance.to le lt;
+      due = due_stays stored.rules stored.state advance.from advance.to le bound later;
     }
 
 constant_places : {X : Type 0} (f : X → X) (place : ℕ) (xs : List X) → by_place (λ _. f) place xs ≡ map f xs
 constant_places f place [] = refl
 constant_places f place (x ∷ xs) = ap (λ ys. f x ∷ ys) (constant_places f (place + 1) xs)
 
-stays_at : (advance : Advance) (moments : List ℕ) (slots : List (Option Stored)) (k : ℕ) → advance.from ≤ advance.to → AllThere slots
-    → IsAgenda advance.from moments slots → advance.to < get_or moments k never → SlotStays advance (slot_at slots k)
-stays_at advance moments slots k le there agenda lt =
-    slot_stays advance (slot_at slots k) le (λ stored is. there k stored is) (rw (← agenda.each k) lt)
+stays_at : (advance : Advance) (moments : List (Option ℕ)) (slots : List (Option Stored)) (k : ℕ) → advance.from ≤ advance.to → advance.to < 2 ^ 64
+    → AllThere slots → IsAgenda advance.from moments slots → is_reached advance.to (get_or moments k None) ≡ false → SlotStays advance (slot_at slots k)
+stays_at advance moments slots k le bound there agenda later =
+    slot_stays advance (slot_at slots k) le bound (λ stored is. there k stored is) (rw (← agenda.each k) later)
 
 beyond : (slots : List (Option Stored)) (k : ℕ) → length slots ≤ k → slot_at slots k ≡ None
 beyond [] k le = refl
 beyond (s ∷ slots) zero le = absurd (omega arith)
 beyond (s ∷ slots) (suc k) le = beyond slots k (omega arith)
 
-late_beyond : (advance : Advance) (moments : List ℕ) (slots : List (Option Stored)) (k : ℕ) → advance.to < never → IsAgenda advance.from moments slots
-    → length slots ≤ k → advance.to < get_or moments k never
-late_beyond advance moments slots k bound agenda le = rw (agenda.each k, beyond slots k le) bound
+late_beyond : (advance : Advance) (moments : List (Option ℕ)) (slots : List (Option Stored)) (k : ℕ) → IsAgenda advance.from moments slots
+    → length slots ≤ k → is_reached advance.to (get_or moments k None) ≡ false
+late_beyond advance moments slots k agenda le = rw (agenda.each k, beyond slots k le) refl
 
 -- turning the slots that are due is turning all
-advanced_all : (advance : Advance) (moments : List ℕ) (slots : List (Option Stored)) → advance.from ≤ advance.to → advance.to < never → AllThere slots
+advanced_all : (advance : Advance) (moments : List (Option ℕ)) (slots : List (Option Stored)) → advance.from ≤ advance.to → advance.to < 2 ^ 64 → AllThere slots
     → IsAgenda advance.from moments slots
     → each_set (λ place. slot_advanced advance) None slots (reached advance.to moments) ≡ map (slot_advanced advance) slots
 advanced_all advance moments slots le bound there agenda =
-    each_reached (λ place. slot_advanced advance) None advance.to [] slots moments bound agenda.room
-    (λ k within lt. (stays_at advance moments slots k le there agenda lt).same)
-    (λ k past. late_beyond advance moments slots k bound agenda past)
+    each_reached (λ place. slot_advanced advance) None advance.to [] slots moments agenda.room
+    (λ k within later. (stays_at advance moments slots k le bound there agenda later).same)
+    (λ k past. late_beyond advance moments slots k agenda past)
     ∙ constant_places (slot_advanced advance) 0 slots
 
 held_advanced : (advance : Advance) (slots : List (Option Stored)) → held (map (slot_advanced advance) slots) ≡ filter stored_there (map (stored_advanced advance) (held slots))
@@ -187,7 +183,7 @@ held_advanced advance (Some stored ∷ slots) = over (stored_there (stored_advan
     over true rest = ap (λ ks. stored_advanced advance stored ∷ ks) rest
     over false rest = rest
 
-pub table_after : (advance : Advance) (moments : List ℕ) (slots later : List (Option Stored)) → advance.from ≤ advance.to → advance.to < never → AllThere slots
+pub table_after : (advance : Advance) (moments : List (Option ℕ)) (slots later : List (Option Stored)) → advance.from ≤ advance.to → advance.to < 2 ^ 64 → AllThere slots
     → IsAgenda advance.from moments slots → later ≡ each_set (λ place. slot_advanced advance) None slots (reached advance.to moments)
     → held later ≡ filter stored_there (map (stored_advanced advance) (held slots))
 table_after advance moments slots later le bound there agenda is =
@@ -214,27 +210,27 @@ map_at advance [] k = refl
 map_at advance (s ∷ slots) zero = refl
 map_at advance (s ∷ slots) (suc k) = map_at advance slots k
 
-planned_all : (advance : Advance) (moments : List ℕ) (slots : List (Option Stored)) → advance.from ≤ advance.to → advance.to < never → AllThere slots
+planned_all : (advance : Advance) (moments : List (Option ℕ)) (slots : List (Option Stored)) → advance.from ≤ advance.to → advance.to < 2 ^ 64 → AllThere slots
     → IsAgenda advance.from moments slots
-    → each_set (λ place _. slot_due advance.to (slot_at (map (slot_advanced advance) slots) place)) 0 moments (reached advance.to moments)
+    → each_set (λ place _. slot_due advance.to (slot_at (map (slot_advanced advance) slots) place)) None moments (reached advance.to moments)
     ≡ by_place (λ place _. slot_due advance.to (slot_at (map (slot_advanced advance) slots) place)) 0 moments
 planned_all advance moments slots le bound there agenda =
-    each_reached (λ place _. slot_due advance.to (slot_at (map (slot_advanced advance) slots) place)) 0 advance.to [] moments moments bound (omega arith)
-    (λ k within lt.
-    let still = stays_at advance moments slots k le there agenda lt in
+    each_reached (λ place _. slot_due advance.to (slot_at (map (slot_advanced advance) slots) place)) None advance.to [] moments moments (omega arith)
+    (λ k within later.
+    let still = stays_at advance moments slots k le bound there agenda later in
     let same : slot_at (map (slot_advanced advance) slots) (0 + k) ≡ slot_at slots k =
     rw zero-add (map_at advance slots k ∙ still.same) in
-    rw same (still.due ∙ sym (agenda.each k) ∙ get_or_default moments k never 0 within))
-    (λ k past. rw (get_past moments k past) bound)
+    rw same (still.due ∙ sym (agenda.each k)))
+    (λ k past. rw (get_past moments k past) refl)
   where
-    get_past : (ms : List ℕ) (k : ℕ) → length ms ≤ k → get_or ms k never ≡ never
+    get_past : (ms : List (Option ℕ)) (k : ℕ) → length ms ≤ k → get_or ms k None ≡ None
     get_past [] k past = refl
     get_past (m ∷ ms) zero past = absurd (omega arith)
     get_past (m ∷ ms) (suc k) past = get_past ms k (omega arith)
 
-pub agenda_after : (advance : Advance) (moments planned : List ℕ) (slots later : List (Option Stored)) → advance.from ≤ advance.to → advance.to < never → AllThere slots
+pub agenda_after : (advance : Advance) (moments planned : List (Option ℕ)) (slots later : List (Option Stored)) → advance.from ≤ advance.to → advance.to < 2 ^ 64 → AllThere slots
     → IsAgenda advance.from moments slots → later ≡ each_set (λ place. slot_advanced advance) None slots (reached advance.to moments)
-    → planned ≡ each_set (λ place _. slot_due advance.to (slot_at later place)) 0 moments (reached advance.to moments)
+    → planned ≡ each_set (λ place _. slot_due advance.to (slot_at later place)) None moments (reached advance.to moments)
     → IsAgenda advance.to planned later
 agenda_after advance moments planned slots later le bound there agenda is plan =
     let now : later ≡ map (slot_advanced advance) slots = is ∙ advanced_all advance moments slots le bound there agenda in
@@ -247,104 +243,111 @@ agenda_after advance moments planned slots later le bound there agenda is plan =
     })
   where
     over : (k : ℕ) → (length moments ≤ k) ⊎ (k < length moments)
-        → get_or (by_place (λ place _. slot_due advance.to (slot_at (map (slot_advanced advance) slots) place)) 0 moments) k never
+        → get_or (by_place (λ place _. slot_due advance.to (slot_at (map (slot_advanced advance) slots) place)) 0 moments) k None
         ≡ slot_due advance.to (slot_at (map (slot_advanced advance) slots) k)
     over k (inl past) =
         rw (
-          get_by_place_past (λ place _. slot_due advance.to (slot_at (map (slot_advanced advance) slots) place)) 0 moments k never past,
+          get_by_place_past (λ place _. slot_due advance.to (slot_at (map (slot_advanced advance) slots) place)) 0 moments k None past,
           map_at advance slots k,
           beyond slots k (omega (arith, agenda.room)),
         ) refl
     over k (inr within) =
-        rw (get_by_place (λ place _. slot_due advance.to (slot_at (map (slot_advanced advance) slots) place)) 0 moments k never within, zero-add) refl
+        rw (get_by_place (λ place _. slot_due advance.to (slot_at (map (slot_advanced advance) slots) place)) 0 moments k None within, zero-add) refl
 
 -- the reports of the slots that are due are those of all
-reports_reached : (advance : Advance) (g : ℕ → List Report) (from : ℕ) (xs : List (Option Stored)) (ms : List ℕ) → advance.to < never → length xs ≤ length ms
+reports_reached : (advance : Advance) (g : ℕ → List Report) (from : ℕ) (xs : List (Option Stored)) (ms : List (Option ℕ)) → length xs ≤ length ms
     → ((k : ℕ) → k < length xs → g (from + k) ≡ slot_reports advance (slot_at xs k))
-    → ((k : ℕ) → k < length xs → advance.to < get_or ms k never → slot_reports advance (slot_at xs k) ≡ [])
-    → ((k : ℕ) → length xs ≤ k → advance.to < get_or ms k never)
+    → ((k : ℕ) → k < length xs → is_reached advance.to (get_or ms k None) ≡ false → slot_reports advance (slot_at xs k) ≡ [])
+    → ((k : ℕ) → length xs ≤ k → is_reached advance.to (get_or ms k None) ≡ false)
     → flat_map g (reached_from advance.to from ms) ≡ flat_map (slot_reports advance) xs
-reports_reached advance g from [] ms bound room each silent late = rw (none_reached advance.to from ms bound (λ k. late k (omega arith))) refl
-reports_reached advance g from (x ∷ xs) [] bound room each silent late = absurd (omega arith)
-reports_reached advance g from (x ∷ xs) (m ∷ ms) bound room each silent late =
-    over (nat_le m advance.to) refl (reports_reached advance g (from + 1) xs ms bound (omega arith)
+reports_reached advance g from [] ms room each silent late = rw (none_reached advance.to from ms (λ k. late k (omega arith))) refl
+reports_reached advance g from (x ∷ xs) [] room each silent late = absurd (omega arith)
+reports_reached advance g from (x ∷ xs) (m ∷ ms) room each silent late =
+    over (is_reached advance.to m) refl (reports_reached advance g (from + 1) xs ms (omega arith)
     (λ k lt. let same : from + 1 + k ≡ from + suc k = omega arith in rw same (each (suc k) (omega arith)))
     (λ k lt after. silent (suc k) (omega arith) after) (λ k past. late (suc k) (omega arith)))
   where
-    over : (b : Bool) → nat_le m advance.to ≡ b → flat_map g (reached_from advance.to (from + 1) ms) ≡ flat_map (slot_reports advance) xs
+    over : (b : Bool) → is_reached advance.to m ≡ b → flat_map g (reached_from advance.to (from + 1) ms) ≡ flat_map (slot_reports advance) xs
         → flat_map g (if b then (from ∷ reached_from advance.to (from + 1) ms) else reached_from advance.to (from + 1) ms)
         ≡ slot_reports advance x ++ flat_map (slot_reports advance) xs
     over true is rest = rw (rest, ← (let h = each 0 (omega arith) in rw add-zero at h)) refl
-    over false is rest = rw (rest, silent 0 (omega arith) (leb-false m advance.to is)) refl
+    over false is rest = rw (rest, silent 0 (omega arith) is) refl
 
 held_reports : (advance : Advance) (slots : List (Option Stored)) → flat_map (slot_reports advance) slots ≡ flat_map (stored_reports advance) (held slots)
 held_reports advance [] = refl
 held_reports advance (None ∷ slots) = held_reports advance slots
 held_reports advance (Some stored ∷ slots) = ap (λ rs. stored_reports advance stored ++ rs) (held_reports advance slots)
 
-pub reports_after : (advance : Advance) (moments found : List ℕ) (slots : List (Option Stored)) → advance.from ≤ advance.to → advance.to < never → AllThere slots
+pub reports_after : (advance : Advance) (moments : List (Option ℕ)) (found : List ℕ) (slots : List (Option Stored)) → advance.from ≤ advance.to → advance.to < 2 ^ 64 → AllThere slots
     → IsAgenda advance.from moments slots → found ≡ reached advance.to moments
     → reports_at advance slots found ≡ flat_map (stored_reports advance) (held slots)
 reports_after advance moments found slots le bound there agenda is =
-    rw is (reports_reached advance (λ place. slot_reports advance (slot_at slots place)) 0 slots moments bound agenda.room
-    (λ k lt. rw zero-add refl) (λ k within lt. (stays_at advance moments slots k le there agenda lt).silent)
-    (λ k past. late_beyond advance moments slots k bound agenda past)
+    rw is (reports_reached advance (λ place. slot_reports advance (slot_at slots place)) 0 slots moments agenda.room
+    (λ k lt. rw zero-add refl) (λ k within later. (stays_at advance moments slots k le bound there agenda later).silent)
+    (λ k past. late_beyond advance moments slots k agenda past)
     ∙ held_reports advance slots)
 
 -- a place that is reached has a slot
-from_at : (at from : ℕ) (ms : List ℕ) (count : ℕ) → ((k : ℕ) → k < length ms → count ≤ from + k → at < get_or ms k never)
+from_at : (at from : ℕ) (ms : List (Option ℕ)) (count : ℕ) → ((k : ℕ) → k < length ms → count ≤ from + k → is_reached at (get_or ms k None) ≡ false)
     → (i d : ℕ) → i < length (reached_from at from ms) → get_or (reached_from at from ms) i d < count
 from_at at from [] count late i d lt = absurd (omega arith)
 from_at at from (m ∷ ms) count late i d lt =
-    over (nat_le m at) refl i lt (λ j h. from_at at (from + 1) ms count
+    over (is_reached at m) refl i lt (λ j h. from_at at (from + 1) ms count
     (λ k within past. late (suc k) (omega arith) (omega arith)) j d h)
   where
-    over : (b : Bool) → nat_le m at ≡ b → (i : ℕ) → i < length (if b then (from ∷ reached_from at (from + 1) ms) else reached_from at (from + 1) ms)
+    over : (b : Bool) → is_reached at m ≡ b → (i : ℕ) → i < length (if b then (from ∷ reached_from at (from + 1) ms) else reached_from at (from + 1) ms)
         → ((j : ℕ) → j < length (reached_from at (from + 1) ms) → get_or (reached_from at (from + 1) ms) j d < count)
         → get_or (if b then (from ∷ reached_from at (from + 1) ms) else reached_from at (from + 1) ms) i d < count
     over true is zero lt rest = ended (cases_le count from)
       where
         ended : (count ≤ from) ⊎ (from < count) → from < count
-        ended (inl past) = absurd (let h = late 0 (omega arith) (omega arith) in let g = leb-true m at is in omega arith)
+        ended (inl past) = absurd (let h : is_reached at m ≡ false = late 0 (omega arith) (omega arith) in cc)
         ended (inr within) = within
     over true is (suc j) lt rest = rest j (omega arith)
     over false is i lt rest = rest i lt
 
-pub places_within : (advance : Advance) (moments found : List ℕ) (slots : List (Option Stored)) → advance.to < never → IsAgenda advance.from moments slots
+pub places_within : (advance : Advance) (moments : List (Option ℕ)) (found : List ℕ) (slots : List (Option Stored)) → IsAgenda advance.from moments slots
     → found ≡ reached advance.to moments → AllWithin (length slots) found
-places_within advance moments found slots bound agenda is =
-    rw is (λ i d lt. from_at advance.to 0 moments (length slots) (λ k within past. late_beyond advance moments slots k bound agenda (omega arith)) i d lt)
+places_within advance moments found slots agenda is =
+    rw is (λ i d lt. from_at advance.to 0 moments (length slots) (λ k within past. late_beyond advance moments slots k agenda (omega arith)) i d lt)
+
+-- so many places that want no work
+abbrev free : ℕ → List (Option ℕ)
+free n = replicate n None
+
+length-free : (n : ℕ) → length (free n) ≡ n
+length-free zero = refl
+length-free (suc n) = ap suc (length-free n)
 
 -- places that want no work, behind others
-free_at : (xs : List ℕ) (n k : ℕ) → get_or (xs ++ replicate n never) k never ≡ get_or xs k never
+free_at : (xs : List (Option ℕ)) (n k : ℕ) → get_or (xs ++ replicate n None) k None ≡ get_or xs k None
 free_at (x ∷ xs) n zero = refl
 free_at (x ∷ xs) n (suc k) = free_at xs n k
 free_at [] zero k = refl
 free_at [] (suc n) zero = refl
 free_at [] (suc n) (suc k) = free_at [] n k ∙ refl
 
-pub longer_agenda : (time n m : ℕ) (slots : List (Option Stored)) (agenda : List ℕ)
-    → agenda ≡ (map (slot_due time) slots ++ replicate n never) ++ replicate m never → IsAgenda time agenda slots
+pub longer_agenda : (time n m : ℕ) (slots : List (Option Stored)) (agenda : List (Option ℕ))
+    → agenda ≡ (map (slot_due time) slots ++ replicate n None) ++ replicate m None → IsAgenda time agenda slots
 longer_agenda time n m slots agenda is = rw is (record {
   room = (let a : length (map (slot_due time) slots) ≡ length slots = length-map _ _ in
       simp (length-append) (omega arith));
-  each = λ k. free_at (map (slot_due time) slots ++ replicate n never) m k ∙ free_at (map (slot_due time) slots) n k
+  each = λ k. free_at (map (slot_due time) slots ++ replicate n None) m k ∙ free_at (map (slot_due time) slots) n k
       ∙ get_or-map (slot_due time) slots k None;
 })
 
-pub longer_room : (time n m : ℕ) (slots : List (Option Stored)) (agenda : List ℕ) → 0 < m
-    → agenda ≡ (map (slot_due time) slots ++ replicate n never) ++ replicate m never → length slots < length agenda
+pub longer_room : (time n m : ℕ) (slots : List (Option Stored)) (agenda : List (Option ℕ)) → 0 < m
+    → agenda ≡ (map (slot_due time) slots ++ replicate n None) ++ replicate m None → length slots < length agenda
 longer_room time n m slots agenda more is =
     let a : length (map (slot_due time) slots) ≡ length slots = length-map _ _ in
-    let b : length (replicate m never) ≡ m = length-replicate _ _ in
-    rw is (simp (length-append) (omega arith))
+    rw is (simp (length-append) (omega (arith, length-free m)))
 
-pub free_more : (xs ys : List ℕ) (n : ℕ) → ys ≡ xs ++ replicate n never → ys ++ never ∷ [] ≡ xs ++ replicate (n + 1) never
+pub free_more : (xs ys : List (Option ℕ)) (n : ℕ) → ys ≡ xs ++ replicate n None → ys ++ None ∷ [] ≡ xs ++ replicate (n + 1) None
 free_more xs ys n is =
-    rw is (append_assoc xs (replicate n never) (never ∷ []) ∙ ap (λ zs. xs ++ zs) (replicate-append-replicate n 1 never))
+    rw is (append_assoc xs (replicate n None) (None ∷ []) ∙ ap (λ zs. xs ++ zs) (replicate-append-replicate n 1 None))
 
 -- an agenda with one more slot
-pub agenda_push : (time : ℕ) (moments planned : List ℕ) (slots later : List (Option Stored)) (stored : Stored) (moment : ℕ) → IsAgenda time moments slots
+pub agenda_push : (time : ℕ) (moments planned : List (Option ℕ)) (slots later : List (Option Stored)) (stored : Stored) (moment : Option ℕ) → IsAgenda time moments slots
     → length slots < length moments → later ≡ slots ++ Some stored ∷ [] → moment ≡ due stored.rules stored.state time
     → planned ≡ set moments (length slots) moment → IsAgenda time planned later
 agenda_push time moments planned slots later stored moment agenda room is next set_now = rw (set_now, is) (record {
@@ -353,9 +356,9 @@ agenda_push time moments planned slots later stored moment agenda room is next s
 })
   where
     over : (k : ℕ) → (k ≡ length slots) ⊎ (k ≡ length slots → ⊥)
-        → get_or (set moments (length slots) moment) k never ≡ slot_due time (slot_at (slots ++ Some stored ∷ []) k)
-    over k (inl e) = rw (e, get_or-set_same moments (length slots) moment never room) (next ∙ ap (slot_due time) (sym (push_last slots (Some stored))))
-    over k (inr ne) = rw (get_or-set_other moments (length slots) k moment never ne, push_other slots (Some stored) k ne) (agenda.each k)
+        → get_or (set moments (length slots) moment) k None ≡ slot_due time (slot_at (slots ++ Some stored ∷ []) k)
+    over k (inl e) = rw (e, get_or-set_same moments (length slots) moment None room) (next ∙ ap (slot_due time) (sym (push_last slots (Some stored))))
+    over k (inr ne) = rw (get_or-set_other moments (length slots) k moment None ne, push_other slots (Some stored) k ne) (agenda.each k)
 
 pub held_push : (slots later : List (Option Stored)) (stored : Stored) → later ≡ slots ++ Some stored ∷ [] → held later ≡ held slots ++ stored ∷ []
 held_push slots later stored is = rw is (over slots)

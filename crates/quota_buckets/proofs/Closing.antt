@@ -95,7 +95,7 @@ named_closed index slots closed is_index is = record {
 
 -- ---- the moments of slots that aren't empty
 
-pub moments_more : (time : ℕ) (slots : List (Option Stored)) (i : ℕ) (slot : Option Stored) (now later : List ℕ) → i < length slots
+pub moments_more : (time : ℕ) (slots : List (Option Stored)) (i : ℕ) (slot : Option Stored) (now later : List (Option ℕ)) → i < length slots
     → get_or slots i None ≡ slot → now ≡ map (slot_due time) (without_gaps (take i slots))
     → later ≡ now ++ map (slot_due time) (without_gaps (slot ∷ [])) → later ≡ map (slot_due time) (without_gaps (take (i + 1) slots))
 moments_more time slots i slot now later lt at before after =

@@ -3,9 +3,8 @@ use Rattle.std.proofs.Common.{◌≡◌, ℕ, ◌<◌, ◌⊎◌, inl, inr, Bool
 use Rattle.std.proofs.Common.{suc, zero, cond, is_some}
 use Rattle.std.proofs.Math.ListN.{set, length-set}
 use Rattle.std.proofs.lemmas.Bool.{cases_eq, true≢false}
-use Rattle.std.proofs.lemmas.List.{get_or-set_same, get_or-set_other}
+use Rattle.std.proofs.lemmas.List.{get_or-set_same, get_or-set_other, set-get_or}
 use Rattle.quota_settings.specs.declared.pair.Pair.{Pair}
-use Rattle.quota_bucket.specs.Due.{never}
 use Rattle.quota_buckets.specs.FirstMatch.{at_first, without_first}
 use Rattle.quota_buckets.specs.Tables.{Stored, is_stored_as, held, slot_at, slot_named, slot_due}
 use Rattle.quota_settings.specs.Pairs.{same_pairs}
@@ -90,20 +89,20 @@ not_found id (Some stored ∷ slots) none =
     over not_this rest (suc place) = rest not_this.rest place
 
 -- an agenda of slots of which one was set
-pub agenda_set : (time : ℕ) (moments : List ℕ) (slots : List (Option Stored)) (place moment : ℕ) (slot : Option Stored) → IsAgenda time moments slots
+pub agenda_set : (time : ℕ) (moments : List (Option ℕ)) (slots : List (Option Stored)) (place : ℕ) (moment : Option ℕ) (slot : Option Stored) → IsAgenda time moments slots
     → place < length slots → moment ≡ slot_due time slot → IsAgenda time (set moments place moment) (set slots place slot)
 agenda_set time moments slots place moment slot agenda within is = record {
   room = (let a = length-set moments place moment in let b = length-set slots place slot in omega (arith, agenda.room));
   each = λ k. over k (cases_eq k place);
 }
   where
-    over : (k : ℕ) → (k ≡ place) ⊎ (k ≡ place → ⊥) → get_or (set moments place moment) k never ≡ slot_due time (slot_at (set slots place slot) k)
+    over : (k : ℕ) → (k ≡ place) ⊎ (k ≡ place → ⊥) → get_or (set moments place moment) k None ≡ slot_due time (slot_at (set slots place slot) k)
     over k (inl e) =
-        rw (e, get_or-set_same moments place moment never (omega (arith, agenda.room)), get_or-set_same slots place slot None within) is
-    over k (inr ne) = rw (get_or-set_other moments place k moment never ne, get_or-set_other slots place k slot None ne) (agenda.each k)
+        rw (e, get_or-set_same moments place moment None (omega (arith, agenda.room)), get_or-set_same slots place slot None within) is
+    over k (inr ne) = rw (get_or-set_other moments place k moment None ne, get_or-set_other slots place k slot None ne) (agenda.each k)
 
 -- a table of which one bucket changed
-pub changed_table : (time : ℕ) (moments : List ℕ) (index : List Pair → Option ℕ) (slots : List (Option Stored)) (place moment : ℕ)
+pub changed_table : (time : ℕ) (moments : List (Option ℕ)) (index : List Pair → Option ℕ) (slots : List (Option Stored)) (place : ℕ) (moment : Option ℕ)
     (stored later : Stored) → IsTable time moments index slots → slot_at slots place ≡ Some stored → later.id ≡ stored.id
     → is_gone later.state.phase ≡ false → moment ≡ due later.rules later.state time
     → IsTable time (set moments place moment) index (set slots place (Some later))
@@ -112,19 +111,29 @@ changed_table time moments index slots place moment stored later is_table is nam
   planned = agenda_set time moments slots place moment (Some later) is_table.planned (at_within slots place stored is) next;
 }
 
+-- a table of which one bucket changed, but not when it is due
+pub waiting_table : (time : ℕ) (moments : List (Option ℕ)) (index : List Pair → Option ℕ) (slots : List (Option Stored)) (place : ℕ)
+    (stored later : Stored) → IsTable time moments index slots → slot_at slots place ≡ Some stored → later.id ≡ stored.id
+    → is_gone later.state.phase ≡ false → due later.rules later.state time ≡ due stored.rules stored.state time
+    → IsTable time moments index (set slots place (Some later))
+waiting_table time moments index slots place stored later is_table is name there same =
+    let now : get_or moments place None ≡ due later.rules later.state time =
+    is_table.planned.each place ∙ ap (slot_due time) is ∙ sym same in
+    rw set-get_or at (changed_table time moments index slots place (get_or moments place None) stored later is_table is name there now)
+
 -- a table of which one bucket was erased
-pub erased_table : (time : ℕ) (moments : List ℕ) (index less : List Pair → Option ℕ) (slots : List (Option Stored)) (id : List Pair) (place : ℕ)
+pub erased_table : (time : ℕ) (moments : List (Option ℕ)) (index less : List Pair → Option ℕ) (slots : List (Option Stored)) (id : List Pair) (place : ℕ)
     → IsTable time moments index slots → index id ≡ Some place → ((q : List Pair) → less q ≡ cond (same_pairs id q) None (index q))
-    → IsTable time (set moments place never) less (set slots place None)
+    → IsTable time (set moments place None) less (set slots place None)
 erased_table time moments index less slots id place is_table has removed =
     let bucket = found_bucket index slots id place is_table.indexed has in
     record {
       indexed = erased_index index less slots place bucket.stored is_table.indexed bucket.is (λ q. rw bucket.name (removed q));
-      planned = agenda_set time moments slots place never None is_table.planned (at_within slots place bucket.stored bucket.is) refl;
+      planned = agenda_set time moments slots place None None is_table.planned (at_within slots place bucket.stored bucket.is) refl;
     }
 
 -- a table without buckets
-pub empty_table : (time : ℕ) (moments : List ℕ) (index : List Pair → Option ℕ) → moments ≡ [] → ((q : List Pair) → index q ≡ None)
+pub empty_table : (time : ℕ) (moments : List (Option ℕ)) (index : List Pair → Option ℕ) → moments ≡ [] → ((q : List Pair) → index q ≡ None)
     → IsTable time moments index []
 empty_table time moments index is none = record {
   indexed = empty_index index none;

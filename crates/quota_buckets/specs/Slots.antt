@@ -1,9 +1,8 @@
 -- Inside: the slots of a table, with an index of their names and an agenda of their next moments.
-use Rattle.std.specs.Prelude.{◌≡◌, ℕ, ◌<◌, ◌≤◌, List, Option, Some, true, false, is_some, length, slice_index_or, if◌then◌else◌}
+use Rattle.std.specs.Prelude.{◌≡◌, ℕ, ◌<◌, ◌≤◌, List, Option, Some, None, true, false, is_some, length, slice_index_or, if◌then◌else◌}
 use Rattle.quota_settings.specs.declared.pair.Pair.{Pair}
 use Rattle.quota_settings.specs.Pairs.{same_pairs}
 use Rattle.quota_bucket.specs.History.{is_gone}
-use Rattle.quota_bucket.specs.Due.{never}
 use Rattle.quota_buckets.specs.Tables.{Stored, slot_at, slot_id, slot_named, slot_due}
 
 -- each bucket is in the index at its place, each place of the index has a bucket of that name, and each bucket is there
@@ -12,13 +11,13 @@ pub record IsIndex (index : List Pair → Option ℕ) (slots : List (Option Stor
   pub named : (id : List Pair) (place : ℕ) → index id ≡ Some place → slot_id (slot_at slots place) ≡ Some id
   pub there : (place : ℕ) (stored : Stored) → slot_at slots place ≡ Some stored → is_gone stored.state.phase ≡ false
 
--- an agenda has the next moment of each slot, and nothing for places without one
-pub record IsAgenda (time : ℕ) (moments : List ℕ) (slots : List (Option Stored)) : Type 0 where
+-- an agenda has the next moment of each slot, and none for places without one
+pub record IsAgenda (time : ℕ) (moments : List (Option ℕ)) (slots : List (Option Stored)) : Type 0 where
   pub room : length slots ≤ length moments
-  pub each : (place : ℕ) → slice_index_or moments place never ≡ slot_due time (slot_at slots place)
+  pub each : (place : ℕ) → slice_index_or moments place None ≡ slot_due time (slot_at slots place)
 
 -- a table's index and agenda are those of its slots
-pub record IsTable (time : ℕ) (moments : List ℕ) (index : List Pair → Option ℕ) (slots : List (Option Stored)) : Type 0 where
+pub record IsTable (time : ℕ) (moments : List (Option ℕ)) (index : List Pair → Option ℕ) (slots : List (Option Stored)) : Type 0 where
   pub indexed : IsIndex index slots
   pub planned : IsAgenda time moments slots
 

@@ -7,7 +7,7 @@ use Rattle.quota_settings.specs.declared.pair.Pair.{Pair}
 use Rattle.quota_bucket.specs.History.{is_gone}
 use Rattle.quota_bucket.specs.State.{state_after}
 use Rattle.quota_bucket.specs.Machine.{advanced, advance_report, asked, assigned, new_state}
-use Rattle.quota_bucket.specs.Due.{due, never}
+use Rattle.quota_bucket.specs.Due.{due}
 use Rattle.quota_bucket.specs.declared.rules.BucketRules.{BucketRules}
 use Rattle.quota_bucket.specs.declared.bucket_state.BucketState.{BucketState}
 use Rattle.quota_bucket.specs.declared.bucket_state.Advance.{Advance}
@@ -93,9 +93,9 @@ abbrev pub slot_phase : Option Stored → Phase
 slot_phase None = NoPhase
 slot_phase (Some stored) = phase_of stored.state.phase
 
--- the next moment at which a slot wants work
-abbrev pub slot_due : ℕ → Option Stored → ℕ
-slot_due time None = never
+-- the next moment at which a slot wants work, if there is one
+abbrev pub slot_due : ℕ → Option Stored → Option ℕ
+slot_due time None = None
 slot_due time (Some stored) = due stored.rules stored.state time
 
 -- a slot with this bucket, if it wasn't erased

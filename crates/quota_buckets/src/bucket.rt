@@ -27,6 +27,7 @@ impl Model for Bucket {
 
 impl Bucket {
     ghost use Rattle.quota_bucket.specs.History.{begins_by_assignment};
+    ghost use Rattle.quota_bucket.specs.Machine.{is_waiting};
     ghost use Rattle.quota_bucket.specs.Due.{due};
     ghost use Rattle.quota_buckets.specs.Phases.{phase_of};
     ghost use Rattle.quota_buckets.specs.Streams.{assigned_as};
@@ -54,11 +55,18 @@ impl Bucket {
         !self.state.phase.is_gone()
     }
 
-    /// The next moment after `time` at which it wants work.
-    pub fn due(&self, time: Millis) -> u64
+    /// The next moment after `time` at which it wants work, if there is one.
+    pub fn due(&self, time: Millis) -> Option<u64>
         ensures { result ≡ due self.now.rules self.now.state time }
     {
         self.state.due(&self.rules, time)
+    }
+
+    /// Whether a request was decided since its last report.
+    pub fn waits(&self) -> bool
+        ensures { result ≡ is_waiting self.now.state }
+    {
+        self.state.waits()
     }
 
     /// Its phase.

@@ -1,7 +1,6 @@
 ghost use Rattle.std.specs.Prelude.{◌≡◌, ◌≤◌, ◌<◌, ◌++◌, ◌∷◌, [], None, OnOk, IfOk, length, map, replicate, slice_set};
 ghost use Rattle.std.specs.HashMap.{get};
 ghost use Rattle.quota_settings.specs.Pairs.{same_pairs};
-ghost use Rattle.quota_bucket.specs.Due.{never};
 ghost use Rattle.quota_buckets.specs.Slots.{IsIndex, IsAgenda};
 ghost use Rattle.quota_buckets.specs.Tables.{slot_at, slot_due, slot_advanced, slot_reports, each_set, reports_at, without_gaps, AllWithin};
 
@@ -18,13 +17,13 @@ use std::hash::RandomState;
 /// The least number of places of an agenda that have no slot when it is made.
 const LEAST_ROOM: usize = 16;
 
-/// The next moment after `time` at which a slot wants work; the greatest u64 if it is empty.
-fn due_of(slot: &Option<Bucket>, time: Millis) -> u64
+/// The next moment after `time` at which a slot wants work, if there is one.
+fn due_of(slot: &Option<Bucket>, time: Millis) -> Option<u64>
     ensures { result ≡ slot_due time slot.now }
 {
     match slot {
         Some(bucket) => bucket.due(time),
-        None => u64::MAX,
+        None => None,
     }
 }
 
@@ -46,7 +45,7 @@ fn moments_of(
     alloc: Global,
     slots: &[Option<Bucket>],
     time: Millis,
-) -> Result<Vec<u64>, OutOfMemory>
+) -> Result<Vec<Option<u64>>, OutOfMemory>
     ensures { IfOk result (λ moments. moments.items ≡ map (slot_due time) (without_gaps slots.now)) }
 {
     let mut moments = Vec::new(alloc);
@@ -58,7 +57,7 @@ fn moments_of(
 
 /// Adds the next moment of a slot, if it isn't empty.
 fn add_moment(
-    moments: &mut Vec<u64>,
+    moments: &mut Vec<Option<u64>>,
     slot: &Option<Bucket>,
     time: Millis,
 ) -> Result<(), OutOfMemory>
@@ -72,11 +71,11 @@ fn add_moment(
 
 /// Adds places that want no work.
 #[tactic(auto, using(crate::proofs::Advancing::free_more))]
-fn add_free(moments: &mut Vec<u64>, count: usize) -> Result<(), OutOfMemory>
-    ensures { OnOk result (moments.new.items ≡ moments.old.items ++ replicate count never) }
+fn add_free(moments: &mut Vec<Option<u64>>, count: usize) -> Result<(), OutOfMemory>
+    ensures { OnOk result (moments.new.items ≡ moments.old.items ++ replicate count None) }
 {
     for _ in 0..count {
-        moments.push(u64::MAX)?;
+        moments.push(None)?;
     }
     Ok(())
 }
@@ -154,7 +153,7 @@ fn advance_at(
 pub fn plan_each(agenda: &mut Agenda, slots: &[Option<Bucket>], places: &[usize], time: Millis)
     requires slots { AllWithin (length slots.now) places.now }
     requires room { length slots.now ≤ length agenda.old }
-    ensures { agenda.new ≡ each_set (λ place _. slot_due time (slot_at slots.now place)) 0 agenda.old places.now }
+    ensures { agenda.new ≡ each_set (λ place _. slot_due time (slot_at slots.now place)) None agenda.old places.now }
 {
     for place in places {
         agenda.set(*place, due_of(&slots[*place], time));

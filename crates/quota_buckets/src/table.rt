@@ -90,7 +90,11 @@ impl Table {
         let Some(bucket) = &mut self.slots[place] else {
             return None;
         };
+        let waited = bucket.waits();
         let allowed = bucket.ask(self.time, up);
+        if waited {
+            return Some(allowed);
+        }
         let due = bucket.due(self.time);
         self.agenda.set(place, due);
         Some(allowed)
@@ -128,7 +132,7 @@ impl Table {
             return false;
         };
         self.slots[place] = None;
-        self.agenda.set(place, u64::MAX);
+        self.agenda.set(place, None);
         true
     }
 

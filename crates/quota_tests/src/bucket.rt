@@ -1,5 +1,5 @@
 use quota_bucket::{
-    Advance, AtExpiry, BucketRules, BucketState, Meter, Strategy, TimedPhase, Usage,
+    Advance, AtExpiry, BucketRules, BucketState, InForce, Meter, Strategy, TimedPhase, Usage,
 };
 use rate_types::{Millis, Unit};
 use std::num::NonZeroU64;
@@ -91,11 +91,11 @@ fn a_bucket_reports_and_expires(rt: HostRuntime) -> Result<(), Fail> {
     };
     assert_eq!(rt; first.report, Some(usage));
     assert!(rt; !first.state.waits());
-    assert_eq!(rt; first.state.due(&rules, at), u64::MAX);
+    assert_eq!(rt; first.state.due(&rules, at), None);
     let given = first
         .state
         .assigned(moment(2_000)?, Some(moment(1_000)?), Strategy::AllowAll);
-    assert_eq!(rt; given.due(&rules, moment(2_000)?), 3_000);
+    assert_eq!(rt; given.due(&rules, moment(2_000)?), Some(3_000));
     let advance = Advance {
         from: moment(2_000)?,
         to: moment(4_000)?,
@@ -108,7 +108,7 @@ fn a_bucket_reports_and_expires(rt: HostRuntime) -> Result<(), Fail> {
         since: moment(3_000)?,
     };
     assert_eq!(rt; expired.phase, phase);
-    assert_eq!(rt; expired.due(&rules, moment(4_000)?), 6_000);
+    assert_eq!(rt; expired.due(&rules, moment(4_000)?), Some(6_000));
     let denied = expired.asked(&rules, moment(4_000)?, true);
     assert!(rt; !denied.allowed && denied.state.waits());
     let advance = Advance {
@@ -121,5 +121,50 @@ fn a_bucket_reports_and_expires(rt: HostRuntime) -> Result<(), Fail> {
         denied.state.advanced(&rules, &advance).phase,
         TimedPhase::Gone
     );
+    Ok(())
+}
+
+#[test]
+fn a_strategy_is_in_force_where_there_is_a_bucket(rt: HostRuntime) -> Result<(), Fail> {
+    let rules = rules(AtExpiry::Abandon)?;
+    let at = moment(1_000)?;
+    assert_eq!(rt; TimedPhase::Gone.in_force(&rules), None);
+    let first = InForce {
+        strategy: Strategy::AllowAll,
+        effect: at,
+    };
+    assert_eq!(rt; TimedPhase::Gone.force_for(&rules, at), first);
+    let phase = TimedPhase::Live {
+        strategy: Strategy::DenyAll,
+        effect: at,
+        expiry: None,
+    };
+    let force = InForce {
+        strategy: Strategy::DenyAll,
+        effect: at,
+    };
+    assert_eq!(rt; phase.in_force(&rules), Some(force));
+    assert_eq!(rt; phase.force_for(&rules, moment(2_000)?), force);
+    Ok(())
+}
+
+// When a bucket with a waiting request is due first, which reports after so many milliseconds.
+fn first_due(interval: u64) -> Result<Option<u64>, Fail> {
+    let at = moment(1_000)?;
+    let reporting = NonZeroU64::new(interval).ok_or("not 0")?;
+    let rules = BucketRules {
+        reporting,
+        unassigned: Strategy::AllowAll,
+        expired: AtExpiry::Abandon,
+        timeout: None,
+    };
+    let waiting = BucketState::new(at).asked(&rules, at, false).state;
+    Ok(waiting.due(&rules, at))
+}
+
+#[test]
+fn a_moment_beyond_64_bits_is_none(rt: HostRuntime) -> Result<(), Fail> {
+    assert_eq!(rt; first_due(u64::MAX - 1_000)?, Some(u64::MAX));
+    assert_eq!(rt; first_due(u64::MAX - 999)?, None);
     Ok(())
 }

@@ -15,24 +15,32 @@ fn reached(alloc: Global, agenda: &Agenda, at: u64) -> Result<String, Fail> {
 fn an_agenda_tells_what_a_moment_reaches(rt: HostRuntime) -> Result<(), Fail> {
     let alloc = rt.alloc();
     let mut moments = Vec::new(alloc);
-    for moment in [50, 10, 90, 30, 70] {
+    for moment in [Some(50), Some(10), None, Some(u64::MAX), Some(70)] {
         moments.push(moment)?;
     }
     let mut agenda = Agenda::of(alloc, moments)?;
     let rows = [
         (9, ""),
         (10, "1 "),
-        (49, "1 3 "),
-        (50, "0 1 3 "),
-        (90, "0 1 2 3 4 "),
+        (49, "1 "),
+        (50, "0 1 "),
+        (u64::MAX - 1, "0 1 4 "),
+        (u64::MAX, "0 1 3 4 "),
     ];
     for (at, want) in rows {
         assert_eq!(rt; reached(alloc, &agenda, at)?.as_str(), want, "at {at}");
     }
     assert_eq!(rt; agenda.len(), 5);
-    agenda.set(4, 5);
-    agenda.set(1, 91);
-    let rows = [(4, ""), (30, "3 4 "), (90, "0 2 3 4 "), (91, "0 1 2 3 4 ")];
+    agenda.set(4, Some(5));
+    agenda.set(1, None);
+    agenda.set(2, Some(91));
+    let rows = [
+        (4, ""),
+        (5, "4 "),
+        (50, "0 4 "),
+        (91, "0 2 4 "),
+        (u64::MAX, "0 2 3 4 "),
+    ];
     for (at, want) in rows {
         assert_eq!(rt; reached(alloc, &agenda, at)?.as_str(), want, "at {at}");
     }
