@@ -1,9 +1,9 @@
 -- What the rows over a list of moments know.
 use Rattle.std.proofs.Common.{◌≡◌, ℕ, ◌+◌, ◌-◌, ◌*◌, ◌/◌, ◌<◌, ◌≤◌, List, [], ◌∷◌, ◌++◌, Option, None, refl, arith, ap, sym, ◌∙◌, suc, zero, length, get_or, take}
-use Rattle.std.proofs.Math.ListN.{set, length-set}
+use Rattle.std.proofs.Math.ListN.{set}
 use Rattle.std.proofs.lemmas.List.{take_all, take_more, set-get_or}
 use Rattle.agenda.specs.Reached.{earlier}
-use Rattle.agenda.specs.Halves.{halves, IsTower}
+use Rattle.agenda.specs.Halves.{halves}
 
 double_suc : (i : ℕ) → 2 * suc i ≡ suc (suc (2 * i))
 double_suc i = omega arith

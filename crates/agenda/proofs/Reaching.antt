@@ -1,6 +1,6 @@
 -- The indices of a row are those below the indices of the next one.
-use Rattle.std.proofs.Common.{◌≡◌, ℕ, ◌+◌, ◌*◌, ◌<◌, ◌≤◌, Bool, true, false, List, [], ◌∷◌, ◌++◌, refl, arith, ap, sym, ◌∙◌, min, suc, zero, length, get_or, nat_le, Option, Some, None}
-use Rattle.std.proofs.Common.{if◌then◌else◌, append_assoc, ◌||◌, take, add-zero, zero-add, append-nil}
+use Rattle.std.proofs.Common.{◌≡◌, ℕ, ◌+◌, ◌*◌, ◌≤◌, Bool, true, false, List, [], ◌∷◌, ◌++◌, refl, arith, ap, sym, ◌∙◌, suc, zero, length, get_or, Option, Some, None}
+use Rattle.std.proofs.Common.{if◌then◌else◌, append_assoc, ◌||◌, add-zero, zero-add, append-nil}
 use Rattle.std.specs.List.{flat_map}
 use Rattle.std.proofs.lemmas.Bool.Decides.{nat_tests}
 use Rattle.std.proofs.lemmas.Grind.{flat_map-append}

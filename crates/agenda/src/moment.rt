@@ -1,5 +1,4 @@
 ghost use Rattle.std.specs.Prelude.{◌≡◌};
-
 ghost use Rattle.agenda.specs.Reached.{earlier, is_reached};
 
 /// The earlier of two moments, as far as there are such.

@@ -93,12 +93,7 @@ impl BucketState {
         ensures history { (history : List Event) → IsStateOf rules.now history self.now → present history ≡ advance.now.from
             → result ≡ report_of_advance rules.now history advance.now.to advance.now.up }
     {
-        let moment = reached_report(
-            self.first,
-            rules.reporting.get(),
-            advance.from,
-            advance.to,
-        )?;
+        let moment = reached_report(self.first, rules.reporting.get(), advance.from, advance.to)?;
         if advance.up && self.waits() && outlives(rules, &self.phase, moment) {
             Some(Usage {
                 at: moment,

@@ -54,9 +54,6 @@ impl BucketState {
         ensures stays { (later : ℕ) → time ≤ later → later < 2 ^ 64 → is_reached later result ≡ false
             → due rules.now self.now later ≡ result }
     {
-        earlier(
-            phase_due(rules, &self.phase),
-            self.report_due(rules, time),
-        )
+        earlier(phase_due(rules, &self.phase), self.report_due(rules, time))
     }
 }
