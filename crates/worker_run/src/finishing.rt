@@ -1,6 +1,6 @@
 // A script run to its end, and its limiter closed.
-ghost use Rattle.std.specs.Prelude.{◌≡◌, ◌≤◌, All, IfOk, length, map, vec_len};
-ghost use Rattle.rate_types.specs.declared.limits.TheConstants.{MOST_CLAIMS, MOST_LINES, MOST_WORKERS};
+ghost use Rattle.std.specs.Prelude.{◌≡◌, ◌≤◌, All, IfOk, map, vec_len};
+ghost use Rattle.rate_types.specs.declared.limits.TheConstants.{MOST_CLAIMS, MOST_WORKERS};
 ghost use Rattle.counter_cells.specs.Steps.{new_passes};
 ghost use Rattle.rate_limiter.specs.Passes.{IsNewPass};
 ghost use Rattle.script_run.specs.Run.{IsRun};
@@ -44,7 +44,6 @@ pub fn run_script<N: CellNaming + Send + Sync, L: ScriptLines, G: Gate, R: Threa
     requires claims_max { MOST_CLAIMS ≤ limiter.claims_max }
     requires every { vec_len passes ≡ limiter.passes }
     requires workers { (1 ≤ vec_len passes) × (vec_len passes ≤ MOST_WORKERS) }
-    requires lines { length (L.lines lines.now) ≤ MOST_LINES }
     ensures run { IfOk result (λ f. IsRun (first_version passes.items) (vec_len passes) N.setup.cells start limiter.global_shadow
         (L.lines lines.now) f.records) }
     ensures totals { IfOk result (λ f. AreTotalsOf start (L.lines lines.now) f.records f.totals) }

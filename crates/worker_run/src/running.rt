@@ -1,5 +1,5 @@
 // Workers in threads of their own.
-ghost use Rattle.std.specs.Prelude.{◌≡◌, ◌≤◌, ◌<◌, ◌+◌, ℕ, All, IfOk, Ok, length, map, vec_len, vec_capacity, slice_index_or};
+ghost use Rattle.std.specs.Prelude.{◌≡◌, ◌≤◌, ◌<◌, ◌+◌, ℕ, All, IfOk, Ok, OnOk, length, map, vec_len, vec_capacity, slice_index_or};
 ghost use Rattle.rate_types.specs.declared.limits.TheConstants.{MOST_LINES, MOST_WORKERS};
 ghost use Rattle.rate_limiter.specs.Passes.{bounds_of};
 ghost use Rattle.line_numbers.specs.Drawers.{numbers_id, numbers_of, lines_of, drawers_of, IsFresh};
@@ -160,11 +160,11 @@ pub fn run_lines<N: CellNaming + Send + Sync, L: ScriptLines, G: Gate, R: Thread
     requires passes { All (λ p. p.limiter ≡ limiter.now.id) passes.items }
     requires started { All (λ p. start ≤ p.cells.moment) passes.items }
     requires workers { (1 ≤ vec_len passes) × (vec_len passes ≤ MOST_WORKERS) }
-    requires lines { length (L.lines lines.now) ≤ MOST_LINES }
     ensures run { IfOk result (λ r. HaveRun (bounds_of N.setup.cells limiter.now) limiter.now start (L.lines lines.now) passes.items
         r.1.items r.0) }
     ensures records { IfOk result (λ r. AreInOrder (vec_len passes) start (L.lines lines.now) r.0) }
     ensures passes { IfOk result (λ r. All (λ p. p.limiter ≡ limiter.now.id) r.1.items) }
+    ensures few { OnOk result (length (L.lines lines.now) ≤ MOST_LINES) }
 {
     let count = lines.count();
     let (numbers, drawers) = LineNumbers::make(alloc, u64::from(count), passes.len() as u32)?;

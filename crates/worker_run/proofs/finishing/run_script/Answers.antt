@@ -22,7 +22,7 @@ returns-clause-run g c =
     (index_all (λ (p : PassView). IsPrefix p.claims.known closed.claims) after told.claims_known) _ (sym c.args.passes.ok.0) c.requires.every c.requires.workers.0
     c.in_ok-records.ensures.records told.claims_owned told.claims closed.versions
     (index_all (λ (p : PassView). IsPrefix p.version.view.known closed.versions) after told.versions_known) told.versions_owned told.ledger told.sights
-    c.requires.lines c.requires.claims_max
+    c.in_ok-records.ensures.few c.requires.claims_max
 
 pub returns-clause-totals : goal.returns-clause-totals
 returns-clause-totals g c =
