@@ -1,4 +1,4 @@
-// From lines to a sink.
+// From pieces to a sink.
 ghost use Rattle.std.specs.Prelude.{◌≡◌, ◌∷◌, [], ◌++◌, map, OnOk, OnErr, string_bytes};
 ghost use Rattle.std.specs.List.{concat};
 ghost use Rattle.rate_io.specs.Causes.{HasCause};
@@ -9,23 +9,38 @@ ghost use Rattle.ratelimit_cli.specs.Parts.{IsOfOutput};
 ghost use Rattle.ratelimit_cli.specs.Output.{AppendsFront};
 
 use crate::Exit;
+use crate::output_pieces::{Pieces, TextPieces};
 use rate_io::{Failed, Sink};
 use std::alloc::Global;
 
-// Writes each line by one call.
-fn write_each<K: Sink>(sink: &mut K, lines: &[String]) -> Result<(), Failed>
-    ensures bytes { OnOk result (Appends (K.written sink.old) (K.written sink.new) (concat (map (λ t. string_bytes t) lines.now))) }
-    ensures each { OnOk result (K.history sink.new ≡ K.history sink.old ++ map wrote (map (λ t. string_bytes t) lines.now)) }
-    ensures up_to { OnErr result (Grew (K.history sink.old) (K.history sink.new) (WroteSome (map (λ t. string_bytes t) lines.now))) }
-    ensures part { OnErr result (AppendsFront (K.written sink.old) (K.written sink.new) (concat (map (λ t. string_bytes t) lines.now))) }
+// Writes each piece by one call.
+fn write_each<K: Sink, P: Pieces>(sink: &mut K, pieces: &mut P) -> Result<(), Failed>
+    ensures bytes { OnOk result (Appends (K.written sink.old) (K.written sink.new) (concat (P.rest pieces.old))) }
+    ensures each { OnOk result (K.history sink.new ≡ K.history sink.old ++ map wrote (P.rest pieces.old)) }
+    ensures up_to { OnErr result (Grew (K.history sink.old) (K.history sink.new) (WroteSome (P.rest pieces.old))) }
+    ensures part { OnErr result (AppendsFront (K.written sink.old) (K.written sink.new) (concat (P.rest pieces.old))) }
     ensures cause { HasCause (K.faults sink.old) (K.faults sink.new) result }
 {
-    'lines: for line in lines {
-        let Ok(()) = sink.write(line.as_bytes()) else {
+    'pieces: while pieces.next_piece() {
+        let Ok(()) = sink.write(pieces.piece()) else {
             return Err(Failed);
         };
     }
     Ok(())
+}
+
+/// Writes each piece by one call, and flushes.
+pub fn write_all<K: Sink, P: Pieces>(sink: &mut K, pieces: &mut P) -> Result<(), Failed>
+    ensures bytes { OnOk result (Appends (K.written sink.old) (K.written sink.new) (concat (P.rest pieces.old))) }
+    ensures each { OnOk result (K.history sink.new ≡ K.history sink.old ++ all_written (P.rest pieces.old)) }
+    ensures up_to { OnErr result (Grew (K.history sink.old) (K.history sink.new) (WroteUpTo (P.rest pieces.old))) }
+    ensures part { OnErr result (AppendsFront (K.written sink.old) (K.written sink.new) (concat (P.rest pieces.old))) }
+    ensures cause { HasCause (K.faults sink.old) (K.faults sink.new) result }
+{
+    let Ok(()) = write_each(sink, pieces) else {
+        return Err(Failed);
+    };
+    sink.flush()
 }
 
 /// Writes each line by one call, and flushes.
@@ -36,10 +51,11 @@ pub fn write_lines<K: Sink>(sink: &mut K, lines: &[String]) -> Result<(), Failed
     ensures part { OnErr result (AppendsFront (K.written sink.old) (K.written sink.new) (concat (map (λ t. string_bytes t) lines.now))) }
     ensures cause { HasCause (K.faults sink.old) (K.faults sink.new) result }
 {
-    let Ok(()) = write_each(sink, lines) else {
-        return Err(Failed);
+    let mut pieces = TextPieces {
+        here: &[],
+        rest: lines,
     };
-    sink.flush()
+    write_all(sink, &mut pieces)
 }
 
 /// Writes a text by one call, and flushes.

@@ -18,10 +18,9 @@ use crate::configs::{configuration, read_files};
 use crate::generated::run_gen;
 use crate::input::read_input;
 use crate::making::{driven_lines, found_lines};
-use crate::output::{write_line, write_lines};
+use crate::output::{write_all, write_line, write_lines};
 use crate::pool::run_pool;
 use crate::quota::run_quota;
-use crate::run_writing::write_run;
 use crate::serve::run_serve;
 use crate::work::Work;
 use command_words::{Command, HELP, ThreadJob, VERSION, WordsFault, read_words};
@@ -80,7 +79,7 @@ fn drive_and_write<R: Threads + Wait + Sync, K: Sink, G: Gate>(
     let Ok(mut lines) = driven_lines(rt, alloc, config, bytes, setup, gate) else {
         return Err(Exit::OutOfMemory);
     };
-    match write_run(alloc, &mut lines, sink) {
+    match write_all(sink, &mut lines) {
         Ok(()) => Ok(()),
         Err(_) => Err(Exit::WriteFault),
     }

@@ -11,6 +11,7 @@ use std::marker::Model;
 /// that are left.
 #[derive(Drop)]
 pub struct RunLines {
+    alloc: Global,
     records: Records,
     // The lines that are made: those of the records that aren't short, in order, and then those of the totals.
     made: Vec<String>,
@@ -53,6 +54,7 @@ impl RunLines {
         push_others(alloc, &mut made, records.items())?;
         push_totals(alloc, &mut made, totals)?;
         Ok(RunLines {
+            alloc,
             records,
             made,
             kept,
@@ -63,7 +65,7 @@ impl RunLines {
     }
 
     /// Comes to the next line. False where none is left.
-    pub fn advance(&mut self, alloc: Global) -> bool
+    pub fn advance(&mut self) -> bool
         ensures more { OnTrue result (self.old.rest ≡ self.new.line ∷ self.new.rest) }
         ensures end { result ≡ false → self.old.rest ≡ [] }
     {
@@ -77,7 +79,7 @@ impl RunLines {
         }
         let rec = &self.records.items()[self.passed];
         if is_short(rec) {
-            fill(alloc, &mut self.kept, rec);
+            fill(self.alloc, &mut self.kept, rec);
             self.passed += 1;
             self.is_kept = true;
             return true;

@@ -1,9 +1,9 @@
 use Rattle.ratelimit_cli.proofs.Flushing.{stops_before, flush_each, flush_stops, flush_bytes, flush_part, flush_cause}
-use Rattle.ratelimit_cli.proofs.run_writing.write_run.Goals as goal
+use Rattle.ratelimit_cli.proofs.output.write_all.Goals as goal
 
 pub returns-in_default-clause-up_to : goal.returns-in_default-clause-up_to
 returns-in_default-clause-up_to g c =
-    stops_before (g.K.Sink.history c.args.sink.now) (g.K.Sink.history c.write_each.new.sink) c.args.run.now.rest c.in_default.ensures.up_to
+    stops_before (g.K.Sink.history c.args.sink.now) (g.K.Sink.history c.write_each.new.sink) (g.P.Pieces.rest c.args.pieces.now) c.in_default.ensures.up_to
 
 pub returns-clause-bytes : goal.returns-clause-bytes
 returns-clause-bytes g c =
@@ -13,12 +13,12 @@ returns-clause-bytes g c =
 pub returns-clause-each : goal.returns-clause-each
 returns-clause-each g c =
     flush_each (g.K.Sink.history c.args.sink.now) (g.K.Sink.history c.write_each.new.sink) (g.K.Sink.history c.flush.new.self)
-    c.args.run.now.rest c.in-Ok.ensures.each c.flush.result c.flush.ensures.event
+    (g.P.Pieces.rest c.args.pieces.now) c.in-Ok.ensures.each c.flush.result c.flush.ensures.event
 
 pub returns-clause-up_to : goal.returns-clause-up_to
 returns-clause-up_to g c =
     flush_stops (g.K.Sink.history c.args.sink.now) (g.K.Sink.history c.write_each.new.sink) (g.K.Sink.history c.flush.new.self)
-    c.args.run.now.rest c.in-Ok.ensures.each c.flush.result c.flush.ensures.event
+    (g.P.Pieces.rest c.args.pieces.now) c.in-Ok.ensures.each c.flush.result c.flush.ensures.event
 
 pub returns-clause-part : goal.returns-clause-part
 returns-clause-part g c =
