@@ -1,6 +1,6 @@
-ghost use Rattle.std.specs.Prelude.{◌≡◌, ◌≤◌, IfOk, length};
+ghost use Rattle.std.specs.Prelude.{◌≡◌, ◌≤◌, IfOk};
 ghost use Rattle.std.specs.Arc.{arc_value};
-ghost use Rattle.rate_types.specs.declared.limits.TheConstants.{MOST_CELLS, MOST_LINES, MOST_WORKERS};
+ghost use Rattle.rate_types.specs.declared.limits.TheConstants.{MOST_CELLS, MOST_WORKERS};
 ghost use Rattle.descriptor_tree.specs.Views.{config_view};
 ghost use Rattle.counter_cells.specs.Opened.{table_of, setup_of};
 ghost use Rattle.script_run.specs.Run.{IsRun};
@@ -57,7 +57,6 @@ fn drive_on<N: CellNaming + Send + Sync, L: ScriptLines, G: Gate, R: Threads + W
     requires cells { N.setup.cells ≡ setup.cells }
     requires passes { N.setup.passes ≡ setup.workers }
     requires start { N.setup.start ≡ setup.start }
-    requires lines { length (L.lines lines.now) ≤ MOST_LINES }
     ensures run { IfOk result
         (λ d. IsRun (config_view (arc_value config)) setup.workers setup.cells setup.start setup.global_shadow (L.lines lines.now)
         d.records) }
@@ -90,7 +89,6 @@ pub fn drive_script<L: ScriptLines, G: Gate, R: Threads + Wait + Sync>(
         d.records) }
     ensures totals { IfOk result (λ d. AreTotalsOf setup.start (L.lines script.now) d.records d.totals) }
 {
-    let _few = script.count();
     let opened = OpenedCells::make(alloc, setup.cells, setup.workers, setup.start)?;
     drive_on::<Brand, _, _, _>(rt, alloc, opened, script, config, setup, gate)
 }
