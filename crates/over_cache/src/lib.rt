@@ -11,6 +11,7 @@
 //! the cell shows. A key has the bytes of `window_keys::write_key`; no call looks into them.
 #![tactic(auto)]
 
+mod key_bytes;
 mod known;
 mod over_cache;
 

@@ -5,6 +5,7 @@ ghost use Rattle.over_cache.specs.declared.known.Known.{Known as KnownValue};
 ghost use Rattle.over_cache.specs.Uses.{Use, Asked, Noted, Remembers};
 
 use crate::Known;
+use crate::key_bytes::{KeyBytes, SoughtBytes};
 use counter_cells::Spot;
 use lru::LruCache;
 use rate_types::OutOfMemory;
@@ -21,7 +22,7 @@ pub const MOST_KNOWN: usize = 1_024;
 #[derive(Drop)]
 pub struct OverCache {
     alloc: Global,
-    keys: LruCache<Vec<u8>, Known, RandomState>,
+    keys: LruCache<KeyBytes, Known, RandomState>,
 }
 
 impl Model for OverCache {
@@ -31,7 +32,7 @@ impl Model for OverCache {
 
     ghost Value = { Entries };
 
-    ghost view = { λ c. map (λ e. (e.0.items, e.1)) c.keys.entries };
+    ghost view = { λ c. map (λ e. (e.0.bytes.items, e.1)) c.keys.entries };
 
     ghost invariant = { λ c. c.keys.cap ≡ MOST_KNOWN };
 }
@@ -61,7 +62,7 @@ impl OverCache {
         ensures order { self.new ≡ asked key.now self.old }
         ensures remembers { (uses : List Use) → Remembers uses self.old → Remembers (Asked key.now ∷ uses) self.new }
     {
-        self.keys.get(key).copied()
+        self.keys.get(SoughtBytes { bytes: key }).copied()
     }
 
     /// Notes a spot and a value of a key as [`OverCache::note`] does, where the key is known. Else nothing changes. It takes no
@@ -75,7 +76,7 @@ impl OverCache {
         ensures unknown { result ≡ false → self.new ≡ self.old }
     {
         let _number = self.keys.len();
-        let Some(known) = self.keys.get_mut(key) else {
+        let Some(known) = self.keys.get_mut(SoughtBytes { bytes: key }) else {
             return false;
         };
         *known = known.noted_over(spot, seen);
@@ -98,7 +99,7 @@ impl OverCache {
         if self.note_known(key, spot, seen) {
             return Ok(());
         }
-        let key = key.to_vec(self.alloc)?;
+        let key = KeyBytes::of(self.alloc, key)?;
         self.keys.put(key, Known { spot, seen })?;
         Ok(())
     }

@@ -1,6 +1,7 @@
-use Rattle.std.proofs.Common.{◌∙◌, ◌∷◌, ℕ, Vec, Global, map, sym, ap, subst}
+use Rattle.std.proofs.Common.{◌∙◌, ◌∷◌, map, sym, ap, subst}
 use Rattle.lru.specs.LruCache.{LruCache}
 use Rattle.over_cache.specs.declared.known.Known.{Known}
+use Rattle.over_cache.specs.declared.key_bytes.KeyBytes.{KeyBytes}
 use Rattle.over_cache.specs.Entries.{Entries, is_key, known_of, asked}
 use Rattle.over_cache.specs.Uses.{Asked, Remembers}
 use Rattle.over_cache.proofs.Shown.{shown, lookup-shown, promoted-shown}
@@ -10,13 +11,13 @@ use Rattle.over_cache.proofs.over_cache.OverCache.known.Goals as goal
 pub returns-clause-known : goal.returns-clause-known
 returns-clause-known c =
     c.copied.ensures ∙ c.get.ensures.value
-    ∙ sym (lookup-shown (λ (v : Vec ℕ Global). v.items) (is_key c.args.key.now) c.self.inside.keys.entries)
+    ∙ sym (lookup-shown (λ (v : KeyBytes). v.bytes.items) (is_key c.args.key.now) c.self.inside.keys.entries)
     ∙ ap (known_of c.args.key.now) c.self.view_is
 
 pub returns-clause-order : goal.returns-clause-order
 returns-clause-order c =
-    ap (λ (k : LruCache (Vec ℕ Global) Known). map (shown (λ (v : Vec ℕ Global). v.items)) k.entries) c.get.follows.holds-at-none
-    ∙ sym (promoted-shown (λ (v : Vec ℕ Global). v.items) (is_key c.args.key.now) c.self.inside.keys.entries)
+    ap (λ (k : LruCache (KeyBytes) Known). map (shown (λ (v : KeyBytes). v.bytes.items)) k.entries) c.get.follows.holds-at-none
+    ∙ sym (promoted-shown (λ (v : KeyBytes). v.bytes.items) (is_key c.args.key.now) c.self.inside.keys.entries)
     ∙ ap (asked c.args.key.now) c.self.view_is
 
 pub returns-clause-remembers : goal.returns-clause-remembers

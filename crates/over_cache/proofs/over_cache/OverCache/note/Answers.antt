@@ -1,8 +1,9 @@
-use Rattle.std.proofs.Common.{◌≡◌, ◌∙◌, ◌∷◌, ℕ, Vec, Global, List, Option, Some, None, is_some, false, true≢false, map, ◌-◌, refl, sym, ap, subst}
+use Rattle.std.proofs.Common.{◌≡◌, ◌∙◌, ◌∷◌, ℕ, List, Option, Some, None, is_some, false, true≢false, map, ◌-◌, refl, sym, ap, subst}
 use Rattle.std.specs.Option.{option_map_or}
 use Rattle.std.specs.Map.{remove_entry}
 use Rattle.lru.specs.LruCache.{LruCache}
 use Rattle.over_cache.specs.declared.known.Known.{Known}
+use Rattle.over_cache.specs.declared.key_bytes.KeyBytes.{KeyBytes}
 use Rattle.over_cache.specs.Entries.{Entries, is_key, known_of, noted}
 use Rattle.over_cache.specs.Uses.{Noted, Remembers}
 use Rattle.over_cache.proofs.Shown.{shown, new_noted, none_is, is_it, lookup-shown}
@@ -15,19 +16,19 @@ not_known (Some v) h = absurd (true≢false h)
 
 pub returns-clause-noted : goal.returns-clause-noted
 returns-clause-noted c =
-    let bytes = λ (v : Vec ℕ Global). v.items in
+    let bytes = λ (v : KeyBytes). v.bytes.items in
     let key = c.args.key.now in
     let es = c.self.inside.keys.entries in
     let k = c.in_ok-key.key in
     let v : Known = record { spot = c.args.spot; seen = c.args.seen } in
-    let same : k.items ≡ key = c.in_ok-key.ensures.items_if_clones_equal (λ x y e. e) in
+    let same : k.bytes.items ≡ key = c.in_ok-key.ensures in
     let was = c.self.view_is ∙ c.if-note_known.ensures.unknown refl in
     let unknown = not_known (known_of key c.args.self.now) (sym c.if-note_known.ensures.known) in
     let none = sym (lookup-shown bytes (is_key key) es) ∙ ap (known_of key) was ∙ unknown in
-    let first = subst (λ b. Rattle.std.specs.Map.lookup_entry (λ (x : Vec ℕ Global). is_key b x.items) es ≡ None) (sym same)
+    let first = subst (λ b. Rattle.std.specs.Map.lookup_entry (λ (x : KeyBytes). is_key b x.bytes.items) es ≡ None) (sym same)
     (none_is (is_it bytes key c.args.spot c.args.seen) es none).0 in
-    ap (λ (l : LruCache (Vec ℕ Global) Known). map (shown bytes) l.entries) c.in_ok-put.ensures.entries
-    ∙ ap (λ o. map (shown bytes) (option_map_or (λ (e : Vec ℕ Global × Known). (e.0, v) ∷ remove_entry (λ (x : Vec ℕ Global). is_key k.items x.items) es) o
+    ap (λ (l : LruCache (KeyBytes) Known). map (shown bytes) l.entries) c.in_ok-put.ensures.entries
+    ∙ ap (λ o. map (shown bytes) (option_map_or (λ (e : KeyBytes × Known). (e.0, v) ∷ remove_entry (λ (x : KeyBytes). is_key k.bytes.items x.bytes.items) es) o
     ((k, v) ∷ Rattle.std.proofs.Common.take (c.self.inside.keys.cap - 1) es))) first
     ∙ ap (λ n. map (shown bytes) ((k, v) ∷ Rattle.std.proofs.Common.take (n - 1) es)) c.self.invariant
     ∙ new_noted bytes key c.args.spot c.args.seen es k same none

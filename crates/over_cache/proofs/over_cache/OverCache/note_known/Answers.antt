@@ -1,9 +1,10 @@
-use Rattle.std.proofs.Common.{◌∙◌, ◌∷◌, ◌≤◌, ℕ, Vec, Global, length, map, is_some, refl, sym, ap, subst, arith}
+use Rattle.std.proofs.Common.{◌∙◌, ◌∷◌, ◌≤◌, length, map, is_some, refl, sym, ap, subst, arith}
 use Rattle.std.specs.Option.{option_copied_mut}
 use Rattle.std.specs.Map.{set_value}
 use Rattle.std.proofs.lemmas.List.{length-map}
 use Rattle.lru.specs.LruCache.{promoted}
 use Rattle.over_cache.specs.declared.known.Known.{Known}
+use Rattle.over_cache.specs.declared.key_bytes.KeyBytes.{KeyBytes}
 use Rattle.over_cache.specs.Entries.{Entries, is_key, known_of, noted}
 use Rattle.over_cache.specs.Uses.{Noted, Remembers}
 use Rattle.over_cache.proofs.Shown.{shown, is_it, known_noted, lookup-shown}
@@ -13,12 +14,12 @@ use Rattle.over_cache.proofs.over_cache.OverCache.note_known.Goals as goal
 pub returns-clause-known : goal.returns-clause-known
 returns-clause-known c =
     sym (ap is_some (sym (ap (known_of c.args.key.now) c.self.view_is)
-    ∙ lookup-shown (λ (v : Vec ℕ Global). v.items) (is_key c.args.key.now) c.self.inside.keys.entries
+    ∙ lookup-shown (λ (v : KeyBytes). v.bytes.items) (is_key c.args.key.now) c.self.inside.keys.entries
     ∙ sym c.get_mut.ensures.value ∙ ap option_copied_mut c.in-Some.is))
 
 pub returns-clause-noted : goal.returns-clause-noted
 returns-clause-noted c = λ yes.
-    let bytes = λ (v : Vec ℕ Global). v.items in
+    let bytes = λ (v : KeyBytes). v.bytes.items in
     let key = c.args.key.now in
     let es = c.self.inside.keys.entries in
     let test = is_it bytes key c.args.spot c.args.seen in
@@ -31,7 +32,7 @@ returns-clause-noted c = λ yes.
 
 pub returns-clause-others : goal.returns-clause-others
 returns-clause-others c = λ other differs.
-    let bytes = λ (v : Vec ℕ Global). v.items in
+    let bytes = λ (v : KeyBytes). v.bytes.items in
     let key = c.args.key.now in
     let es = c.self.inside.keys.entries in
     let few = c.len-number.ensures.valid.1 in
@@ -50,5 +51,5 @@ returns-clause-remembers c = λ yes uses r.
 pub returns-in_default-clause-known : goal.returns-in_default-clause-known
 returns-in_default-clause-known c =
     sym (ap is_some (sym (ap (known_of c.args.key.now) c.self.view_is)
-    ∙ lookup-shown (λ (v : Vec ℕ Global). v.items) (is_key c.args.key.now) c.self.inside.keys.entries
+    ∙ lookup-shown (λ (v : KeyBytes). v.bytes.items) (is_key c.args.key.now) c.self.inside.keys.entries
     ∙ sym c.get_mut.ensures.value ∙ ap option_copied_mut c.in_default.is))
