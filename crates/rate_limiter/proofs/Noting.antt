@@ -128,10 +128,6 @@ pub within_next : (names : List CounterName) (n moment : ℕ) (name : CounterNam
 within_next names n moment name s entries new here few is all next next_is =
     subst (λ m. AreWithin names m moment new) (sym next_is) (within_suc names n moment name s entries new here few is all)
 
--- no name is noted yet
-pub within_none : (names : List CounterName) (moment : ℕ) (entries : Entries) → AreWithin names 0 moment entries
-within_none names moment entries i name lt at = absurd (omega arith)
-
 -- all are noted
 pub noted_all_names : (names : List CounterName) (n moment : ℕ) (entries : Entries) → length names ≤ n → AreWithin names n moment entries → AreNoted names moment entries
 noted_all_names names n moment entries all h i name at =

@@ -273,10 +273,6 @@ turned_had b names (Ok x) a v w t u h =
     (pinned_had a.spots.items (record h.did.0.ticked { others = h.did.0.ticked.others ++ p.0 }))
 turned_had b names (Err fault) a v w t u h = tt
 
--- without names nothing is pinned
-pub none_had : (pins : List (ℕ × ℕ)) (ss : List Spot) → ss ≡ [] → All (λ (s : Spot). 1 ≤ pins_under s.cell s.claim pins) ss
-none_had pins ss e = subst (All (λ (s : Spot). 1 ≤ pins_under s.cell s.claim pins)) (sym e) (λ k d lt. absurd (omega arith))
-
 -- after a turn the pass knows a lawful list of claims
 pub turned_once : (b : Bounds) (names : List CounterName) (r : Result Acquired AcquireFault) (v w : CellView) (t u : KnownClaims) → Turned b names v r w t u
     → AreClaimedOnce u.known
