@@ -1,5 +1,5 @@
 ghost use Rattle.std.specs.Prelude.{◌≡◌, ◌++◌, All, IfOk, OnOk, Some, map};
-ghost use Rattle.std.specs.HashMap.{get};
+ghost use Rattle.std.specs.HashMap.{get, IsUnique};
 ghost use Rattle.rate_types.specs.Counters.{same_name};
 ghost use Rattle.counter_directory.specs.Index.{IndexFits};
 ghost use Rattle.counter_directory.specs.Open.{open_at, AreOpenClaims};
@@ -34,6 +34,7 @@ pub struct OpenClaim {
 fn add_open(unit: &UnitIndex, last: Seconds, list: &mut Vec<OpenClaim>) -> Result<(), OutOfMemory>
     ensures items { OnOk result (list.new.items ≡ list.old.items ++ map (open_at last) unit.now.spots.entries) }
     ensures found { All (λ e. get same_name unit.now.spots e.0 ≡ Some e.1) unit.now.spots.entries }
+    ensures unique { IsUnique same_name unit.now.spots }
 {
     for (name, spot) in unit.spots.iter() {
         list.push(OpenClaim {
@@ -45,7 +46,7 @@ fn add_open(unit: &UnitIndex, last: Seconds, list: &mut Vec<OpenClaim>) -> Resul
 }
 
 impl<N: CellNaming> ClosedDirectory<N> {
-    /// The claims whose windows haven't ended at the last moment.
+    /// The claims whose windows haven't ended at the last moment, one for each counter.
     pub fn open_claims(&self, alloc: Global) -> Result<Items<OpenClaim>, OutOfMemory>
         ensures { IfOk result (λ list. AreOpenClaims self.now.last self.now.claims list) }
     {

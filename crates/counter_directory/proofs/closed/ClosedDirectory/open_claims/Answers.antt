@@ -12,4 +12,4 @@ loop-unit-preserved g c =
     let x = c.unit-item.result in
     open_more i d.last d.claims d.index.items x c.loop-unit.list.items c.add_open.new.list.items d.found
     (subst (λ l. get_elem? l i ≡ some x) c.deref-unit-items.ensures.value (at_index c.deref-unit-items.result.now i x (omega arith) c.unit-item.is))
-    c.add_open.ensures.found c.in_ok-add_open.ensures.items c.loop-unit.invariant
+    c.add_open.ensures.found c.add_open.ensures.unique c.in_ok-add_open.ensures.items c.loop-unit.invariant
