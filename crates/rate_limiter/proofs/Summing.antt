@@ -1,99 +1,110 @@
--- Sums that are the counts of open claims are the totals of what was charged.
-use Rattle.std.proofs.Common.{◌≡◌, ◌⊎◌, inl, inr, ℕ, ◌<◌, ◌&&◌, nat_lt, List, [], ◌∷◌, ◌++◌, length, cond, Bool, true, false, true≢false, Option, Some, unwrap_or, refl}
+-- The counts of open claims are the totals of what was charged.
+use Rattle.std.proofs.Common.{◌≡◌, ℕ, zero, suc, ◌+◌, ◌≤◌, ◌<◌, ◌&&◌, ◌||◌, nat_lt, List, [], ◌∷◌, ◌++◌, length, cond, Bool, true, false, refl}
 use Rattle.std.proofs.Common.{sym, ap, ◌∙◌, subst, arith}
 use Rattle.std.specs.Prelude.{slice_index}
+use Rattle.std.specs.List.{AllByRecursion, list_any}
 use Rattle.std.proofs.lemmas.Bool.Decides.{nat_tests}
+use mathlib.Core.Option.{some, some-injective, some-ne-none}
+use lib.ListN.{get_elem?}
 use Rattle.rate_types.specs.Counters.{same_counter}
+use Rattle.rate_types.specs.Sums.{one_if}
 use Rattle.rate_types.specs.declared.counter_key.CounterKey.{CounterKey}
 use Rattle.window_keys.specs.Counter.{window_end_of}
+use Rattle.window_keys.proofs.Counters.{is_same}
 use Rattle.counter_directory.specs.declared.closed.OpenClaim.{OpenClaim}
-use Rattle.rls_core.specs.Sums.{Sums, sum_on}
-use Rattle.rls_core.specs.Totals.{AreTotals}
+use Rattle.counter_directory.specs.Open.{open_claims_of}
+use Rattle.rls_core.specs.Totals.{totals_on, HaveTotals}
 use Rattle.rls_core.specs.declared.totals.Total.{Total}
-use Rattle.rate_limiter.specs.Summed.{CountCharged, HaveClaims, AreSummed}
-use Rattle.window_keys.proofs.Counters.{same_is, is_same}
-use Rattle.rate_limiter.proofs.Lists.{each_append, each_more, each_front, each_back, each_at}
+use Rattle.rate_limiter.specs.Summed.{CountCharged, HaveClaims, open_totals}
+use Rattle.rate_limiter.proofs.Lists.{each_at}
 
-pub is_open : (m n : ℕ) → m < n → nat_lt m n ≡ true
-is_open m n h = grind (arith, nat_tests)
+is_less : (m n : ℕ) → m < n → nat_lt m n ≡ true
+is_less m n h = grind (arith, nat_tests)
+
+less : (m n : ℕ) → nat_lt m n ≡ true → m < n
+less m n h = grind (arith, nat_tests)
 
 pub none_left : {A : Type 0} (xs : List A) → length xs ≡ 0 → xs ≡ []
 none_left [] e = refl
 none_left (x ∷ xs) e = absurd (omega arith)
 
--- the sum of a counter after one was put
-pub sum_put : (b s : Bool) (v : ℕ) (o : Option ℕ) → b ≡ true → unwrap_or (cond s (Some v) o) 0 ≡ cond (b && s) v (unwrap_or o 0)
-sum_put true true v o e = refl
-sum_put true false v o e = refl
-sum_put false s v o e = absurd (true≢false (sym e))
-
-opens : (m n : ℕ) → nat_lt m n ≡ true → m < n
-opens m n h = grind (arith, nat_tests)
+either : (a b : Bool) → b ≡ true → (a || b) ≡ true
+either true b h = refl
+either false b h = h
 
 module _ (moment : ℕ) (counts : List ℕ) where
-  -- nothing is summed yet
-  pub none_summed : AreSummed moment counts [] []
-  none_summed charged h = (tt, λ q. inl refl)
-
-  -- one more claim is summed
-  pub summed_next : (xs : List OpenClaim) (x : OpenClaim) (old new : Sums)
-      → ((q : CounterKey) → sum_on new q ≡ cond (nat_lt moment (window_end_of x.key) && same_counter x.key q) (slice_index counts x.spot.cell) (sum_on old q))
-      → AreSummed moment counts xs old → AreSummed moment counts (xs ++ x ∷ []) new
-  summed_next xs x old new puts before charged all =
-      let P : OpenClaim → Type 0 = λ y. moment < window_end_of y.key → slice_index counts y.spot.cell ≡ charged y.key in
-      let h = before charged (each_front P xs (x ∷ []) all) in
-      let here = (each_back P xs (x ∷ []) all).0 in (
-        each_append Q xs (x ∷ []) (each_more (λ y. moment < window_end_of y.key → sum_on old y.key ≡ charged y.key) Q (kept here) xs h.0)
-            (λ later. value here x.key (is_open moment (window_end_of x.key) later) (is_same x.key x.key refl), tt),
-        λ q. by here q (nat_lt moment (window_end_of x.key)) refl (same_counter x.key q) refl (h.1 q),
-      )
+  pub totals_append : (xs ys : List OpenClaim) → open_totals moment counts (xs ++ ys) ≡ open_totals moment counts xs ++ open_totals moment counts ys
+  totals_append [] ys = refl
+  totals_append (x ∷ xs) ys = by (nat_lt 0 (slice_index counts x.spot.cell) && nat_lt moment (window_end_of x.key)) (totals_append xs ys)
     where
-      Q : OpenClaim → Type 0
-      Q y = moment < window_end_of y.key → sum_on new y.key ≡ charged y.key
+      t : Total
+      t = record { key = x.key; charged = slice_index counts x.spot.cell }
 
-      value : (moment < window_end_of x.key → slice_index counts x.spot.cell ≡ charged x.key) → (q : CounterKey)
-          → nat_lt moment (window_end_of x.key) ≡ true → same_counter x.key q ≡ true → sum_on new q ≡ charged q
-      value here q later same =
-          puts q ∙ (λ i. cond (later i && same i) (slice_index counts x.spot.cell) (sum_on old q)) ∙ here (opens moment (window_end_of x.key) later)
-          ∙ ap charged (same_is x.key q same)
+      by : (b : Bool) → open_totals moment counts (xs ++ ys) ≡ open_totals moment counts xs ++ open_totals moment counts ys
+          → cond b (t ∷ open_totals moment counts (xs ++ ys)) (open_totals moment counts (xs ++ ys))
+          ≡ cond b (t ∷ open_totals moment counts xs) (open_totals moment counts xs) ++ open_totals moment counts ys
+      by true e = ap (λ l. t ∷ l) e
+      by false e = e
 
-      stays : (q : CounterKey) → (nat_lt moment (window_end_of x.key) && same_counter x.key q) ≡ false → sum_on new q ≡ sum_on old q
-      stays q e = puts q ∙ ap (λ b. cond b (slice_index counts x.spot.cell) (sum_on old q)) e
-
-      by : (moment < window_end_of x.key → slice_index counts x.spot.cell ≡ charged x.key) → (q : CounterKey) (a : Bool)
-          → nat_lt moment (window_end_of x.key) ≡ a → (b : Bool) → same_counter x.key q ≡ b
-          → (sum_on old q ≡ 0) ⊎ (sum_on old q ≡ charged q) → (sum_on new q ≡ 0) ⊎ (sum_on new q ≡ charged q)
-      by here q true e true f o = inr (value here q e f)
-      by here q true e false f (inl z) = inl (stays q (λ i. e i && f i) ∙ z)
-      by here q true e false f (inr z) = inr (stays q (λ i. e i && f i) ∙ z)
-      by here q false e b f (inl z) = inl (stays q (ap (λ a. a && same_counter x.key q) e) ∙ z)
-      by here q false e b f (inr z) = inr (stays q (ap (λ a. a && same_counter x.key q) e) ∙ z)
-
-      kept : (moment < window_end_of x.key → slice_index counts x.spot.cell ≡ charged x.key) → (y : OpenClaim)
-          → (moment < window_end_of y.key → sum_on old y.key ≡ charged y.key) → Q y
-      kept here y old_is later = pick (nat_lt moment (window_end_of x.key)) refl (same_counter x.key y.key) refl
-        where
-          pick : (a : Bool) → nat_lt moment (window_end_of x.key) ≡ a → (b : Bool) → same_counter x.key y.key ≡ b → sum_on new y.key ≡ charged y.key
-          pick true e true f = value here y.key e f
-          pick true e false f = stays y.key (λ i. e i && f i) ∙ old_is later
-          pick false e b f = stays y.key (ap (λ a. a && same_counter x.key y.key) e) ∙ old_is later
-
-  -- totals of the sums are totals of what was charged
-  pub totals_charged : (xs : List OpenClaim) (sums : Sums) (ts : List Total) → AreSummed moment counts xs sums → AreTotals (sum_on sums) moment ts
-      → (charged : CounterKey → ℕ) → CountCharged charged moment counts xs → HaveClaims charged moment xs → AreTotals charged moment ts
-  totals_charged xs sums ts summed totals charged all claims =
-      let s = summed charged all in
-      record {
-        in_order = totals.in_order;
-        sums = each_more (λ (t : Total). (t.charged ≡ sum_on sums t.key) × (0 < t.charged) × (moment < window_end_of t.key))
-            (λ (t : Total). (t.charged ≡ charged t.key) × (0 < t.charged) × (moment < window_end_of t.key)) (λ t h. (which t h.0 h.1 (s.1 t.key), h.1, h.2)) ts totals.sums;
-        complete = λ q more later.
-            let c = claims q more later in
-            let at = each_at (λ (x : OpenClaim). moment < window_end_of x.key → sum_on sums x.key ≡ charged x.key) xs c.0 c.1 c.2 s.0 in
-            let is : sum_on sums q ≡ charged q = subst (λ (k : CounterKey). moment < window_end_of k → sum_on sums k ≡ charged k) c.3 at later in
-            totals.complete q (omega (arith, is, more)) later;
-      }
+  no_more : (q : CounterKey) (xs : List OpenClaim) → totals_on q (open_totals moment counts xs) ≤ open_claims_of q xs
+  no_more q [] = omega arith
+  no_more q (x ∷ xs) = by (nat_lt 0 (slice_index counts x.spot.cell) && nat_lt moment (window_end_of x.key)) (no_more q xs)
     where
-      which : (t : Total) → t.charged ≡ sum_on sums t.key → 0 < t.charged → (sum_on sums t.key ≡ 0) ⊎ (sum_on sums t.key ≡ charged t.key) → t.charged ≡ charged t.key
-      which t is more (inl z) = absurd (omega (arith, is, more, z))
-      which t is more (inr e) = is ∙ e
+      by : (b : Bool) → totals_on q (open_totals moment counts xs) ≤ open_claims_of q xs
+          → totals_on q (cond b (record { key = x.key; charged = slice_index counts x.spot.cell } ∷ open_totals moment counts xs) (open_totals moment counts xs))
+          ≤ one_if (same_counter x.key q) + open_claims_of q xs
+      by true le = omega arith
+      by false le = omega arith
+
+  module _ (charged : CounterKey → ℕ) where
+    abbrev IsTotal : Total → Type 0
+    IsTotal t = (t.charged ≡ charged t.key) × (0 < t.charged) × (moment < window_end_of t.key)
+
+    are_sums : (xs : List OpenClaim) → CountCharged charged moment counts xs → AllByRecursion IsTotal (open_totals moment counts xs)
+    are_sums [] h = tt
+    are_sums (x ∷ xs) h = by (nat_lt 0 (slice_index counts x.spot.cell)) refl (nat_lt moment (window_end_of x.key)) refl (are_sums xs h.1)
+      where
+        by : (a : Bool) → nat_lt 0 (slice_index counts x.spot.cell) ≡ a → (b : Bool) → nat_lt moment (window_end_of x.key) ≡ b
+            → AllByRecursion IsTotal (open_totals moment counts xs)
+            → AllByRecursion IsTotal (cond (a && b) (record { key = x.key; charged = slice_index counts x.spot.cell } ∷ open_totals moment counts xs)
+            (open_totals moment counts xs))
+        by true e true f more =
+            ((h.0 (less moment (window_end_of x.key) f), less 0 (slice_index counts x.spot.cell) e, less moment (window_end_of x.key) f), more)
+        by true e false f more = more
+        by false e b f more = more
+
+  -- a claim whose cell counts something, of an open window, has a total
+  has_total : (q : CounterKey) (xs : List OpenClaim) (i : ℕ) (x : OpenClaim) → get_elem? xs i ≡ some x → q ≡ x.key → 0 < slice_index counts x.spot.cell
+      → moment < window_end_of x.key → list_any (λ t. same_counter q t.key) (open_totals moment counts xs) ≡ true
+  has_total q [] i x at is more later = absurd (some-ne-none x (sym at))
+  has_total q (y ∷ xs) zero x at is more later =
+      let e : x ≡ y = sym (some-injective y x at) in
+      let counted : nat_lt 0 (slice_index counts y.spot.cell) ≡ true
+      = is_less 0 (slice_index counts y.spot.cell) (subst (λ (z : OpenClaim). 0 < slice_index counts z.spot.cell) e more) in
+      let live : nat_lt moment (window_end_of y.key) ≡ true
+      = is_less moment (window_end_of y.key) (subst (λ (z : OpenClaim). moment < window_end_of z.key) e later) in
+      let same : same_counter q y.key ≡ true = is_same q y.key (is ∙ ap (λ (z : OpenClaim). z.key) e) in
+      rw (counted, live, same) refl
+  has_total q (y ∷ xs) (suc i) x at is more later =
+      by (nat_lt 0 (slice_index counts y.spot.cell) && nat_lt moment (window_end_of y.key)) (has_total q xs i x at is more later)
+    where
+      by : (b : Bool) → list_any (λ t. same_counter q t.key) (open_totals moment counts xs) ≡ true
+          → list_any (λ t. same_counter q t.key)
+          (cond b (record { key = y.key; charged = slice_index counts y.spot.cell } ∷ open_totals moment counts xs) (open_totals moment counts xs)) ≡ true
+      by true h = either (same_counter q y.key) (list_any (λ t. same_counter q t.key) (open_totals moment counts xs)) h
+      by false h = h
+
+  -- the counts of open claims, one for each counter, are totals of what was charged
+  pub have_totals : (xs : List OpenClaim) → ((q : CounterKey) → open_claims_of q xs ≤ 1) → (charged : CounterKey → ℕ)
+      → CountCharged charged moment counts xs → HaveClaims charged moment xs → HaveTotals charged moment (open_totals moment counts xs)
+  have_totals xs one charged all claims = record {
+    once = λ q. let le = no_more q xs in let o = one q in omega arith;
+    sums = are_sums charged xs all;
+    complete = λ q more later.
+        let c = claims q more later in
+        let x = c.1 in
+        let live : moment < window_end_of x.key = subst (λ (k : CounterKey). moment < window_end_of k) (sym c.3) later in
+        let is = each_at (λ (y : OpenClaim). moment < window_end_of y.key → slice_index counts y.spot.cell ≡ charged y.key) xs c.0 x c.2 all live in
+        let value : charged x.key ≡ charged q = ap charged c.3 in
+        has_total q xs c.0 x c.2 (sym c.3) (omega (arith, is, value, more)) live;
+  }

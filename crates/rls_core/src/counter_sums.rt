@@ -1,14 +1,12 @@
-ghost use Rattle.std.specs.Prelude.{◌≡◌, ◌<◌, ◌+◌, ℕ, [], length, if◌then◌else◌, Some, IfOk, OnOk, OnErr};
+ghost use Rattle.std.specs.Prelude.{◌≡◌, ◌<◌, ◌+◌, ℕ, [], length, if◌then◌else◌, Some, OnOk, OnErr};
 ghost use Rattle.std.specs.BTreeMap.{is_at, insert_entry};
 ghost use Rattle.std.specs.List.Sorted.{IsStrictlySortedBy};
 ghost use Rattle.std.specs.Map.{lookup, keys_of};
 ghost use Rattle.rate_types.specs.Counters.{key_cmp, same_counter};
 ghost use Rattle.rate_types.specs.declared.counter_key.CounterKey.{CounterKey};
 ghost use Rattle.window_keys.specs.Counter.{window_end_of};
-ghost use Rattle.rls_core.specs.Totals.{AreTotals};
-ghost use Rattle.rls_core.specs.Sums.{AreOpen, charged_totals, has_sum, sum_on};
+ghost use Rattle.rls_core.specs.Sums.{AreOpen, has_sum};
 
-use crate::{Total, Totals};
 use rate_types::{CounterKey, OutOfMemory};
 use std::alloc::Global;
 use std::collections::BTreeMap;
@@ -17,7 +15,6 @@ use std::marker::Model;
 /// A sum for each of some counters, in key order. Contracts see the list of the counters with their sums.
 #[derive(Drop)]
 pub struct CounterSums {
-    alloc: Global,
     sums: BTreeMap<CounterKey, u64>,
 }
 
@@ -35,7 +32,6 @@ impl CounterSums {
         ensures { result ≡ [] }
     {
         CounterSums {
-            alloc,
             sums: BTreeMap::new(alloc),
         }
     }
@@ -59,31 +55,5 @@ impl CounterSums {
     {
         self.sums.insert(counter, sum)?;
         Ok(())
-    }
-
-    // The counters that were charged, with what was charged on them.
-    fn charged(&self) -> Result<Totals, OutOfMemory>
-        ensures { IfOk result (λ ts. ts ≡ charged_totals self.now) }
-    {
-        let mut totals = Vec::new(self.alloc);
-        'sums: for (counter, sum) in self.sums.iter() {
-            if *sum > 0 {
-                totals.push(Total {
-                    key: counter.copy()?,
-                    charged: *sum,
-                })?;
-            }
-        }
-        Ok(Totals::of(totals))
-    }
-
-    /// The counters whose sum isn't 0, in key order. At a moment at which all windows are open they are the totals of open
-    /// windows.
-    pub fn totals(&self) -> Result<Totals, OutOfMemory>
-        ensures { IfOk result (λ ts. (m : ℕ) → AreOpen m self.now → AreTotals (sum_on self.now) m ts) }
-    {
-        let _number = self.len();
-        let totals = self.charged()?;
-        Ok(totals)
     }
 }

@@ -18,6 +18,7 @@ use Rattle.counter_cells.specs.declared.view.CellView.{CellView}
 use Rattle.counter_directory.specs.declared.claim.Claim.{Claim}
 use Rattle.counter_directory.specs.declared.closed.OpenClaim.{OpenClaim}
 use Rattle.counter_directory.specs.Claims.{IsLawfulClaims}
+use Rattle.counter_directory.specs.Open.{open_claims_of}
 use Rattle.rate_limiter.specs.Passes.{LimiterId, LimiterView}
 use Rattle.rate_limiter.specs.Closing.{cells_of}
 use Rattle.rate_limiter.specs.Values.{HasSight}
@@ -113,6 +114,7 @@ totals_of-requires g c =
       cells = subst (All (λ (x : OpenClaim). x.spot.cell < length c.items.result.now)) (sym c.into_items.ensures)
           (cells_there g.N.CellNaming.setup.cells c.self.inside.directory.claims_max c.close-closed_directory.result.last c.close-closed_directory.result.claims
           c.close-closed_directory.ensures.lawful list c.in_ok-list.ensures (length c.items.result.now) (ap length c.items.ensures ∙ c.in_ok-closed_cells.ensures.length));
+      once = subst (λ (l : List OpenClaim). (q : CounterKey) → open_claims_of q l ≤ 1) (sym c.into_items.ensures) c.in_ok-list.ensures.once;
     }
 
 pub returns-clause-totals : goal.returns-clause-totals
