@@ -11,7 +11,7 @@ pub record HasRead {X : Type 0} (each : X → List Token → List Token) (P : X 
   pub many : length xs ≡ count
   pub good : AllByRecursion P xs
 
-all_more : {X : Type 0} (P : X → Type 0) (xs : List X) (x : X) → AllByRecursion P xs → P x → AllByRecursion P (xs ++ x ∷ [])
+pub all_more : {X : Type 0} (P : X → Type 0) (xs : List X) (x : X) → AllByRecursion P xs → P x → AllByRecursion P (xs ++ x ∷ [])
 all_more P [] x h p = (p, tt)
 all_more P (y ∷ ys) x h p = (h.0, all_more P ys x h.1 p)
 

@@ -11,7 +11,7 @@ use rate_types::{Descriptor, Entries, Entry, OutOfMemory, Request, Text};
 use std::alloc::Global;
 
 // A copy of a text that isn't too long.
-fn copy_of(alloc: Global, text: &str) -> Result<Text, OutOfMemory>
+pub(crate) fn copy_of(alloc: Global, text: &str) -> Result<Text, OutOfMemory>
     requires { length text.now ≤ LONGEST_TEXT }
     ensures { IfOk result (λ t. t ≡ text.now) }
 {
@@ -121,7 +121,7 @@ fn read_descriptors(
 
 // The request of these parts, with the hits that a request has that names none.
 #[tactic(auto, using(crate::proofs::Making::request_made))]
-fn request_of(domain: Text, descriptors: Vec<Descriptor>) -> Option<Request>
+pub(crate) fn request_of(domain: Text, descriptors: Vec<Descriptor>) -> Option<Request>
     requires domain { 1 ≤ length domain }
     requires some { 1 ≤ length descriptors.items }
     requires few { length descriptors.items ≤ MOST_DESCRIPTORS }
