@@ -67,8 +67,11 @@ pair_decides p q = (
       refl,
 )
 
+pub pairs_decides : (a b : List Pair) → Decides (same_pairs a b) (a ≡ b)
+pairs_decides = pointwise_decides pair_decides
+
 pub same_by_eq : (a b : List Pair) → same_pairs a b ≡ true → a ≡ b
-same_by_eq a b is = (pointwise_decides pair_decides a b).0 is
+same_by_eq a b is = (pairs_decides a b).0 is
 
 pub eq_of_same : (a b : List Pair) → a ≡ b → same_pairs a b ≡ true
-eq_of_same a b is = (pointwise_decides pair_decides a b).1 is
+eq_of_same a b is = (pairs_decides a b).1 is

@@ -1,5 +1,5 @@
 pub mod Pairs
+pub mod Laws
 pub mod Hashes
 pub mod Parts
 pub mod Covering
-pub mod Laws

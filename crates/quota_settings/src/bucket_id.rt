@@ -116,6 +116,6 @@ impl Hash for BucketId {
     ghost respects_eq = { pairs_alike.fed };
 
     fn hash<H: Hasher>(&self, state: &mut H) {
-        self.items().hash(state);
+        Pair::hash_slice(self.items(), state);
     }
 }

@@ -11,6 +11,7 @@ mod bucket_id;
 mod pair;
 mod part;
 mod settings;
+mod text_words;
 
 pub use attributes::Attributes;
 pub use bucket_id::BucketId;
