@@ -1,10 +1,13 @@
 -- What the tokens of a line that checks a request in the usual form are read as.
-use Rattle.std.proofs.Common.{◌≡◌, ℕ, List, [], ◌∷◌, Some, codes, arith, refl, ap, ◌∙◌}
+use Rattle.std.proofs.Common.{◌≡◌, ℕ, List, [], ◌∷◌, ◌++◌, Some, codes, arith, refl, sym, ap, ◌∙◌}
 use Rattle.std.specs.Str.{IsUtf8}
 use Rattle.json.specs.Json as json
 use Rattle.json.specs.Lex.{tokens}
 use Rattle.json.specs.Token.{end_object, begin_object, key}
 use Rattle.json.specs.Tree.{json_tokens}
+use Rattle.json.specs.Print.{print, ArePrintable}
+use Rattle.json.proofs.OnLiterals.{json_on_literals}
+use Rattle.json.proofs.Printed.Tokens.{tokens-print}
 use Rattle.serde_json.specs.Data.{Data, object, member, no_members}
 use Rattle.serde_json.specs.Read.{of_json}
 use Rattle.serde_json.proofs.OnLiterals.{serde_json_on_literals}
@@ -17,8 +20,9 @@ use Rattle.request_tokens.specs.Usual.{IsUsual}
 use Rattle.request_tokens.proofs.Datas.{request_json, request_data, request_is, request_deep, request_read}
 use Rattle.request_tokens.proofs.Saying.{request_says}
 use Rattle.request_tokens.proofs.Laws.{document_of}
+use Rattle.request_tokens.proofs.Printing.{request_printed, request_printable}
 use Rattle.drive_run.specs.Script.{line, line_at, line_in, check_in, line_of}
-use Rattle.drive_run.specs.Usual.{check_tokens}
+use Rattle.drive_run.specs.Usual.{check_tokens, check_text}
 
 abbrev line_json : RequestParts → json.Json
 line_json r = json.object (json.member (codes "check") (request_json r) json.no_members)
@@ -41,3 +45,16 @@ pub usual_line : (bytes : List ℕ) (r : RequestParts) → IsUtf8 bytes → toke
 unfolding line
 usual_line bytes r utf8 same usual =
     rw (document_of bytes (line_json r) (line_data r) utf8 (same ∙ line_is r) (omega (arith, request_deep r)) (line_read r), line_says r usual) refl
+
+-- ---- a line without spaces and escapes
+
+check_printed : (r : RequestParts) → print (check_tokens r) ≡ check_text r
+unfolding json_on_literals
+check_printed r = ap (λ l. codes "{\"check\":" ++ l) (request_printed r (end_object ∷ []))
+
+check_printable : (r : RequestParts) → ArePrintable (check_tokens r)
+unfolding ArePrintable
+check_printable r = (tt, (tt, request_printable r (end_object ∷ []) (tt, tt)))
+
+pub compact_tokens : (text : List ℕ) (r : RequestParts) → text ≡ check_text r → tokens text ≡ check_tokens r
+compact_tokens text r same = ap tokens (same ∙ sym (check_printed r)) ∙ tokens-print (check_tokens r) (check_printable r)
