@@ -24,7 +24,7 @@ ghost use Rattle.counter_cells.specs.Opened.{table_of, setup_of};
 ghost use Rattle.counter_directory.specs.Passes.{list_of};
 
 use counter_cells::{CellNaming, CellPass, Cells, OpenedCells};
-use counter_directory::{Acquired, Directory, DirectoryPass, give_back};
+use counter_directory::{Acquired, Directory, DirectoryPass, SoughtName, give_back};
 use rate_types::{CounterName, Entries, Entry, Seconds, Text, Unit};
 use std::alloc::Global;
 use std::collections::HashMap;
@@ -101,7 +101,7 @@ fn take_each<N: CellNaming, R: Wait>(
             &mut worker.pass,
             cells,
             &mut worker.cell_pass,
-            &names[place..place + 1],
+            &[SoughtName::of(&names[place])],
             &mut acquired,
         ) else {
             return false;

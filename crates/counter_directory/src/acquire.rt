@@ -4,8 +4,8 @@ ghost use Rattle.counter_directory.specs.Acquired.{Acquires};
 
 use crate::acquired::{AcquireFault, Acquired};
 use crate::claim_table::KeptTable;
+use crate::sought_name::SoughtName;
 use counter_cells::{CellNaming, CellPass, Cells};
-use rate_types::CounterName;
 use std::sync::Wait;
 use told_list::Act;
 
@@ -15,7 +15,7 @@ pub(crate) struct Acquire<'a, N: CellNaming, R: Wait> {
     pub rt: &'a R,
     pub cells: &'a Cells<N>,
     pub cell_pass: &'a mut CellPass<N>,
-    pub names: &'a [CounterName],
+    pub names: &'a [SoughtName<'a>],
     pub most_held: usize,
     /// Where the moment and the spots of the pins are written.
     pub acquired: &'a mut Acquired,

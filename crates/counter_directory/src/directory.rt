@@ -7,9 +7,10 @@ use crate::acquired::{AcquireFault, Acquired};
 use crate::claim_table::{ClaimTable, KeptTable};
 use crate::closed::ClosedDirectory;
 use crate::pass::{DirectoryPass, passes_of};
+use crate::sought_name::SoughtName;
 use counter_cells::{CellClaimer, CellNaming, CellPass, Cells};
+use rate_types::OutOfMemory;
 use rate_types::limits::MOST_PINS;
-use rate_types::{CounterName, OutOfMemory};
 use std::alloc::Global;
 use std::boxed::Box;
 use std::hash::RandomState;
@@ -90,7 +91,7 @@ impl<N: CellNaming> Directory<N> {
         pass: &mut DirectoryPass<N>,
         cells: &Cells<N>,
         cell_pass: &mut CellPass<N>,
-        names: &[CounterName],
+        names: &[SoughtName<'_>],
         acquired: &mut Acquired,
     ) -> Result<(), AcquireFault>
         requires pass { list_of pass.old ≡ self.now.list_id }

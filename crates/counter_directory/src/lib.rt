@@ -23,6 +23,7 @@ mod keys;
 mod pass;
 mod pins;
 mod ring;
+mod sought_name;
 mod ticks;
 mod unit_index;
 
@@ -32,3 +33,4 @@ pub use closed::{ClosedDirectory, OpenClaim};
 pub use directory::Directory;
 pub use pass::DirectoryPass;
 pub use pins::give_back;
+pub use sought_name::SoughtName;

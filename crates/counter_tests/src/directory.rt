@@ -6,7 +6,7 @@ ghost use Rattle.counter_directory.specs.Passes.{list_of};
 ghost use Rattle.counter_directory.specs.Spots.{spots_on};
 
 use counter_cells::{CellNaming, CellPass, Cells, OpenedCells, Spot};
-use counter_directory::{AcquireFault, Acquired, Directory, DirectoryPass, give_back};
+use counter_directory::{AcquireFault, Acquired, Directory, DirectoryPass, SoughtName, give_back};
 use rate_types::{CounterName, Entries, Entry, Seconds, Text, Unit};
 use std::alloc::Global;
 use std::hash::RandomState;
@@ -113,7 +113,7 @@ fn pin<N: CellNaming, R: Wait>(
     directory: &Directory<N>,
     cells: &Cells<N>,
     worker: &mut Worker<N>,
-    names: &[CounterName],
+    names: &[SoughtName<'_>],
 ) -> Result<Acquired, AcquireFault>
     requires pass { list_of worker.old.pass ≡ directory.now.list_id }
     requires cell_pass { worker.old.cell_pass.good ≡ [] }
@@ -143,7 +143,7 @@ fn take<N: CellNaming, R: Wait>(
     directory: &Directory<N>,
     cells: &Cells<N>,
     worker: &mut Worker<N>,
-    names: &[CounterName],
+    names: &[SoughtName<'_>],
 ) -> Result<Acquired, AcquireFault>
     requires pass { list_of worker.old.pass ≡ directory.now.list_id }
     requires cell_pass { worker.old.cell_pass.good ≡ [] }
@@ -170,7 +170,8 @@ fn take_one<N: CellNaming, R: Wait>(
     ensures pass { list_of worker.new.pass ≡ directory.now.list_id }
     ensures cell_pass { worker.new.cell_pass.good ≡ [] }
 {
-    let names = [name(alloc, value).ok_or(AcquireFault::OutOfMemory)?];
+    let name = name(alloc, value).ok_or(AcquireFault::OutOfMemory)?;
+    let names = [SoughtName::of(&name)];
     let acquired = take(rt, directory, cells, worker, names.as_slice())?;
     match acquired.spots.as_slice() {
         [spot] => Ok((acquired.moment.get(), *spot)),
@@ -284,7 +285,8 @@ fn take_beside_a_pin<N: CellNaming, R: Abort + RandomSource + Wait>(
     requires one { (list_of one.old.pass ≡ directory.now.list_id) × (one.old.cell_pass.good ≡ []) }
     requires other { (list_of other.old.pass ≡ directory.now.list_id) × (other.old.cell_pass.good ≡ []) }
 {
-    let names = [name(alloc, "a").ok_or("memory")?];
+    let name = name(alloc, "a").ok_or("memory")?;
+    let names = [SoughtName::of(&name)];
     let Ok(held) = pin(rt, directory, cells, one, names.as_slice()) else {
         return Err("a cell".into());
     };
@@ -335,7 +337,8 @@ fn pin_one_name_twice<N: CellNaming, R: Abort + RandomSource + Wait>(
     requires cell_pass { worker.old.cell_pass.good ≡ [] }
 {
     let one = name(alloc, "a").ok_or("memory")?;
-    let names = [one, name(alloc, "a").ok_or("memory")?];
+    let other = name(alloc, "a").ok_or("memory")?;
+    let names = [SoughtName::of(&one), SoughtName::of(&other)];
     let Ok(acquired) = pin(rt, directory, cells, worker, names.as_slice()) else {
         return Err("a cell".into());
     };
@@ -389,8 +392,10 @@ fn take_thrice<N: CellNaming, R: Abort + Wait>(
     requires pass { list_of worker.old.pass ≡ directory.now.list_id }
     requires cell_pass { worker.old.cell_pass.good ≡ [] }
 {
-    let one = [name_for(alloc, "a", unit).ok_or("memory")?];
-    let other = [name_for(alloc, "b", unit).ok_or("memory")?];
+    let one = name_for(alloc, "a", unit).ok_or("memory")?;
+    let one = [SoughtName::of(&one)];
+    let other = name_for(alloc, "b", unit).ok_or("memory")?;
+    let other = [SoughtName::of(&other)];
     let first = take(rt, directory, cells, worker, one.as_slice()).is_ok();
     cells.tick(
         &mut worker.cell_pass,

@@ -12,14 +12,14 @@ ghost use Rattle.rate_limiter.specs.Sought.{AreNoted};
 
 use crate::known_counters::KnownCounters;
 use counter_cells::{CellNaming, CellPass, Cells, Spot};
-use counter_directory::{AcquireFault, DirectoryPass, give_back};
-use rate_types::{CounterName, OutOfMemory};
+use counter_directory::{AcquireFault, DirectoryPass, SoughtName, give_back};
+use rate_types::OutOfMemory;
 
 // Notes the counters that are pinned at the pass's moment. Where there is no memory, those before are noted.
 fn note_names<N: CellNaming>(
     claims: &DirectoryPass<N>,
     known: &mut KnownCounters,
-    names: &[CounterName],
+    names: &[SoughtName<'_>],
     spots: &[Spot],
     cell_pass: &CellPass<N>,
 ) -> Result<(), OutOfMemory>
@@ -37,7 +37,13 @@ fn note_names<N: CellNaming>(
     let moment = cell_pass.moment();
     'names: for place in 0..names.len() {
         let name = &names[place];
-        known.note(&name.domain, &name.entries, name.unit, moment, spots[place])?;
+        known.note(
+            name.domain(),
+            name.entries(),
+            name.unit(),
+            moment,
+            spots[place],
+        )?;
     }
     Ok(())
 }
@@ -48,7 +54,7 @@ pub(crate) fn note_pinned<N: CellNaming>(
     cells: &Cells<N>,
     claims: &DirectoryPass<N>,
     known: &mut KnownCounters,
-    names: &[CounterName],
+    names: &[SoughtName<'_>],
     spots: &[Spot],
     cell_pass: &mut CellPass<N>,
 ) -> Result<(), AcquireFault>

@@ -2,15 +2,16 @@
 ghost use Rattle.std.specs.Prelude.{◌≡◌, ◌≤◌, ◌++◌, length, IfOk, OnOk};
 ghost use Rattle.rate_limiter.specs.Planned.{name_under, names_under};
 
-use rate_types::{CounterName, Descriptor, OutOfMemory, Request};
+use counter_directory::SoughtName;
+use rate_types::{Descriptor, OutOfMemory, Request};
 use rule_lookup::Found;
 use std::alloc::Global;
 
 // Adds the name of a descriptor's counter, where it has a limit.
-fn add_name(
-    names: &mut Vec<CounterName>,
-    request: &Request,
-    descriptor: &Descriptor,
+fn add_name<'a>(
+    names: &mut Vec<SoughtName<'a>>,
+    request: &'a Request,
+    descriptor: &'a Descriptor,
     found: Found,
 ) -> Result<(), OutOfMemory>
     ensures { OnOk result (names.new.items ≡ names.old.items ++ name_under request.now descriptor.now found) }
@@ -19,24 +20,19 @@ fn add_name(
         Found::NoRule => Ok(()),
         Found::Unlimited { .. } => Ok(()),
         Found::Limited { unit, .. } => {
-            let name = CounterName {
-                domain: request.domain().copy()?,
-                entries: descriptor.entries.copy()?,
-                unit,
-            };
-            names.push(name)?;
+            names.push(SoughtName::new(request.domain(), &descriptor.entries, unit))?;
             Ok(())
         }
     }
 }
 
-/// The names of the counters of the descriptors that have a limit, in order.
-pub(crate) fn names_of(
+/// The names of the counters of the descriptors that have a limit, in order. Their parts are those of the request.
+pub(crate) fn names_of<'a>(
     alloc: Global,
-    request: &Request,
-    descriptors: &[Descriptor],
+    request: &'a Request,
+    descriptors: &'a [Descriptor],
     rules: &[Found],
-) -> Result<Vec<CounterName>, OutOfMemory>
+) -> Result<Vec<SoughtName<'a>>, OutOfMemory>
     requires { length rules.now ≡ length descriptors.now }
     ensures names { IfOk result (λ v. v.items ≡ names_under request.now descriptors.now rules.now) }
 {

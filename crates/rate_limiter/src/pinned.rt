@@ -9,9 +9,9 @@ use crate::names::names_of;
 use crate::sought::pin_known;
 use arrayvec::ArrayVec;
 use counter_cells::{CellNaming, CellPass, Spot};
-use counter_directory::{AcquireFault, Acquired, DirectoryPass};
+use counter_directory::{AcquireFault, Acquired, DirectoryPass, SoughtName};
 use rate_types::limits::MOST_DESCRIPTORS;
-use rate_types::{CounterName, Descriptor, Request};
+use rate_types::{Descriptor, Request};
 use rls_core::CheckFault;
 use rule_lookup::Found;
 use std::alloc::Global;
@@ -35,7 +35,7 @@ impl<N: CellNaming> Limiter<N> {
         rt: &R,
         claims: &mut DirectoryPass<N>,
         cell_pass: &mut CellPass<N>,
-        names: &[CounterName],
+        names: &[SoughtName<'_>],
         acquired: &mut Acquired,
     ) -> Result<(), AcquireFault>
         requires pass { list_of claims.old ≡ self.now.id.claims }

@@ -9,9 +9,10 @@ ghost use Rattle.counter_directory.specs.Answered.{answered};
 use crate::acquired::{AcquireFault, Acquired};
 use crate::claim_table::ClaimTable;
 use crate::pins::pin_all;
+use crate::sought_name::SoughtName;
 use crate::ticks::tick_up;
 use counter_cells::{CellNaming, CellPass, Cells};
-use rate_types::{CounterName, Seconds};
+use rate_types::Seconds;
 use std::sync::Wait;
 
 impl<N: CellNaming> ClaimTable<N> {
@@ -33,7 +34,7 @@ impl<N: CellNaming> ClaimTable<N> {
         rt: &R,
         cells: &Cells<N>,
         cell_pass: &mut CellPass<N>,
-        names: &[CounterName],
+        names: &[SoughtName<'_>],
         most_held: usize,
         acquired: &mut Acquired,
     ) -> Result<(), AcquireFault>

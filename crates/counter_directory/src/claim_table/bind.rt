@@ -16,6 +16,7 @@ ghost use Rattle.counter_directory.specs.Acquiring.{Binds, HasBeenTold, IsUnclai
 use crate::acquired::AcquireFault;
 use crate::claim_table::ClaimTable;
 use crate::keys::key_at;
+use crate::sought_name::SoughtName;
 use crate::unit_index::{make_room, turn_all};
 use arrayvec::ArrayVec;
 use counter_cells::{CellNaming, CellPass, Cells, Spot};
@@ -95,7 +96,7 @@ impl<N: CellNaming> ClaimTable<N> {
         rt: &R,
         cells: &Cells<N>,
         cell_pass: &mut CellPass<N>,
-        names: &[CounterName],
+        names: &[SoughtName<'_>],
         first: usize,
         most_held: usize,
     ) -> Result<Spot, AcquireFault>
@@ -139,7 +140,7 @@ impl<N: CellNaming> ClaimTable<N> {
         rt: &R,
         cells: &Cells<N>,
         cell_pass: &mut CellPass<N>,
-        names: &[CounterName],
+        names: &[SoughtName<'_>],
         most_held: usize,
         spots: &mut ArrayVec<Spot, 32>,
     ) -> Result<(), AcquireFault>

@@ -6,16 +6,17 @@ ghost use Rattle.counter_directory.specs.Keys.{key_at, keys_at, key_count, IsMis
 ghost use Rattle.counter_directory.specs.Acquiring.{AddsMissing, IsUnclaimedAt};
 
 use crate::claim_table::ClaimTable;
+use crate::sought_name::SoughtName;
 use counter_cells::CellNaming;
 use rate_types::{CounterName, OutOfMemory};
 use std::alloc::Global;
 
 // Whether the name is among these.
-fn contains(names: &[CounterName], name: &CounterName) -> bool
+fn contains(names: &[CounterName], name: &SoughtName<'_>) -> bool
     ensures { (m : ℕ) → result ≡ nat_lt 0 (key_count (key_at m name.now) (keys_at m names.now)) }
 {
     for other in names {
-        if other == name {
+        if SoughtName::of(other) == *name {
             return true;
         }
     }
@@ -26,7 +27,7 @@ impl<N: CellNaming> ClaimTable<N> {
     // Adds the name where its counter has no claim and it isn't there yet.
     fn add_missing(
         &self,
-        name: &CounterName,
+        name: &SoughtName<'_>,
         missing: &mut Vec<CounterName>,
     ) -> Result<(), OutOfMemory>
         requires { vec_len missing.old < vec_capacity missing.old }
@@ -50,7 +51,7 @@ impl<N: CellNaming> ClaimTable<N> {
     pub(crate) fn missing(
         &self,
         alloc: Global,
-        names: &[CounterName],
+        names: &[SoughtName<'_>],
         first: usize,
     ) -> Result<Vec<CounterName>, OutOfMemory>
         requires first { IsUnclaimedAt first (keys_at self.now.pool.last names.now) self.now.pool.claims }

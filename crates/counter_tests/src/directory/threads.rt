@@ -6,7 +6,7 @@ ghost use Rattle.counter_directory.specs.Passes.{list_of};
 use super::lists::may_be_open;
 use super::{Worker, name, open, take};
 use counter_cells::{CellNaming, Cells, OpenedCells};
-use counter_directory::{Directory, DirectoryPass};
+use counter_directory::{Directory, DirectoryPass, SoughtName};
 use rate_types::{CounterName, Seconds};
 use std::alloc::Global;
 use std::marker::Brand;
@@ -28,7 +28,7 @@ fn take_in_some_window<N: CellNaming, R: Wait>(
     directory: &Directory<N>,
     cells: &Cells<N>,
     worker: &mut Worker<N>,
-    names: &[CounterName],
+    names: &[SoughtName<'_>],
 ) -> Option<()>
     requires pass { list_of worker.old.pass ≡ directory.now.list_id }
     requires cell_pass { worker.old.cell_pass.good ≡ [] }
@@ -61,7 +61,8 @@ fn take_often<N: CellNaming, R: Wait>(
     ensures { IfSome result (λ p. list_of p ≡ directory.now.list_id) }
 {
     for round in 0..2_500u32 {
-        let names = names_of(alloc, first + round)?;
+        let both = names_of(alloc, first + round)?;
+        let names = [SoughtName::of(&both[0]), SoughtName::of(&both[1])];
         take_in_some_window(rt, directory, cells, &mut worker, names.as_slice())?;
     }
     Some(worker.pass)

@@ -22,12 +22,17 @@ names-preserved g c =
     let v = c.args.cell_pass.now in
     let m = c.moment-moment.result in
     let i = c.names.place in
-    let name = c.index-names-place.result in
+    let found = c.index-names-place.result in
+    let name : CounterName = record { domain = c.domain.result.now; entries = c.entries.result.now; unit = c.unit.result } in
+    let is : name ≡ found
+    = ap (λ d. record { domain = d; entries = c.entries.result.now; unit = c.unit.result }) c.domain.ensures
+    ∙ ap (λ e. record { domain = found.domain; entries = e; unit = c.unit.result }) c.entries.ensures
+    ∙ ap (λ u. record { domain = found.domain; entries = found.entries; unit = u }) c.unit.ensures in
     let within : i < length names = omega arith in
     let there : i < length spots = omega (arith, c.requires.count) in
     let q = key_at m name in
     let at : get_elem? (keys_at m names) i ≡ some q
-    = map_at (key_at m) names i name within ∙ ap (λ (n : CounterName). some (key_at m n)) (sym c.index-names-place.is) in
+    = map_at (key_at m) names i found within ∙ ap (λ (n : CounterName). some (key_at m n)) (sym c.index-names-place.is ∙ sym is) in
     let s = get_or spots i no_spot in
     record {
       known = note_bound cells claims v.pairs q s (key_of q) c.names.known c.note.new.self c.note.result c.note.ensures.noted c.note.ensures.refused refl (record {
@@ -38,7 +43,7 @@ names-preserved g c =
       seen = λ w h.
           note_seen w (key_of q) s c.names.known c.note.new.self c.note.result c.note.ensures.noted c.note.ensures.refused c.note.ensures.others
           (c.names.invariant.seen w h);
-      noted = within_next names i v.moment name s c.names.known c.note.new.self (item_at names i name within ∙ sym (ap (λ (n : CounterName). some n) c.index-names-place.is))
+      noted = within_next names i v.moment name s c.names.known c.note.new.self (item_at names i found within ∙ ap (λ (n : CounterName). some n) (sym c.index-names-place.is ∙ sym is))
           (omega (arith, c.requires.few))
           (subst (λ k. c.note.new.self ≡ noted (key_of (key_at k name)) s 0 c.names.known) c.moment-moment.ensures c.in_ok-note.ensures.noted) c.names.invariant.noted _ (omega arith);
     }
