@@ -33,7 +33,7 @@ shared_sync l N L G naming x y = declared_sync (shared.the_type l N L G naming) 
     search (sendable, numbers.the_sync) depth 12,
     (
       search (sendable, x) depth 12,
-      (search (sendable, y) depth 12, (seconds.the_sync, tt)),
+      (search (sendable, y) depth 12, (seconds.the_sync, (search sendable, tt))),
     ),
   ),
 )

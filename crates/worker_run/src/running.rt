@@ -167,6 +167,7 @@ pub fn run_lines<N: CellNaming + Send + Sync, L: ScriptLines, G: Gate, R: Thread
     ensures few { OnOk result (length (L.lines lines.now) ≤ MOST_LINES) }
 {
     let count = lines.count();
+    let room = count as usize / passes.len();
     let (numbers, drawers) = LineNumbers::make(alloc, u64::from(count), passes.len() as u32)?;
     let workers = workers_of(alloc, limiter, &numbers, passes, drawers)?;
     let run = Shared {
@@ -175,6 +176,7 @@ pub fn run_lines<N: CellNaming + Send + Sync, L: ScriptLines, G: Gate, R: Thread
         lines,
         gate,
         start,
+        room,
     };
     let done = work_all(rt, alloc, &run, workers);
     let Shared {
@@ -183,6 +185,7 @@ pub fn run_lines<N: CellNaming + Send + Sync, L: ScriptLines, G: Gate, R: Thread
         lines: _,
         gate: _,
         start: _,
+        room: _,
     } = run;
     let Parts {
         passes,

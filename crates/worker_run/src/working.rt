@@ -43,6 +43,8 @@ pub struct Shared<'a, N: CellNaming, L: ScriptLines, G: Gate> {
     pub lines: &'a L,
     pub gate: &'a G,
     pub start: Seconds,
+    /// For how many records a worker's journal has room at first.
+    pub room: usize,
 }
 
 // Reads the line with this number, counted from 0, runs it, and answers its record.
@@ -102,7 +104,7 @@ pub fn work<N: CellNaming, L: ScriptLines, G: Gate, R: Wait>(
     } = worker;
     let mut scratch = Scratch::new(alloc);
     let mut reply = Reply::new();
-    let mut journal = Records::new(alloc);
+    let mut journal = Records::of(Vec::with_capacity(alloc, run.room)?);
     'lines: while let Some(number) = run.numbers.draw(&mut drawer) {
         let record = run_drawn(
             rt,
