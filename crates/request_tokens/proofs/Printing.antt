@@ -1,5 +1,5 @@
 -- Compact texts are what is printed of the tokens, which are read back.
-use Rattle.std.proofs.Common.{◌≡◌, ℕ, List, [], ◌∷◌, ◌++◌, codes, true, false, refl, ap, ◌∙◌, append_assoc}
+use Rattle.std.proofs.Common.{◌≡◌, ℕ, List, [], ◌∷◌, ◌++◌, codes, true, false, refl, ap, ◌∙◌}
 use Rattle.json.specs.Token.{Token}
 use Rattle.json.specs.Print.{quoted, print_from, ArePrintable}
 use Rattle.json.proofs.OnLiterals.{json_on_literals}
