@@ -103,7 +103,7 @@ impl Hash for SoughtName<'_> {
     fn hash<H: Hasher>(&self, state: &mut H) {
         self.domain.hash(state);
         self.entries.hash(state);
-        self.unit.rank().hash(state);
+        u64::from(self.unit.rank()).hash(state);
     }
 }
 

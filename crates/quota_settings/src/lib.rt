@@ -11,7 +11,6 @@ mod bucket_id;
 mod pair;
 mod part;
 mod settings;
-mod text_words;
 
 pub use attributes::Attributes;
 pub use bucket_id::BucketId;

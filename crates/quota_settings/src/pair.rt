@@ -1,7 +1,6 @@
 ghost use Rattle.std.specs.Prelude.{◌≡◌, IfOk};
 ghost use Rattle.quota_settings.specs.Hashes.{pair_writes, pair_alike};
 
-use crate::text_words::hash_text;
 use rate_types::{OutOfMemory, Text};
 use std::hash::{Hash, Hasher};
 
@@ -30,7 +29,7 @@ impl Hash for Pair {
     ghost respects_eq = { pair_alike.fed };
 
     fn hash<H: Hasher>(&self, state: &mut H) {
-        hash_text(&self.name, state);
-        hash_text(&self.value, state);
+        self.name.hash(state);
+        self.value.hash(state);
     }
 }

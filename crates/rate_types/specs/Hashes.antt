@@ -1,5 +1,6 @@
 -- What hashing a text, an entry, entries, a counter's name or a counter writes; equal values write the same.
-use Rattle.std.specs.Prelude.{ℕ, ◌++◌, List}
+use Rattle.std.specs.Prelude.{ℕ, ◌-◌, ◌/◌, ◌%◌, ◌++◌, List, [], ◌∷◌, length, take, drop, nat_lt, slice_index_or, if◌then◌else◌}
+use Rattle.std.specs.Int.{from_le_bytes, w64}
 use Rattle.std.specs.Cmp.Lexicographic.{bytes_decides}
 use Rattle.std.specs.Hash.{HashWrites, Alike, same_Alike, on_Alike, and-Alike, items_Alike}
 use Rattle.std.specs.Hash as written
@@ -9,9 +10,26 @@ use Rattle.rate_types.specs.Counters.{same_text, same_entry, same_entries, same_
 use Rattle.rate_types.specs.declared.entries.Entry.{Entry}
 use Rattle.rate_types.specs.declared.counter_name.CounterName.{CounterName}
 use Rattle.rate_types.specs.declared.counter_key.CounterKey.{CounterKey}
+use Rattle.rate_types.specs.declared.text_words.TheConstants.{IN_FIRST_WORD}
 
+-- a text's length in two bytes and its first six bytes, with zeros behind its end
+abbrev pub first_word : List ℕ → ℕ
+first_word text = from_le_bytes w64 (length text % 256 ∷ length text / 256 % 256 ∷ slice_index_or text 0 0 ∷ slice_index_or text 1 0
+    ∷ slice_index_or text 2 0 ∷ slice_index_or text 3 0 ∷ slice_index_or text 4 0 ∷ slice_index_or text 5 0 ∷ [])
+
+-- less than eight bytes, with zeros behind them
+abbrev pub last_word : List ℕ → ℕ
+last_word bytes = from_le_bytes w64 (slice_index_or bytes 0 0 ∷ slice_index_or bytes 1 0 ∷ slice_index_or bytes 2 0 ∷ slice_index_or bytes 3 0
+    ∷ slice_index_or bytes 4 0 ∷ slice_index_or bytes 5 0 ∷ slice_index_or bytes 6 0 ∷ 0 ∷ [])
+
+-- bytes in whole words, and the word of those that are left
+abbrev pub rest_writes : List ℕ → HashWrites
+rest_writes bytes =
+    let whole = length bytes - length bytes % 8 in take whole bytes ∷ written.u64 (last_word (drop whole bytes))
+
+-- a text: its first word, and what is behind it
 abbrev pub text_writes : List ℕ → HashWrites
-text_writes text = written.str text
+text_writes text = written.u64 (first_word text) ++ (if nat_lt IN_FIRST_WORD (length text) then rest_writes (drop IN_FIRST_WORD text) else [])
 
 abbrev pub entry_writes : Entry → HashWrites
 entry_writes e = text_writes e.key ++ text_writes e.value
@@ -20,7 +38,7 @@ abbrev pub entries_writes : List Entry → HashWrites
 entries_writes = written.slice entry_writes
 
 abbrev pub name_writes : CounterName → HashWrites
-name_writes n = text_writes n.domain ++ (entries_writes n.entries ++ written.u8 (unit_rank n.unit))
+name_writes n = text_writes n.domain ++ (entries_writes n.entries ++ written.u64 (unit_rank n.unit))
 
 abbrev pub key_writes : CounterKey → HashWrites
 key_writes k = name_writes k.name ++ written.u64 k.start
@@ -36,7 +54,7 @@ entries_alike = items_Alike entry_alike
 
 pub name_alike : Alike same_name name_writes
 name_alike = and-Alike (on_Alike (λ n. n.domain) text_alike)
-    (and-Alike (on_Alike (λ n. n.entries) entries_alike) (on_Alike (λ n. unit_rank n.unit) (same_Alike written.u8 unsigned_Decides)))
+    (and-Alike (on_Alike (λ n. n.entries) entries_alike) (on_Alike (λ n. unit_rank n.unit) (same_Alike written.u64 unsigned_Decides)))
 
 pub key_alike : Alike same_counter key_writes
 key_alike = and-Alike (on_Alike (λ k. k.name) name_alike) (on_Alike (λ k. k.start) (same_Alike written.u64 unsigned_Decides))

@@ -2,6 +2,7 @@ pub mod Units
 pub mod UnitNames
 pub mod Places
 pub mod Durations
+pub mod Texts
 pub mod Counters
 pub mod Hashes
 pub mod Ledger

@@ -81,6 +81,6 @@ impl Hash for CounterName {
     fn hash<H: Hasher>(&self, state: &mut H) {
         self.domain.hash(state);
         self.entries.hash(state);
-        self.unit.rank().hash(state);
+        u64::from(self.unit.rank()).hash(state);
     }
 }

@@ -22,6 +22,7 @@ mod request;
 mod rule_id;
 mod seconds;
 mod text;
+mod text_words;
 mod unit;
 mod word;
 

@@ -9,7 +9,9 @@ ghost use Rattle.rate_types.specs.Hashes.{text_writes, text_alike};
 
 use crate::OutOfMemory;
 use crate::limits::LONGEST_TEXT;
-use std::alloc::Global;
+use crate::text_words::hash_bytes;
+use arrayvec::ArrayString;
+use std::alloc::{AllocError, Global};
 use std::cmp::Ordering;
 use std::hash::{Hash, Hasher};
 use std::marker::Model;
@@ -26,21 +28,32 @@ pub enum TextFault {
     OutOfMemory,
 }
 
+/// The most bytes of a text that lie in the value itself.
+const SHORT: usize = 16;
+
+/// Where the bytes of a text lie: in the value itself, so that a short text takes no memory of its own, or apart.
+#[derive(Drop)]
+enum Held {
+    Inside(ArrayString<SHORT>),
+    Apart(String),
+}
+
 /// A text of at most 1,024 bytes, in UTF-8: a domain, a key, a value or a name. Texts are compared byte by byte.
-#[derive(Clone, Drop)]
+#[derive(Drop)]
 pub struct Text {
-    text: String,
+    held: Held,
 }
 
 impl Model for Text {
-    ghost use Rattle.std.specs.Prelude.{◌≤◌, List, ℕ, length, string_bytes};
+    ghost use Rattle.std.specs.Prelude.{◌≤◌, List, ℕ, length};
+    ghost use Rattle.rate_types.specs.Texts.{held_bytes};
     ghost use Rattle.rate_types.specs.declared.limits.TheConstants.{LONGEST_TEXT};
 
     ghost Value = { List ℕ };
 
-    ghost view = { λ t. string_bytes t.text };
+    ghost view = { λ t. held_bytes t.held };
 
-    ghost invariant = { λ t. length (string_bytes t.text) ≤ LONGEST_TEXT };
+    ghost invariant = { λ t. length (held_bytes t.held) ≤ LONGEST_TEXT };
 }
 
 impl Text {
@@ -55,8 +68,15 @@ impl Text {
                 len: text.len() as u64,
             });
         }
+        if let Ok(short) = ArrayString::from(text) {
+            return Ok(Text {
+                held: Held::Inside(short),
+            });
+        }
         match String::from_str(alloc, text) {
-            Ok(text) => Ok(Text { text }),
+            Ok(text) => Ok(Text {
+                held: Held::Apart(text),
+            }),
             Err(_) => Err(TextFault::OutOfMemory),
         }
     }
@@ -66,7 +86,7 @@ impl Text {
         ensures { result ≡ [] }
     {
         Text {
-            text: String::new(alloc),
+            held: Held::Apart(String::new(alloc)),
         }
     }
 
@@ -78,7 +98,14 @@ impl Text {
         if text.len() > LONGEST_TEXT {
             return None;
         }
-        Some(Text { text })
+        match ArrayString::from(text.as_str()) {
+            Ok(short) => Some(Text {
+                held: Held::Inside(short),
+            }),
+            Err(_) => Some(Text {
+                held: Held::Apart(text),
+            }),
+        }
     }
 
     /// The text as std has it.
@@ -86,7 +113,10 @@ impl Text {
         ensures bytes { result.now ≡ self.now }
         ensures bound { length self.now ≤ LONGEST_TEXT }
     {
-        self.text.as_str()
+        match &self.held {
+            Held::Inside(text) => text.as_str(),
+            Held::Apart(text) => text.as_str(),
+        }
     }
 
     /// An equal text.
@@ -94,6 +124,18 @@ impl Text {
         ensures { IfOk result (λ t. t ≡ self.now) }
     {
         Ok(self.clone()?)
+    }
+}
+
+impl Clone for Text {
+    ghost is_clone = { λ text copy. copy ≡ text };
+
+    fn clone(&self) -> Result<Text, AllocError> {
+        let held = match &self.held {
+            Held::Inside(text) => Held::Inside(*text),
+            Held::Apart(text) => Held::Apart(text.clone()?),
+        };
+        Ok(Text { held })
     }
 }
 
@@ -141,6 +183,6 @@ impl Hash for Text {
     ghost respects_eq = { text_alike.fed };
 
     fn hash<H: Hasher>(&self, state: &mut H) {
-        self.as_str().hash(state);
+        hash_bytes(self.as_str().as_bytes(), state);
     }
 }

@@ -1,9 +1,8 @@
 // How a text is hashed: in words of eight bytes, since std hashes what doesn't fill one byte by byte.
 ghost use Rattle.std.specs.Prelude.{◌≡◌, slice_index_or};
 ghost use Rattle.std.specs.List.{fold};
-ghost use Rattle.quota_settings.specs.Hashes.{first_word, last_word, rest_writes, hashed_text};
+ghost use Rattle.rate_types.specs.Hashes.{first_word, last_word, rest_writes, text_writes};
 
-use rate_types::Text;
 use std::hash::Hasher;
 
 /// How many bytes of a text stand in its first word.
@@ -61,11 +60,11 @@ fn hash_rest<H: Hasher>(bytes: &[u8], state: &mut H)
     state.write_u64(last_word(last));
 }
 
-/// Hashes a text. Its length comes first, so that texts behind one another aren't hashed as others of the same bytes.
-pub(crate) fn hash_text<H: Hasher>(text: &Text, state: &mut H)
-    ensures { state.new ≡ fold H.write state.old (hashed_text text.now) }
+/// Hashes the bytes of a text. Their number comes first, so that texts behind one another aren't hashed as others of the
+/// same bytes.
+pub(crate) fn hash_bytes<H: Hasher>(bytes: &[u8], state: &mut H)
+    ensures { state.new ≡ fold H.write state.old (text_writes bytes.now) }
 {
-    let bytes = text.as_str().as_bytes();
     state.write_u64(first_word(bytes));
     if bytes.len() > IN_FIRST_WORD {
         hash_rest(&bytes[IN_FIRST_WORD..], state);
