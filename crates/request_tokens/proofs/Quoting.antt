@@ -1,4 +1,4 @@
--- Literals, and texts that are written without an escape.
+-- Texts that are written without an escape.
 use Rattle.std.proofs.Common.{◌≡◌, ◌==◌, ℕ, zero, suc, ◌<◌, List, [], ◌∷◌, ◌++◌, take, drop, get_or, position, Some, false, refl, sym, ap, ◌∙◌, append_assoc, arith}
 use Rattle.std.proofs.lemmas.Bool.{or_parts, eqb-false, ltb-false}
 use Rattle.std.proofs.lemmas.List.{take-append-drop}
@@ -6,10 +6,6 @@ use Rattle.std.proofs.lemmas.List.Quantifiers.{position-Some}
 use Rattle.json.specs.Print.{escape, quoted}
 use Rattle.json.specs.Run.{is_stop}
 use Rattle.json.proofs.Printed.Strings.{escape_byte_plain}
-
-pub goes_on : (text literal front rest : List ℕ) (n : ℕ) → front ≡ take n text → rest ≡ drop n text → front ≡ literal → text ≡ literal ++ rest
-goes_on text literal front rest n before behind same =
-    sym (take-append-drop n text) ∙ ap (λ l. l ++ drop n text) (sym before ∙ same) ∙ ap (λ l. literal ++ l) (sym behind)
 
 unescaped : (xs : List ℕ) (i : ℕ) → ((k : ℕ) → k < i → is_stop (get_or xs k 0) ≡ false) → escape (take i xs) ≡ take i xs
 unescaped [] zero plain = refl

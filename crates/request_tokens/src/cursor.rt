@@ -1,6 +1,6 @@
 // What is left of a text whose tokens are spelled in one way each: no space between them, and no escape.
 ghost use Rattle.std.specs.Prelude.{◌≡◌, ◌++◌, position, IfSome};
-ghost use Rattle.std.specs.Bool.{OnTrue, MatchBool};
+ghost use Rattle.std.specs.Bool.{MatchBool};
 ghost use Rattle.json.specs.Print.{quoted};
 ghost use Rattle.json.specs.Run.{is_stop};
 
@@ -34,15 +34,8 @@ fn first_stop(bytes: &[u8]) -> Option<usize>
     bytes.iter().position(|byte| is_stop(*byte))
 }
 
-// Whether two texts are the same.
-fn is_same(front: &str, literal: &str) -> bool
-    ensures { OnTrue result (front.now ≡ literal.now) }
-{
-    front == literal
-}
-
 impl<'a> Cursor<'a> {
-    ghost use Rattle.std.specs.Prelude.{[]};
+    ghost use Rattle.std.specs.Prelude.{◌≢◌, ℕ, List, []};
 
     /// All of a text is left.
     pub fn new(text: &'a str) -> Cursor<'a>
@@ -53,26 +46,23 @@ impl<'a> Cursor<'a> {
 
     /// Whether nothing is left.
     pub fn is_empty(&self) -> bool
-        ensures { OnTrue result (self.now ≡ []) }
+        ensures { MatchBool result (self.now ≡ []) (self.now ≢ []) }
     {
         self.rest.is_empty()
     }
 
     /// Takes a literal, where the text goes on with it.
-    #[tactic(auto, using(crate::proofs::Quoting::goes_on))]
     pub fn takes(&mut self, literal: &str) -> bool
-        ensures { MatchBool result (self.old ≡ literal.now ++ self.new) (self.new ≡ self.old) }
+        ensures { MatchBool result (self.old ≡ literal.now ++ self.new)
+            ((self.new ≡ self.old) × ((rest : List ℕ) → self.old ≢ literal.now ++ rest)) }
     {
-        let text = self.rest;
-        if !text.is_char_boundary(literal.len()) {
-            return false;
+        match self.rest.strip_prefix(literal) {
+            Some(rest) => {
+                self.rest = rest;
+                true
+            }
+            None => false,
         }
-        let (front, rest) = text.split_at(literal.len());
-        if !is_same(front, literal) {
-            return false;
-        }
-        self.rest = rest;
-        true
     }
 
     /// Takes a text with its quotes, where it is written without an escape.

@@ -1,0 +1,27 @@
+use Rattle.std.proofs.Common.{◌≡◌, ◌++◌, codes, IfSome, List, ℕ, Some, None, sym, ap, ◌∙◌, subst}
+use Rattle.std.specs.Prelude.{Vec}
+use Rattle.std.specs.declared.alloc.Global.{Global}
+use Rattle.std.specs.declared.option.Option.{Option}
+use Rattle.json.specs.Print.{quoted}
+use Rattle.rate_types.specs.Requests.{RequestParts}
+use Rattle.rate_types.specs.declared.request.Descriptor.{Descriptor}
+use Rattle.request_tokens.specs.Compact.{list_text, descriptor_text, request_text}
+use Rattle.request_tokens.proofs.compact.read_compact.Goals as goal
+
+-- the texts of the parts, one behind the other, are that of the request
+whole : (old mid last new domain : List ℕ) (descriptors : List Descriptor) (o : Option RequestParts)
+    → old ≡ codes "{\"domain\":" ++ (quoted domain ++ (codes ",\"descriptors\":[" ++ mid)) → mid ≡ list_text descriptor_text descriptors last → last ≡ codes "}" ++ new
+    → IfSome o (λ r. r ≡ record { domain = domain; descriptors = descriptors; hits = 1 }) → IfSome o (λ r. old ≡ request_text r new)
+whole old mid last new domain descriptors None opens lists closes same = tt
+whole old mid last new domain descriptors (Some r) opens lists closes same =
+    subst (λ (p : RequestParts). old ≡ request_text p new) (sym same)
+    (opens ∙ ap (λ l. codes "{\"domain\":" ++ (quoted domain ++ (codes ",\"descriptors\":[" ++ l))) (lists ∙ ap (list_text descriptor_text descriptors) closes))
+
+pub returns-clause-text : goal.returns-clause-text
+returns-clause-text c =
+    whole c.args.cursor.now c.take_domain.new.cursor c.read_descriptors.new.cursor c.takes.new.self c.in-Some.domain c.in-Some-2.descriptors.items c.request_of.result
+    (subst (λ (o : Option (List ℕ)). IfSome o (λ d. c.args.cursor.now ≡ codes "{\"domain\":" ++ (quoted d ++ (codes ",\"descriptors\":[" ++ c.take_domain.new.cursor))))
+    c.in-Some.is c.in_ok-domain.ensures.text)
+    (subst (λ (o : Option (Vec Descriptor Global)). IfSome o (λ v. c.take_domain.new.cursor ≡ list_text descriptor_text v.items c.read_descriptors.new.cursor))
+    c.in-Some-2.is c.in_ok-descriptors.ensures.text)
+    c.if-not-takes.ensures c.request_of.ensures
