@@ -39,11 +39,15 @@ impl Roots {
         Ok(Roots { domains, levels })
     }
 
-    /// The first level of a domain.
+    /// The first level of a domain. A domain that is alone is compared and not hashed.
     pub fn first_level(&self, domain: &Text) -> Option<usize>
         ensures { result ≡ get same_text self.now.domains domain.now }
     {
-        self.domains.get(domain).copied()
+        if self.domains.len() != 1 {
+            return self.domains.get(domain).copied();
+        }
+        let (only, first) = self.domains.get_index(0)?;
+        if domain == only { Some(*first) } else { None }
     }
 
     /// What is found through some entries from a level on.
