@@ -18,6 +18,7 @@
 mod act;
 mod into_seen;
 mod kept;
+mod queue;
 mod rule;
 mod seen;
 mod tokens;

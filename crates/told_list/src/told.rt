@@ -4,6 +4,7 @@ ghost use Rattle.rate_types.specs.declared.limits.TheConstants.{MOST_PASSES};
 use crate::act::Act;
 use crate::into_seen::IntoSeen;
 use crate::kept::Kept;
+use crate::queue::wait;
 use crate::rule::{AWAITED, LENGTH, ListRule, Loads, Setup, TokenView};
 use crate::seen::Seen;
 use crate::tokens::{join_tokens, put_in, split_tokens, take_last};
@@ -89,7 +90,7 @@ impl<K: Kept + Drop> Told<K> {
             × (K.fixed left ≡ K.fixed (first_value self.now)) }
         ensures seen { list_of seen.new ≡ list_of seen.old }
     {
-        let _turn = self.queue.lock(rt);
+        let _turn = wait(rt, &self.queue);
         let shared = &self.table.shared;
         let mut kept = take(rt, shared, &mut seen.seat);
         let before = kept.len();
