@@ -11,8 +11,8 @@ use descriptor_tree::Config;
 use rate_limiter::{Limiter, Limits};
 use rate_types::limits::MOST_CLAIMS;
 use rate_types::{OutOfMemory, Seconds};
-use reply_text::Records;
 use rls_core::Totals;
+use script_run::RunRecords;
 use std::alloc::Global;
 use std::hash::RandomState;
 use std::marker::Brand;
@@ -39,7 +39,7 @@ pub struct Setup {
 /// The records of a script, in order of its lines, and the totals of the windows that are open at its end.
 #[derive(Drop)]
 pub struct Driven {
-    pub records: Records,
+    pub records: RunRecords,
     pub totals: Totals,
 }
 

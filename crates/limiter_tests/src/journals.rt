@@ -3,7 +3,7 @@ ghost use Rattle.std.specs.Prelude.{◌≡◌};
 
 use rate_types::{OutOfMemory, Seconds};
 use reply_text::{Outcome, Record, Records};
-use script_run::merge;
+use script_run::{RunRecords, merge};
 use std::alloc::Global;
 use std::test::Fail;
 
@@ -20,7 +20,7 @@ fn record(line: u32, worker: u32) -> Record
 }
 
 // A journal of one record for each of two lines, the second line's first.
-fn merge_two(alloc: Global, first: Record, second: Record) -> Result<Records, OutOfMemory>
+fn merge_two(alloc: Global, first: Record, second: Record) -> Result<RunRecords, OutOfMemory>
     requires { (first.line ≡ 1) × (second.line ≡ 2) }
 {
     let mut one = Vec::with_capacity(alloc, 1)?;
@@ -36,7 +36,7 @@ fn merge_two(alloc: Global, first: Record, second: Record) -> Result<Records, Ou
 #[test]
 fn records_come_in_the_order_of_their_lines(rt: HostRuntime) -> Result<(), Fail> {
     let records = merge_two(rt.alloc(), record(1, 5), record(2, 3))?;
-    let [first, second] = records.items() else {
+    let (Some(first), Some(second), None) = (records.get(0), records.get(1), records.get(2)) else {
         return Err("two records".into());
     };
     assert_eq!(rt; (first.line, first.worker), (1, 5));

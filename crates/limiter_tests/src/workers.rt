@@ -8,8 +8,9 @@ use drive_run::Script;
 use rate_limiter::{Limiter, Limits};
 use rate_types::Seconds;
 use rate_types::limits::MOST_CLAIMS;
-use reply_text::{Outcome, Record, Records};
+use reply_text::{Outcome, Record};
 use rls_core::{Count, Status};
+use script_run::RunRecords;
 use std::alloc::Global;
 use std::hash::RandomState;
 use std::marker::Brand;
@@ -65,7 +66,7 @@ fn run<N: CellNaming + Send + Sync, G: Gate, R: Abort + RandomSource + Threads +
     lines: &[&str],
     charged: u64,
     gate: &G,
-) -> Result<Records, Fail>
+) -> Result<RunRecords, Fail>
     requires name { (table_of opened ≡ N.table) × (setup_of opened ≡ N.setup) }
     requires passes { (1 ≤ N.setup.passes) × (N.setup.passes ≤ 2) × (N.setup.start ≡ 0) }
 {
@@ -98,7 +99,6 @@ fn one_worker_runs_line_after_line(rt: HostRuntime) -> Result<(), Fail> {
     let opened = OpenedCells::make(rt.alloc(), 8, 1, Seconds::capped(0))?;
     let lines = [r#"{"tick":65}"#, CHECK, CHECK, RELOAD, CHECK, "{"];
     let records = run::<Brand, _, _>(&rt, rt.alloc(), opened, &lines, 3, &Open)?;
-    let records = records.items();
     assert_eq!(rt; records.len(), 6);
     for (i, (moment, version, outcome)) in [
         (65, 0, 65),
@@ -125,7 +125,12 @@ fn two_workers_run_each_line_once(rt: HostRuntime) -> Result<(), Fail> {
     let opened = OpenedCells::make(rt.alloc(), 8, 2, Seconds::capped(0))?;
     let lines = [CHECK, RELOAD, CHECK];
     let records = run::<Brand, _, _>(&rt, rt.alloc(), opened, &lines, 2, &Open)?;
-    let [first, reload, last] = records.items() else {
+    let (Some(first), Some(reload), Some(last), None) = (
+        records.get(0),
+        records.get(1),
+        records.get(2),
+        records.get(3),
+    ) else {
         return Err(Fail::new("three records"));
     };
     assert_eq!(rt; shown(reload), 100);

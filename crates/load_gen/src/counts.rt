@@ -6,7 +6,8 @@ ghost use Rattle.rate_types.specs.declared.limits.TheConstants.{MOST_LINES};
 ghost use Rattle.load_gen.specs.Summary as spec;
 
 use rate_types::OutOfMemory;
-use reply_text::{Outcome, Record};
+use reply_text::Outcome;
+use script_run::RunRecords;
 use serde_json::{Value, json};
 use std::alloc::{AllocError, Global};
 
@@ -39,13 +40,16 @@ fn is_denied(outcome: &Outcome) -> bool
     }
 }
 
-fn count_checks(records: &[Record]) -> CheckCounts
+fn count_checks(records: &RunRecords) -> CheckCounts
     requires { length records.now ≤ MOST_LINES }
     ensures { result ≡ spec.counted records.now }
 {
     let mut admitted = 0u32;
     let mut denied = 0u32;
-    'records: for rec in records {
+    'records: for index in 0..records.len() {
+        let Some(rec) = records.get(index) else {
+            unreachable!()
+        };
         if is_admitted(&rec.outcome) {
             admitted += 1;
         }
@@ -84,7 +88,7 @@ fn counts_line(alloc: Global, counts: CheckCounts) -> Result<String, OutOfMemory
 
 /// What came of the checks of a run, by its records: how many were answered, how many of them admitted and how many denied. Each lawful
 /// run of a made-up load has the summary of that load.
-pub fn summary(alloc: Global, records: &[Record]) -> Result<String, OutOfMemory>
+pub fn summary(alloc: Global, records: &RunRecords) -> Result<String, OutOfMemory>
     requires { length records.now ≤ MOST_LINES }
     ensures counted { IfOk result (λ t. string_bytes t ≡ spec.counts_line (spec.counted records.now)) }
     ensures same { IfOk result (λ t. spec.IsSameForEachRun records.now (string_bytes t)) }

@@ -9,6 +9,7 @@ use rate_types::{RuleId, Seconds, Text, Unit};
 use reply_text::{Outcome, Record};
 use rls_core::{Count, Total, status_for};
 use rule_lookup::Found;
+use script_run::RunRecords;
 use std::alloc::Global;
 use std::hash::RandomState;
 use std::random::RandomSource;
@@ -97,10 +98,12 @@ fn bytes_of(alloc: Global, lines: &[&str]) -> Result<String, Fail> {
 }
 
 // What came of each line, and then the totals.
-fn told(alloc: Global, records: &[Record], totals: &[Total]) -> Result<String, Fail> {
+fn told(alloc: Global, records: &RunRecords, totals: &[Total]) -> Result<String, Fail> {
     let mut text = String::new(alloc);
-    for record in records {
-        text.push_str(shown(alloc, record)?.as_str())?;
+    for index in 0..records.len() {
+        if let Some(record) = records.get(index) {
+            text.push_str(shown(alloc, record)?.as_str())?;
+        }
     }
     for one in totals {
         text.push_str(total(alloc, one)?.as_str())?;
@@ -130,7 +133,7 @@ fn run<R: RandomSource + Threads + Wait + Sync>(
     let script = Script::read(alloc, bytes.as_bytes())?;
     let config = config(alloc, limit)?;
     let driven = drive_script(rt, alloc, &script, config, setup, &Open)?;
-    told(alloc, driven.records.items(), driven.totals.items())
+    told(alloc, &driven.records, driven.totals.items())
 }
 
 const A: &str = r#"{"check":{"domain":"d","descriptors":[{"entries":[{"key":"k","value":"a"}]}]}}"#;

@@ -6,6 +6,7 @@ ghost use Rattle.run_lines.specs.RunLines.{is_short, record_line, total_line, ot
 use rate_types::OutOfMemory;
 use reply_text::{LONGEST_SHORT_RECORD, Record, put_record, record_text, total_text};
 use rls_core::Total;
+use script_run::RunRecords;
 use std::alloc::Global;
 
 /// Whether a record is short.
@@ -53,13 +54,15 @@ fn other_line(alloc: Global, rec: &Record) -> Result<String, OutOfMemory>
 pub fn push_others(
     alloc: Global,
     made: &mut Vec<String>,
-    records: &[Record],
+    records: &RunRecords,
 ) -> Result<(), OutOfMemory>
     ensures { OnOk result (map (λ t. string_bytes t) made.new.items
         ≡ map (λ t. string_bytes t) made.old.items ++ other_lines records.now) }
 {
     'records: for index in 0..records.len() {
-        let rec = &records[index];
+        let Some(rec) = records.get(index) else {
+            unreachable!()
+        };
         if !is_short(rec) {
             made.push(other_line(alloc, rec)?)?;
         }

@@ -2,8 +2,8 @@ ghost use Rattle.std.specs.Prelude.{◌≡◌};
 
 use crate::making::{fill, is_short, push_others, push_totals, room};
 use rate_types::OutOfMemory;
-use reply_text::Records;
 use rls_core::Total;
+use script_run::RunRecords;
 use std::alloc::Global;
 use std::marker::Model;
 
@@ -12,7 +12,7 @@ use std::marker::Model;
 #[derive(Drop)]
 pub struct RunLines {
     alloc: Global,
-    records: Records,
+    records: RunRecords,
     // The lines that are made: those of the records that aren't short, in order, and then those of the totals.
     made: Vec<String>,
     // The line of the last record, where that is short. It has room for any such line.
@@ -46,12 +46,16 @@ impl RunLines {
     ghost use Rattle.run_lines.specs.RunLines.{run_lines};
 
     /// The lines of these records and totals, of which none is come to yet.
-    pub fn make(alloc: Global, records: Records, totals: &[Total]) -> Result<RunLines, OutOfMemory>
+    pub fn make(
+        alloc: Global,
+        records: RunRecords,
+        totals: &[Total],
+    ) -> Result<RunLines, OutOfMemory>
         ensures { IfOk result (λ r. r.rest ≡ run_lines records totals.now) }
     {
         let kept = room(alloc)?;
         let mut made = Vec::new(alloc);
-        push_others(alloc, &mut made, records.items())?;
+        push_others(alloc, &mut made, &records)?;
         push_totals(alloc, &mut made, totals)?;
         Ok(RunLines {
             alloc,
@@ -69,15 +73,14 @@ impl RunLines {
         ensures more { OnTrue result (self.old.rest ≡ self.new.line ∷ self.new.rest) }
         ensures end { result ≡ false → self.old.rest ≡ [] }
     {
-        if self.passed >= self.records.items().len() {
+        let Some(rec) = self.records.get(self.passed) else {
             if self.next >= self.made.len() {
                 return false;
             }
             self.next += 1;
             self.is_kept = false;
             return true;
-        }
-        let rec = &self.records.items()[self.passed];
+        };
         if is_short(rec) {
             fill(self.alloc, &mut self.kept, rec);
             self.passed += 1;

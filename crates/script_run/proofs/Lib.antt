@@ -1,3 +1,4 @@
 pub mod Placing
+pub mod Spreading
 pub mod Admits
 pub mod Lone

@@ -5,7 +5,8 @@ use mathlib.Core.Option.{some, some-injective}
 use lib.ListN.{get_elem?}
 use Rattle.reply_text.specs.declared.record.Record.{Record}
 use Rattle.script_run.specs.Merged.{Merges}
-use Rattle.script_run.specs.Lone.{AreInOrder}
+use Rattle.script_run.specs.Lone.{AreInOrder, IsLone}
+use Rattle.script_run.specs.RunRecords.{journal_at}
 
 at_or : (rs : List Record) (k : ℕ) (d : Record) → k < length rs → get_elem? rs k ≡ some (slice_index_or rs k d)
 at_or [] k d h = absurd (omega arith)
@@ -45,3 +46,9 @@ lone lines records order = record {
   from = λ i r at. record { worker = 0; journal = records; place = i; there = refl; here = at };
   sums = λ f. omega arith;
 }
+
+-- one journal in this order stands for itself
+pub lone_ordered : (lines : ℕ) (journals : List (List Record)) → IsLone lines journals → (1 ≤ length journals) × Merges lines journals (journal_at journals 0)
+lone_ordered lines [] alone = absurd alone
+lone_ordered lines (journal ∷ []) alone = (omega arith, lone lines journal alone)
+lone_ordered lines (journal ∷ other ∷ journals) alone = absurd alone

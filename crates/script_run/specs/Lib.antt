@@ -15,3 +15,4 @@ pub mod Run
 pub mod Merged
 pub mod Lone
 pub mod Places
+pub mod RunRecords

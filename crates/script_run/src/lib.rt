@@ -4,11 +4,13 @@
 //! stands in a file of its own. No word of it speaks of threads, cells or locks: it is said of lines and of records alone.
 //!
 //! Each worker writes the records of its lines into a journal of its own. [`merge`] puts the records of all journals in the
-//! order of their lines.
+//! order of their lines: [`RunRecords`] says where each lies.
 #![tactic(auto)]
 
 mod line;
 mod merging;
+mod run_records;
 
 pub use line::Line;
 pub use merging::merge;
+pub use run_records::RunRecords;

@@ -1,47 +1,43 @@
 // From journals to the records of a run.
-ghost use Rattle.std.specs.Prelude.{◌≡◌, ◌≤◌, ◌+◌, ℕ, IfOk, IsSome, Some, None, true, length, map, replicate, vec_len, vec_capacity};
+ghost use Rattle.std.specs.Prelude.{◌≡◌, ◌≤◌, IfOk, true, Some, None, length, replicate, vec_len};
 ghost use Rattle.std.specs.List.{AllByRecursion};
 ghost use Rattle.script_run.specs.Merged.{EachLineOnce, Merges, joined};
 ghost use Rattle.script_run.specs.Lone.{AreInOrder, IsLone};
-ghost use Rattle.script_run.specs.Places.{all_placed};
+ghost use Rattle.script_run.specs.RunRecords.{all_put, each_put};
 
+use crate::run_records::{RecordPlace, RunRecords};
 use rate_types::OutOfMemory;
 use reply_text::{Record, Records};
 use std::alloc::Global;
 
-// A place for each line.
-fn places_for(alloc: Global, lines: u32) -> Result<Vec<Option<Record>>, OutOfMemory>
-    ensures { IfOk result (λ v. v.items ≡ replicate lines None) }
+// A place for each line, which isn't that of its record yet.
+fn places_for(alloc: Global, lines: u32) -> Result<Vec<RecordPlace>, OutOfMemory>
+    ensures { IfOk result (λ v. v.items ≡ replicate lines (record { journal = 0; index = 0 })) }
 {
-    let mut places = Vec::with_capacity(alloc, lines as usize)?;
-    for _ in 0..lines {
-        places.push_reserved(None);
-    }
+    let mut places = Vec::new(alloc);
+    places.resize(
+        lines as usize,
+        RecordPlace {
+            journal: 0,
+            index: 0,
+        },
+    )?;
     Ok(places)
 }
 
-// Each record of a journal at the place of its line.
-fn put(places: &mut Vec<Option<Record>>, journal: Records)
-    requires { AllByRecursion (λ r. (1 ≤ r.line) × (r.line ≤ vec_len places.old)) journal }
-    ensures { places.new.items ≡ all_placed places.old.items journal }
+// The place of each record of a journal, put at that of its line.
+fn put(places: &mut Vec<RecordPlace>, number: usize, journal: &[Record])
+    requires { AllByRecursion (λ r. (1 ≤ r.line) × (r.line ≤ vec_len places.old)) journal.now }
+    ensures { places.new.items ≡ all_put number 0 places.old.items journal.now }
 {
-    for record in journal.into_items() {
-        let place = record.line as usize - 1;
-        places[place] = Some(record);
+    'records: for index in 0..journal.len() {
+        let rec = &journal[index];
+        let line = rec.line as usize;
+        places[line - 1] = RecordPlace {
+            journal: number,
+            index,
+        };
     }
-}
-
-// The records, where there is one at each place.
-fn filled(alloc: Global, places: Vec<Option<Record>>) -> Result<Records, OutOfMemory>
-    requires { AllByRecursion (λ p. IsSome p) places.items }
-    ensures { IfOk result (λ r. map Some r ≡ places.items) }
-{
-    let mut records = Vec::with_capacity(alloc, places.len())?;
-    for place in places {
-        let Some(record) = place else { unreachable!() };
-        records.push_reserved(record);
-    }
-    Ok(Records::of(records))
 }
 
 // Whether these are so many records in the order of their lines.
@@ -70,28 +66,30 @@ fn is_lone(lines: u32, journals: &[Records]) -> bool
     }
 }
 
-// The records of these journals, each put at the place of its line.
-fn placed(alloc: Global, lines: u32, journals: Vec<Records>) -> Result<Records, OutOfMemory>
-    requires once { EachLineOnce lines (joined journals.items) }
-    ensures merged { IfOk result (λ r. Merges lines journals.items r) }
+// Where the record of each line lies in these journals.
+fn places_in(
+    alloc: Global,
+    lines: u32,
+    journals: &[Records],
+) -> Result<Vec<RecordPlace>, OutOfMemory>
+    requires once { EachLineOnce lines (joined journals.now) }
+    ensures { IfOk result (λ v. v.items ≡ each_put 0 (replicate lines (record { journal = 0; index = 0 })) journals.now) }
 {
     let mut places = places_for(alloc, lines)?;
-    for journal in journals {
-        put(&mut places, journal);
+    'journals: for number in 0..journals.len() {
+        put(&mut places, number, journals[number].items());
     }
-    filled(alloc, places)
+    Ok(places)
 }
 
-/// The records of these journals in the order of their lines, where each of so many lines has one record in one of them. A journal
-/// that is alone and in this order isn't copied.
-pub fn merge(alloc: Global, lines: u32, mut journals: Vec<Records>) -> Result<Records, OutOfMemory>
+/// The records of these journals in the order of their lines, where each of so many lines has one record in one of them.
+pub fn merge(alloc: Global, lines: u32, journals: Vec<Records>) -> Result<RunRecords, OutOfMemory>
     requires once { EachLineOnce lines (joined journals.items) }
     ensures merged { IfOk result (λ r. Merges lines journals.items r) }
 {
     if is_lone(lines, &journals) {
-        if let Some(records) = journals.pop() {
-            return Ok(records);
-        }
+        return Ok(RunRecords::of(journals, None));
     }
-    placed(alloc, lines, journals)
+    let places = places_in(alloc, lines, &journals)?;
+    Ok(RunRecords::of(journals, Some(places)))
 }

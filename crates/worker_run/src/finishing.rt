@@ -13,8 +13,8 @@ use crate::script_lines::ScriptLines;
 use counter_cells::CellNaming;
 use rate_limiter::{Limiter, Pass};
 use rate_types::{OutOfMemory, Seconds};
-use reply_text::Records;
 use rls_core::Totals;
+use script_run::RunRecords;
 use std::alloc::Global;
 use std::sync::Wait;
 use std::thread::Threads;
@@ -22,7 +22,7 @@ use std::thread::Threads;
 /// The records of a script in the order of its lines, and what was charged in the windows that are open at the end.
 #[derive(Drop)]
 pub struct Finished {
-    pub records: Records,
+    pub records: RunRecords,
     pub totals: Totals,
 }
 

@@ -16,7 +16,7 @@ use line_numbers::{Drawer, LineNumbers};
 use rate_limiter::{Limiter, Pass};
 use rate_types::{OutOfMemory, Seconds};
 use reply_text::Records;
-use script_run::merge;
+use script_run::{RunRecords, merge};
 use std::alloc::{AllocError, Global};
 use std::sync::Wait;
 use std::thread::{Threads, map_vec};
@@ -156,7 +156,7 @@ pub fn run_lines<N: CellNaming + Send + Sync, L: ScriptLines, G: Gate, R: Thread
     lines: &L,
     start: Seconds,
     gate: &G,
-) -> Result<(Records, Vec<Pass<N>>), OutOfMemory>
+) -> Result<(RunRecords, Vec<Pass<N>>), OutOfMemory>
     requires passes { All (λ p. p.limiter ≡ limiter.now.id) passes.items }
     requires started { All (λ p. start ≤ p.cells.moment) passes.items }
     requires workers { (1 ≤ vec_len passes) × (vec_len passes ≤ MOST_WORKERS) }

@@ -5,8 +5,8 @@ use Rattle.load_gen.proofs.counts.count_checks.Given as goal
 
 abbrev pub invariant-records : goal.invariant-records
 invariant-records l = record {
-  admitted : l.admitted ≡ count_by (λ r. is_admitted r.outcome) (take l.rec-index l.records);
-  denied : l.denied ≡ count_by (λ r. is_denied r.outcome) (take l.rec-index l.records);
-  few_admitted : l.admitted ≤ l.rec-index;
-  few_denied : l.denied ≤ l.rec-index;
+  admitted : l.admitted ≡ count_by (λ r. is_admitted r.outcome) (take l.index l.records);
+  denied : l.denied ≡ count_by (λ r. is_denied r.outcome) (take l.index l.records);
+  few_admitted : l.admitted ≤ l.index;
+  few_denied : l.denied ≤ l.index;
 }

@@ -13,9 +13,8 @@ pub summary-requires : goal.summary-requires
 summary-requires g c =
     let many : length c.in_ok-driven.driven.records ≡ c.args.checks =
     c.in_ok-driven.ensures.run.one_record_per_line.as_many ∙ lines_length c.args.number c.args.checks in
-    let shown : length c.items.result.now ≡ length c.in_ok-driven.driven.records = ap length c.items.ensures in
     let bound : c.args.checks ≤ MOST_LINES = c.requires.checks in
-    omega (arith, many, shown, bound)
+    omega (arith, many, bound)
 
 pub returns : goal.returns
 returns g c =
@@ -29,6 +28,4 @@ returns g c =
     subst (λ (s : ℕ). IsRun (config_view (arc_value c.in_ok-config-2.config)) w (64 * w) s false (load_lines n k) c.in_ok-driven.driven.records) c.capped.ensures first in
     let by_config : IsRun load_config w (64 * w) 0 false (load_lines n k) c.in_ok-driven.driven.records =
     subst (λ (trees : List DomainTree). IsRun trees w (64 * w) 0 false (load_lines n k) c.in_ok-driven.driven.records) config at_start in
-    let run : IsRun load_config w (64 * w) 0 false (load_lines n k) c.items.result.now =
-    subst (λ (rs : List Record). IsRun load_config w (64 * w) 0 false (load_lines n k) rs) (sym c.items.ensures) by_config in
-    c.in_ok-text.ensures.same n k w (64 * w) (omega arith) run
+    c.in_ok-text.ensures.same n k w (64 * w) (omega arith) by_config

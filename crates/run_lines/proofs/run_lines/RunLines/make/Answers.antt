@@ -1,4 +1,4 @@
-use Rattle.std.proofs.Common.{◌≡◌, ◌++◌, List, String, map, string_bytes, ap, ap₂, ◌∙◌}
+use Rattle.std.proofs.Common.{◌≡◌, ◌++◌, List, String, map, string_bytes, ap, ◌∙◌}
 use Rattle.std.specs.declared.alloc.Global.{Global}
 use Rattle.run_lines.specs.RunLines.{total_line, other_lines, woven}
 use Rattle.run_lines.proofs.Weaving.{woven_all}
@@ -9,5 +9,5 @@ returns c =
     let records = c.args.records in
     let totals = map total_line c.args.totals.now in
     let others : map (λ t. string_bytes t) c.push_others.new.made.items ≡ other_lines records =
-    c.in_ok-push_others.ensures ∙ ap₂ (λ (ts : List (String Global)) rs. map (λ t. string_bytes t) ts ++ other_lines rs) c.new-made.ensures.items c.items.ensures in
+    c.in_ok-push_others.ensures ∙ ap (λ (ts : List (String Global)). map (λ t. string_bytes t) ts ++ other_lines records) c.new-made.ensures.items in
     ap (woven records) (c.in_ok-push_totals.ensures ∙ ap (λ ls. ls ++ totals) others) ∙ woven_all records totals
