@@ -1,5 +1,5 @@
 // The configuration that a made-up load is run by.
-ghost use Rattle.std.specs.Prelude.{◌≡◌, ◌≤◌, length, string_bytes, IfOk};
+ghost use Rattle.std.specs.Prelude.{◌≡◌, ◌≤◌, length, IfOk};
 ghost use Rattle.rate_types.specs.declared.limits.TheConstants.{LONGEST_TEXT};
 ghost use Rattle.descriptor_tree.specs.Trees.{branch, no_branches, node_view, tree_view};
 ghost use Rattle.descriptor_tree.specs.Views.{config_view};
@@ -11,13 +11,13 @@ use rate_types::{OutOfMemory, Text, Unit};
 use std::alloc::Global;
 
 /// A text of a domain, a key or a value, which isn't too long.
-pub(crate) fn short_text(text: String) -> Text
-    requires { length (string_bytes text) ≤ LONGEST_TEXT }
-    ensures { result ≡ string_bytes text }
+pub(crate) fn short_text(alloc: Global, text: &str) -> Result<Text, OutOfMemory>
+    requires { length text.now ≤ LONGEST_TEXT }
+    ensures { IfOk result (λ t. t ≡ text.now) }
 {
-    match Text::of(text) {
-        Some(text) => text,
-        None => unreachable!(),
+    match Text::new(alloc, text) {
+        Ok(text) => Ok(text),
+        Err(_) => Err(OutOfMemory),
     }
 }
 
@@ -25,7 +25,7 @@ pub(crate) fn short_text(text: String) -> Text
 fn load_node(alloc: Global) -> Result<Node, OutOfMemory>
     ensures { IfOk result (λ n. node_view n ≡ branch spec.load_node no_branches) }
 {
-    let key = short_text(String::from_str(alloc, KEY)?);
+    let key = short_text(alloc, KEY)?;
     Ok(Node {
         key,
         value: None,
@@ -44,7 +44,7 @@ fn load_node(alloc: Global) -> Result<Node, OutOfMemory>
 fn load_tree(alloc: Global) -> Result<Tree, OutOfMemory>
     ensures { IfOk result (λ t. tree_view t ≡ spec.load_tree) }
 {
-    let domain = short_text(String::from_str(alloc, DOMAIN)?);
+    let domain = short_text(alloc, DOMAIN)?;
     let node = load_node(alloc)?;
     let mut nodes = Vec::with_capacity(alloc, 1)?;
     nodes.push_reserved(node);

@@ -6,11 +6,16 @@ ghost use Rattle.load_gen.specs.Load as spec;
 
 use crate::config::short_text;
 use crate::constants::{DOMAIN, KEY, STEP, VALUES};
+use arrayvec::ArrayString;
+use itoa::Buffer;
 use json::Scratch;
 use rate_types::{Descriptor, Entries, Entry, OutOfMemory, Request, Text};
 use script_run::Line;
 use std::alloc::Global;
 use worker_run::ScriptLines;
+
+// Room for a value's text: a letter and the digits of a u32.
+const LONGEST_VALUE: usize = 11;
 
 // The value of the check of this index, counted from 0.
 #[tactic(auto, using(crate::proofs::Values::value_same))]
@@ -28,8 +33,11 @@ fn value_text(alloc: Global, value: u32) -> Result<Text, OutOfMemory>
     requires { value < VALUES }
     ensures { IfOk result (λ t. t ≡ spec.value_text value) }
 {
-    let text = format!(in alloc; "v{value}")?;
-    Ok(short_text(text))
+    let mut digits = Buffer::new();
+    let mut text = ArrayString::<LONGEST_VALUE>::new();
+    text.push_str("v");
+    text.push_str(digits.format(value));
+    short_text(alloc, text.as_str())
 }
 
 // The entry of a value.
@@ -37,7 +45,7 @@ fn entry_for(alloc: Global, value: u32) -> Result<Entry, OutOfMemory>
     requires { value < VALUES }
     ensures { IfOk result (λ e. e ≡ spec.entry_for value) }
 {
-    let key = short_text(String::from_str(alloc, KEY)?);
+    let key = short_text(alloc, KEY)?;
     let value = value_text(alloc, value)?;
     Ok(Entry { key, value })
 }
@@ -65,7 +73,7 @@ fn request_for(alloc: Global, value: u32) -> Result<Request, OutOfMemory>
     requires { value < VALUES }
     ensures { IfOk result (λ r. r ≡ spec.request_for value) }
 {
-    let domain = short_text(String::from_str(alloc, DOMAIN)?);
+    let domain = short_text(alloc, DOMAIN)?;
     let descriptor = descriptor_for(alloc, value)?;
     let mut descriptors = Vec::with_capacity(alloc, 1)?;
     descriptors.push_reserved(descriptor);

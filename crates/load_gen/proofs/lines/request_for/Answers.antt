@@ -10,9 +10,9 @@ unreachable-requires c =
     let items : c.push_reserved.new.self.items ≡ descriptor_for c.args.value ∷ [] =
     c.push_reserved.ensures.items ∙ ap (λ (l : List Descriptor). l ++ c.in_ok-descriptor.descriptor ∷ []) c.in_ok-descriptors.ensures.items
     ∙ ap (λ (d : Descriptor). d ∷ []) c.in_ok-descriptor.ensures in
-    let domain : c.short_text-domain.result ≡ codes "gen" = c.short_text-domain.ensures ∙ c.in_ok-from_str.ensures.ok in
+    let domain : c.in_ok-domain.domain ≡ codes "gen" = c.in_ok-domain.ensures in
     let made : c.build.result ≡ Ok (request_for c.args.value) =
-    c.build.ensures ∙ ap (λ (ds : List Descriptor). request_of c.short_text-domain.result ds 1) items
+    c.build.ensures ∙ ap (λ (ds : List Descriptor). request_of c.in_ok-domain.domain ds 1) items
     ∙ ap (λ (d : List ℕ). request_of d (descriptor_for c.args.value ∷ []) 1) domain ∙ one_request c.args.value in
     cc
 
@@ -21,8 +21,8 @@ returns c =
     let items : c.push_reserved.new.self.items ≡ descriptor_for c.args.value ∷ [] =
     c.push_reserved.ensures.items ∙ ap (λ (l : List Descriptor). l ++ c.in_ok-descriptor.descriptor ∷ []) c.in_ok-descriptors.ensures.items
     ∙ ap (λ (d : Descriptor). d ∷ []) c.in_ok-descriptor.ensures in
-    let domain : c.short_text-domain.result ≡ codes "gen" = c.short_text-domain.ensures ∙ c.in_ok-from_str.ensures.ok in
+    let domain : c.in_ok-domain.domain ≡ codes "gen" = c.in_ok-domain.ensures in
     let made : c.build.result ≡ Ok (request_for c.args.value) =
-    c.build.ensures ∙ ap (λ (ds : List Descriptor). request_of c.short_text-domain.result ds 1) items
+    c.build.ensures ∙ ap (λ (ds : List Descriptor). request_of c.in_ok-domain.domain ds 1) items
     ∙ ap (λ (d : List ℕ). request_of d (descriptor_for c.args.value ∷ []) 1) domain ∙ one_request c.args.value in
     cc
