@@ -3,6 +3,7 @@ ghost use Rattle.std.specs.Prelude.{◌≡◌, ◌++◌, OnOk, option_map};
 use crate::answers::Assigned;
 use crate::phase::Phase;
 use crate::report::Report;
+use crate::shared_id::SharedId;
 use quota_bucket::{Advance, BucketRules, BucketState, Strategy};
 use quota_settings::BucketId;
 use rate_types::{Millis, OutOfMemory};
@@ -12,7 +13,7 @@ use std::marker::Model;
 /// A bucket that is there, with the state of its history.
 #[derive(Drop)]
 pub struct Bucket {
-    id: BucketId,
+    id: SharedId,
     rules: BucketRules,
     state: BucketState,
 }
@@ -35,7 +36,7 @@ impl Bucket {
     ghost use Rattle.quota_buckets.specs.Tables.{stored_asked, stored_answer, stored_assigned};
 
     /// A bucket with this state. It takes no memory.
-    pub fn of(id: BucketId, rules: BucketRules, state: BucketState) -> Bucket
+    pub fn of(id: SharedId, rules: BucketRules, state: BucketState) -> Bucket
         ensures { result ≡ record { id = id; rules = rules; state = state } }
     {
         Bucket { id, rules, state }
@@ -45,7 +46,7 @@ impl Bucket {
     pub fn id(&self) -> &BucketId
         ensures { result.now ≡ self.now.id }
     {
-        &self.id
+        self.id.id()
     }
 
     /// Whether it wasn't erased.
@@ -86,7 +87,7 @@ impl Bucket {
         ensures { OnOk result (reports.new.items ≡ reports.old.items ++ stored_reports advance.now self.now) }
     {
         if let Some(usage) = self.state.advance_report(&self.rules, advance) {
-            let id = self.id.copy(alloc)?;
+            let id = self.id.id().copy(alloc)?;
             reports.push(Report::of(id, usage))?;
         }
         Ok(())

@@ -8,6 +8,7 @@ use crate::bucket::Bucket;
 use crate::call::Call;
 use crate::phase::Phase;
 use crate::report::{Report, Reports};
+use crate::shared_id::SharedId;
 use crate::table::Table;
 use http_server::Log;
 use quota_bucket::{BucketRules, BucketState, Strategy, Usage};
@@ -223,8 +224,9 @@ fn ask_first(
     let at = table.time();
     let asked = BucketState::new(at).asked(rules, at, up);
     let report = report_of(alloc, id, asked.report)?;
-    let bucket = Bucket::of(id.copy(alloc)?, *rules, asked.state);
-    table.add(alloc, id.copy(alloc)?, bucket)?;
+    let shared = SharedId::copy_of(alloc, id)?;
+    let bucket = Bucket::of(shared.share()?, *rules, asked.state);
+    table.add(alloc, shared, bucket)?;
     Ok(First {
         allowed: asked.allowed,
         report,

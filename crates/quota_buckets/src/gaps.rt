@@ -6,6 +6,7 @@ ghost use Rattle.quota_buckets.specs.Slots.{AllThere, AreDistinct, ArePlaced, Is
 ghost use Rattle.quota_buckets.specs.Tables.{held, without_gaps};
 
 use crate::bucket::Bucket;
+use crate::shared_id::SharedId;
 use crate::slots::longer;
 use agenda::Agenda;
 use quota_settings::BucketId;
@@ -29,7 +30,7 @@ fn close_gaps(slots: &mut Vec<Option<Bucket>>)
 }
 
 /// Sets the place of a name that the index has.
-fn set_place(index: &mut HashMap<BucketId, usize, RandomState>, id: &BucketId, place: usize)
+fn set_place(index: &mut HashMap<SharedId, usize, RandomState>, id: &BucketId, place: usize)
     requires { is_some (get same_pairs index.old id.now) ≡ true }
     ensures { IsSet (get same_pairs index.old) (get same_pairs index.new) id.now place }
 {
@@ -40,7 +41,7 @@ fn set_place(index: &mut HashMap<BucketId, usize, RandomState>, id: &BucketId, p
 
 /// Sets the place of the bucket in a slot.
 fn place_one(
-    index: &mut HashMap<BucketId, usize, RandomState>,
+    index: &mut HashMap<SharedId, usize, RandomState>,
     slots: &[Option<Bucket>],
     place: usize,
 )
@@ -57,7 +58,7 @@ fn place_one(
 }
 
 /// Sets the place of each bucket in the index.
-fn place_each(index: &mut HashMap<BucketId, usize, RandomState>, slots: &[Option<Bucket>])
+fn place_each(index: &mut HashMap<SharedId, usize, RandomState>, slots: &[Option<Bucket>])
     requires distinct { AreDistinct slots.now }
     requires there { AllThere slots.now }
     requires names { IsNamed (get same_pairs index.old) slots.now }
@@ -73,7 +74,7 @@ fn place_each(index: &mut HashMap<BucketId, usize, RandomState>, slots: &[Option
 pub fn make_room(
     alloc: Global,
     slots: &mut Vec<Option<Bucket>>,
-    index: &mut HashMap<BucketId, usize, RandomState>,
+    index: &mut HashMap<SharedId, usize, RandomState>,
     agenda: &mut Agenda,
     time: Millis,
 ) -> Result<(), OutOfMemory>

@@ -19,6 +19,7 @@ mod call;
 mod gaps;
 mod phase;
 mod report;
+mod shared_id;
 mod slots;
 mod table;
 

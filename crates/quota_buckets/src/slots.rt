@@ -6,9 +6,9 @@ ghost use Rattle.quota_buckets.specs.Tables.{slot_at, slot_due, slot_advanced, s
 
 use crate::bucket::{Bucket, advance_slot};
 use crate::report::Report;
+use crate::shared_id::SharedId;
 use agenda::Agenda;
 use quota_bucket::Advance;
-use quota_settings::BucketId;
 use rate_types::{Millis, OutOfMemory};
 use std::alloc::Global;
 use std::collections::HashMap;
@@ -117,7 +117,7 @@ fn report_of(
 /// index.
 pub fn advance_each(
     slots: &mut [Option<Bucket>],
-    index: &mut HashMap<BucketId, usize, RandomState>,
+    index: &mut HashMap<SharedId, usize, RandomState>,
     places: &[usize],
     advance: &Advance,
 )
@@ -134,7 +134,7 @@ pub fn advance_each(
 /// Brings the bucket at a place to the moment of an advance.
 fn advance_at(
     slots: &mut [Option<Bucket>],
-    index: &mut HashMap<BucketId, usize, RandomState>,
+    index: &mut HashMap<SharedId, usize, RandomState>,
     place: usize,
     advance: &Advance,
 )

@@ -6,6 +6,7 @@ use crate::bucket::Bucket;
 use crate::gaps::make_room;
 use crate::phase::Phase;
 use crate::report::{Reports, order};
+use crate::shared_id::SharedId;
 use crate::slots::{advance_each, plan_each, reports_of};
 use agenda::Agenda;
 use quota_bucket::{Advance, Strategy};
@@ -21,7 +22,7 @@ use std::marker::Model;
 #[derive(Drop)]
 pub struct Table {
     slots: Vec<Option<Bucket>>,
-    index: HashMap<BucketId, usize, RandomState>,
+    index: HashMap<SharedId, usize, RandomState>,
     agenda: Agenda,
     time: Millis,
 }
@@ -136,8 +137,8 @@ impl Table {
         true
     }
 
-    /// Adds a bucket behind the others, under a copy of its name.
-    pub fn add(&mut self, alloc: Global, id: BucketId, bucket: Bucket) -> Result<(), OutOfMemory>
+    /// Adds a bucket behind the others, under its name.
+    pub fn add(&mut self, alloc: Global, id: SharedId, bucket: Bucket) -> Result<(), OutOfMemory>
         requires name { id ≡ bucket.id }
         requires new { find (is_stored_as bucket.id) self.old.stored ≡ None }
         requires there { is_gone bucket.state.phase ≡ false }
