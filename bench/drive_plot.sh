@@ -2,8 +2,9 @@
 # Draws docs/drive.png: the processor's time a line and the peak memory of `ratelimit drive --workers 1` against the number of lines, from
 # 1,000 to 524,288 (a script of twice as many such lines is longer than an input may be), beside those of the command in PEER, which takes
 # the configuration's name as its last word, and the script.
-# `hot` checks one value of one key, `wide` 20,000 values of another; every 1,000th line is a tick. Each time is the median of five runs
-# that take turns, without that of an empty script. It prints the table that it draws, with the megabytes of each script. It needs gnuplot.
+# `hot` checks one value of one key, `wide` 20,000 values of another; every 1,000th line is a tick. Each time is the mean of the faster half
+# of 30 runs that take turns (10 from 65,536 lines on), less that of an empty script. It prints the table that it draws, with the megabytes
+# of each script. It needs gnuplot.
 # Run it at the top of the repository: PEER=COMMAND bench/drive_plot.sh [PROGRAM] [MOST LINES, 524288 unless given]
 set -u
 . "$(dirname "${BASH_SOURCE[0]}")/lib.sh"
@@ -36,7 +37,8 @@ script_of() {
 }
 
 cat >"$work/measure.py" <<'PY'
-# The median milliseconds of five runs of each command, and the peak kilobytes: measure.py SCRIPT EMPTY COMMAND.. -- COMMAND..
+# The milliseconds of each command beyond those on an empty script, by the faster half of so many runs, and the peak kilobytes:
+# measure.py RUNS SCRIPT EMPTY COMMAND.. -- COMMAND..
 import os, statistics, sys
 
 
@@ -52,16 +54,20 @@ def run(words, script, out):
     return (used.ru_utime + used.ru_stime) * 1000, used.ru_maxrss
 
 
-script, empty, words = sys.argv[1], sys.argv[2], sys.argv[3:]
+def faster(times):
+    return statistics.mean(sorted(times)[: runs // 2])
+
+
+runs, script, empty, words = int(sys.argv[1]), sys.argv[2], sys.argv[3], sys.argv[4:]
 cut = words.index("--")
 commands = [words[:cut], words[cut + 1:]]
 found = [[], []]
-for _ in range(5):
+for _ in range(runs):
     for command, rows in zip(commands, found):
         start = run(command, empty, script + ".out")[0]
         time, peak = run(command, script, script + ".out")
-        rows.append((max(time - start, 0), peak))
-print(*(f"{statistics.median(r[0] for r in rows):.3f} {max(r[1] for r in rows)}" for rows in found))
+        rows.append((start, time, peak))
+print(*(f"{max(faster(r[1] for r in rows) - faster(r[0] for r in rows), 0):.3f} {max(r[2] for r in rows)}" for rows in found))
 PY
 
 : >"$work/empty"
@@ -71,7 +77,8 @@ for kind in hot wide; do
         [ "$lines" -le "$most" ] || continue
         script=$work/$kind-$lines.jsonl
         script_of "$kind" "$lines" >"$script"
-        read -r own own_peak other other_peak < <(python3 "$work/measure.py" "$script" "$work/empty" "$program" drive --workers 1 "$config" -- "${peer[@]}" "$config")
+        [ "$lines" -lt 65536 ] && runs=30 || runs=10
+        read -r own own_peak other other_peak < <(python3 "$work/measure.py" "$runs" "$script" "$work/empty" "$program" drive --workers 1 "$config" -- "${peer[@]}" "$config")
         bytes=$(stat -c %s "$script")
         awk -v kind="$kind" -v n="$lines" -v bytes="$bytes" -v a="$own" -v p="$own_peak" -v b="$other" -v q="$other_peak" 'BEGIN {
             printf "%-5s %8d %7.2f %12.0f %12.0f %7s %10.1f %10.1f\n", kind, n, bytes / 1e6, a * 1e6 / n, b * 1e6 / n,
