@@ -30,7 +30,8 @@ def lost_addition(r):
 
 
 def invented_sight(r):
-    seen(r)[0][0]["seen"] += 1
+    """A value above all sums of charges, since one more may have been seen a moment later."""
+    seen(r)[0][0]["seen"] += 2**40
 
 
 def admitted_over_the_limit(r):
