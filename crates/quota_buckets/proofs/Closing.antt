@@ -1,12 +1,11 @@
 -- Slots whose gaps are closed hold the same buckets, and an index of their names that is set place by place is theirs.
 use Rattle.std.proofs.Common.{◌≡◌, ℕ, ◌+◌, ◌<◌, ◌⊎◌, inl, inr, Bool, true, false, List, [], ◌∷◌, ◌++◌, refl, ap, sym, ◌∙◌, arith, Option, Some, None, cond, is_some, map, suc, zero}
 use Rattle.std.proofs.Common.{get_or, length, take}
-use Rattle.std.proofs.lemmas.Bool.{cases_eq, true≢false}
+use Rattle.std.proofs.lemmas.Bool.{cases_eq}
 use Rattle.std.proofs.lemmas.List.{map-append, take_more}
 use Rattle.std.proofs.lemmas.List.Elements.{filter-append}
 use Rattle.quota_settings.specs.declared.pair.Pair.{Pair}
 use Rattle.quota_settings.specs.Pairs.{same_pairs}
-use Rattle.quota_bucket.specs.History.{is_gone}
 use Rattle.quota_buckets.specs.Slots.{AllThere, AreDistinct, ArePlaced, IsIndex, IsNamed, IsSet}
 use Rattle.quota_buckets.specs.Tables.{Stored, held, slot_at, slot_due, slot_id, without_gaps}
 use Rattle.quota_buckets.proofs.Indexing.{apart_names, bucket_by_id, cases_names, same_names}

@@ -1,4 +1,5 @@
 ghost use Rattle.std.specs.Prelude.{◌≡◌, ◌++◌, OnOk, option_map};
+ghost use Rattle.std.specs.Arc.{arc_value};
 
 use crate::answers::Assigned;
 use crate::phase::Phase;
@@ -9,21 +10,23 @@ use quota_settings::BucketId;
 use rate_types::{Millis, OutOfMemory};
 use std::alloc::Global;
 use std::marker::Model;
+use std::sync::Arc;
 
-/// A bucket that is there, with the state of its history.
+/// A bucket that is there, with the state of its history. It shares the rules of its settings.
 #[derive(Drop)]
 pub struct Bucket {
     id: SharedId,
-    rules: BucketRules,
+    rules: Arc<BucketRules>,
     state: BucketState,
 }
 
 impl Model for Bucket {
+    ghost use Rattle.std.specs.Arc.{arc_value};
     ghost use Rattle.quota_buckets.specs.Tables.{Stored};
 
     ghost Value = { Stored };
 
-    ghost view = { λ b. record { id = b.id; rules = b.rules; state = b.state } };
+    ghost view = { λ b. record { id = b.id; rules = arc_value b.rules; state = b.state } };
 }
 
 impl Bucket {
@@ -36,8 +39,8 @@ impl Bucket {
     ghost use Rattle.quota_buckets.specs.Tables.{stored_asked, stored_answer, stored_assigned};
 
     /// A bucket with this state. It takes no memory.
-    pub fn of(id: SharedId, rules: BucketRules, state: BucketState) -> Bucket
-        ensures { result ≡ record { id = id; rules = rules; state = state } }
+    pub fn of(id: SharedId, rules: Arc<BucketRules>, state: BucketState) -> Bucket
+        ensures { result ≡ record { id = id; rules = arc_value rules; state = state } }
     {
         Bucket { id, rules, state }
     }

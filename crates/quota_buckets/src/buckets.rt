@@ -1,4 +1,5 @@
 ghost use Rattle.std.specs.Prelude.{◌≡◌, ◌<◌, ◌↔◌, ◌++◌, ◌∷◌, [], ℕ, Err, None, IfNone, IfOk, OnOk, OnErr, false, find, option_map};
+ghost use Rattle.std.specs.Arc.{arc_value};
 ghost use Rattle.quota_bucket.specs.Machine.{asked, new_state};
 ghost use Rattle.quota_buckets.specs.Sending.{report_from};
 ghost use Rattle.quota_buckets.specs.Tables.{is_stored_as, first_stored};
@@ -17,6 +18,7 @@ use rate_types::{Millis, OutOfMemory, Text};
 use std::alloc::Global;
 use std::hash::RandomState;
 use std::marker::Model;
+use std::sync::Arc;
 
 /// The buckets of one stream to the quota server. Contracts see the stream so far, each bucket with its history.
 #[derive(Drop)]
@@ -134,7 +136,7 @@ impl Buckets {
                 report: None,
             });
         }
-        let first = ask_first(self.alloc, &mut self.table, &id, &rules, self.up)?;
+        let first = ask_first(self.alloc, &mut self.table, &id, rules, self.up)?;
         self.calls = self.calls.and(&Call::Request, attributes);
         Ok(Decided {
             bucket: Some(id),
@@ -208,24 +210,25 @@ fn ask_first(
     alloc: Global,
     table: &mut Table,
     id: &BucketId,
-    rules: &BucketRules,
+    rules: &Arc<BucketRules>,
     up: bool,
 ) -> Result<First, OutOfMemory>
     requires { find (is_stored_as id.now) table.old.stored ≡ None }
     ensures made { OnOk result (table.new ≡ record table.old {
       stored = table.old.stored
-          ++ first_stored id.now rules.now table.old.time up ∷ [];
+          ++ first_stored id.now (arc_value rules.now) table.old.time up ∷ [];
     }) }
-    ensures allowed { IfOk result (λ first. first.allowed ≡ (asked rules.now table.old.time up (new_state table.old.time)).allowed) }
+    ensures allowed { IfOk result (λ first. first.allowed ≡ (asked (arc_value rules.now) table.old.time up (new_state table.old.time)).allowed) }
     ensures report { IfOk result (λ first. first.report
-        ≡ option_map (report_from id.now) (asked rules.now table.old.time up (new_state table.old.time)).report) }
+        ≡ option_map (report_from id.now) (asked (arc_value rules.now) table.old.time up (new_state table.old.time)).report) }
     ensures err { OnErr result (table.new ≡ table.old) }
 {
     let at = table.time();
     let asked = BucketState::new(at).asked(rules, at, up);
     let report = report_of(alloc, id, asked.report)?;
     let shared = SharedId::copy_of(alloc, id)?;
-    let bucket = Bucket::of(shared.share()?, *rules, asked.state);
+    let rules = Arc::try_clone(rules)?;
+    let bucket = Bucket::of(shared.share()?, rules, asked.state);
     table.add(alloc, shared, bucket)?;
     Ok(First {
         allowed: asked.allowed,

@@ -1,4 +1,5 @@
 ghost use Rattle.std.specs.Prelude.{◌≡◌, IfOk, IfSome, option_map, true};
+ghost use Rattle.std.specs.Arc.{arc_value};
 ghost use Rattle.std.specs.Option.{option_copied};
 
 use crate::attributes::Attributes;
@@ -8,29 +9,32 @@ use quota_bucket::BucketRules;
 use rate_types::{OutOfMemory, Text};
 use std::alloc::Global;
 use std::marker::Model;
+use std::sync::Arc;
 
-/// The settings of one kind of bucket: Envoy's `BucketSettings` of the rate limit quota filter.
+/// The settings of one kind of bucket: Envoy's `BucketSettings` of the rate limit quota filter. Its buckets share the rules, which are
+/// in memory once.
 #[derive(Drop)]
 pub struct BucketSettings {
     matches: Attributes,
     parts: Parts,
-    rules: BucketRules,
+    rules: Arc<BucketRules>,
 }
 
 impl Model for BucketSettings {
+    ghost use Rattle.std.specs.Arc.{arc_value};
     ghost use Rattle.quota_settings.specs.Covering.{OneSettings};
 
     ghost Value = { OneSettings };
 
-    ghost view = { λ s. record { matches = s.matches; parts = s.parts; rules = s.rules } };
+    ghost view = { λ s. record { matches = s.matches; parts = s.parts; rules = arc_value s.rules } };
 }
 
 impl BucketSettings {
     ghost use Rattle.quota_settings.specs.Covering.{covers, id_of, matches_all};
 
     /// These settings. It takes no memory.
-    pub fn of(matches: Attributes, parts: Parts, rules: BucketRules) -> BucketSettings
-        ensures { result ≡ record { matches = matches; parts = parts; rules = rules } }
+    pub fn of(matches: Attributes, parts: Parts, rules: Arc<BucketRules>) -> BucketSettings
+        ensures { result ≡ record { matches = matches; parts = parts; rules = arc_value rules } }
     {
         BucketSettings {
             matches,
@@ -45,18 +49,19 @@ impl BucketSettings {
     {
         let matches = self.matches.copy(alloc)?;
         let parts = self.parts.copy(alloc)?;
+        let rules = Arc::try_clone(&self.rules)?;
         Ok(BucketSettings {
             matches,
             parts,
-            rules: self.rules,
+            rules,
         })
     }
 
     /// The rules for its buckets.
-    pub fn rules(&self) -> BucketRules
-        ensures { result ≡ self.now.rules }
+    pub fn rules(&self) -> &Arc<BucketRules>
+        ensures { arc_value result.now ≡ self.now.rules }
     {
-        self.rules
+        &self.rules
     }
 
     /// Whether each name to match is an attribute with that value.

@@ -20,6 +20,7 @@ use rate_types::{Millis, Place, Refused};
 use serde_json::Value;
 use std::alloc::Global;
 use std::num::NonZeroU64;
+use std::sync::Arc;
 
 // The milliseconds of an interval that isn't absent or 0.
 fn positive(interval: Option<Millis>) -> Option<NonZeroU64>
@@ -34,6 +35,7 @@ fn positive(interval: Option<Millis>) -> Option<NonZeroU64>
 // The settings of these values.
 #[tactic(auto, using(proto_json::specs::Laws::reading_then), unfolding(crate::specs::ReadSettings::bucket_rules, crate::specs::ReadSettings::few_parts, crate::specs::ReadStrategy::unless_zero))]
 fn bucket_of(
+    alloc: Global,
     at: Place,
     matches: Attributes,
     parts: PartList,
@@ -68,6 +70,7 @@ fn bucket_of(
         expired: expiry.behavior,
         timeout: expiry.timeout,
     };
+    let rules = Arc::new(alloc, rules)?;
     Ok(BucketSettings::of(matches, parts.into_parts(), rules))
 }
 
@@ -89,7 +92,7 @@ fn bucket_in(alloc: Global, mut fields: Fields) -> Result<BucketSettings, FormFa
         behavior: AtExpiry::Abandon,
         timeout: None,
     });
-    let bucket = bucket_of(at, matches, parts, interval, unassigned, expiry)?;
+    let bucket = bucket_of(alloc, at, matches, parts, interval, unassigned, expiry)?;
     Ok(bucket)
 }
 

@@ -81,7 +81,7 @@ fn covered(alloc: Global, settings: &Settings, attributes: &str) -> Result<Strin
     };
     match settings.covering(&attributes) {
         Some(bucket) => match bucket.id_of(alloc, &attributes) {
-            Ok(id) => bucket_text(alloc, &id, &bucket.rules()),
+            Ok(id) => bucket_text(alloc, &id, bucket.rules()),
             Err(_) => Ok(String::from_str(alloc, "out of memory")?),
         },
         None => Ok(String::from_str(alloc, "no bucket")?),

@@ -1,4 +1,4 @@
-use Rattle.std.proofs.Common.{◌≡◌, ◌∙◌, ap, sym, refl}
+use Rattle.std.proofs.Common.{◌≡◌, ◌∙◌, ap}
 use Rattle.std.specs.HashMap.{get}
 use Rattle.quota_settings.specs.Pairs.{same_pairs}
 use Rattle.quota_buckets.specs.Tables.{held, without_gaps}

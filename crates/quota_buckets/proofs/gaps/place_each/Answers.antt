@@ -1,4 +1,4 @@
-use Rattle.std.proofs.Common.{arith, length}
+use Rattle.std.proofs.Common.{arith}
 use Rattle.std.specs.HashMap.{get}
 use Rattle.quota_settings.specs.Pairs.{same_pairs}
 use Rattle.quota_buckets.proofs.Closing.{all_placed}

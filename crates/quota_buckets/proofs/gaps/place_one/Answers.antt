@@ -1,4 +1,4 @@
-use Rattle.std.proofs.Common.{◌≡◌, ◌∙◌, Some, rules}
+use Rattle.std.proofs.Common.{◌≡◌, ◌∙◌, Some}
 use Rattle.std.specs.HashMap.{get}
 use Rattle.quota_settings.specs.Pairs.{same_pairs}
 use Rattle.quota_buckets.specs.Slots.{IsSet}

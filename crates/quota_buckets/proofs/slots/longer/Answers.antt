@@ -1,5 +1,4 @@
-use Rattle.std.proofs.Common.{◌≡◌, ◌∙◌, ◌++◌, None, replicate, map, length, lit<, refl, ap, sym}
-use Rattle.std.proofs.Math.ListN.{length-map}
+use Rattle.std.proofs.Common.{◌≡◌, ◌∙◌, ◌++◌, None, replicate, map, lit<, refl}
 use Rattle.quota_buckets.specs.Tables.{slot_due, without_gaps}
 use Rattle.quota_buckets.proofs.Advancing.{longer_agenda, longer_room}
 use Rattle.quota_buckets.proofs.slots.longer.Goals as goal

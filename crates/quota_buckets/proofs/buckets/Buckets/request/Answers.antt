@@ -1,4 +1,5 @@
 use Rattle.std.proofs.Common.{◌≡◌, ◌∙◌, ◌++◌, ◌∷◌, [], List, ap, sym, refl, Some, None}
+use Rattle.std.specs.Arc.{arc_value}
 use Rattle.quota_settings.specs.Covering.{covering}
 use Rattle.quota_bucket.specs.Machine.{asked, new_state}
 use Rattle.quota_buckets.specs.Streams.{new_stream, answer, asked_again, made_now}
@@ -70,12 +71,12 @@ invariant_of-self-2 c =
     let make : List Stored → Table = λ stored. record { time = c.self.inside.table.time; stored = stored } in
     let same : c.ask.new.self ≡ c.self.inside.table = c.ask.ensures.stored ∙ ap make gone.same in
     let told : answer id s ≡ None = sym answers ∙ c.in_default-ask.is in
-    let made = made_is c.args.attributes.now id s settings c.in-Some.settings.now c.rules-rules.result c.self.invariant.settings_are covers
+    let made = made_is c.args.attributes.now id s settings c.in-Some.settings.now (arc_value c.rules-rules.result.now) c.self.invariant.settings_are covers
     c.in_ok-id.ensures c.rules-rules.ensures told in
-    let more : stream_of settings c.and-self-inside-2.result.items ≡ record s { buckets = s.buckets ++ made_now id c.rules-rules.result s ∷ [] } =
+    let more : stream_of settings c.and-self-inside-2.result.items ≡ record s { buckets = s.buckets ++ made_now id (arc_value c.rules-rules.result.now) s ∷ [] } =
     ap (stream_of settings) c.and-self-inside-2.ensures ∙ call_more (new_stream settings) c.self.inside.calls.items Request c.args.attributes.now ∙ made.counted in
-    rw more (made_held settings c.self.inside.up table c.ask_first.new.table s id c.rules-rules.result
-    (asked c.rules-rules.result table.time c.self.inside.up (new_state table.time)).state c.self.invariant refl
+    rw more (made_held settings c.self.inside.up table c.ask_first.new.table s id (arc_value c.rules-rules.result.now)
+    (asked (arc_value c.rules-rules.result.now) table.time c.self.inside.up (new_state table.time)).state c.self.invariant refl
     (rw same at c.in_ok-first.ensures.made))
 
 pub returns-clause-counted : goal.returns-clause-counted
@@ -96,9 +97,9 @@ returns-clause-decision c =
     let make : List Stored → Table = λ stored. record { time = c.self.inside.table.time; stored = stored } in
     let same : c.ask.new.self ≡ c.self.inside.table = c.ask.ensures.stored ∙ ap make gone.same in
     let told : answer id s ≡ None = sym answers ∙ c.in_default-ask.is in
-    let made = made_is c.args.attributes.now id s settings c.in-Some.settings.now c.rules-rules.result c.self.invariant.settings_are covers
+    let made = made_is c.args.attributes.now id s settings c.in-Some.settings.now (arc_value c.rules-rules.result.now) c.self.invariant.settings_are covers
     c.in_ok-id.ensures c.rules-rules.ensures told in
-    rw (← c.self.view_is) (made_told settings c.self.inside.up table s id c.rules-rules.result c.in_ok-first.first.allowed c.in_ok-first.first.report
+    rw (← c.self.view_is) (made_told settings c.self.inside.up table s id (arc_value c.rules-rules.result.now) c.in_ok-first.first.allowed c.in_ok-first.first.report
     c.self.invariant (rw same at c.in_ok-first.ensures.allowed) (rw same at c.in_ok-first.ensures.report) ∙ sym made.decision)
 
 pub returns-in-Some-ask-clause-allowance : goal.returns-in-Some-ask-clause-allowance

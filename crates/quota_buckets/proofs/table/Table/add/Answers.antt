@@ -1,7 +1,6 @@
 use Rattle.std.proofs.Common.{rules, ◌≡◌, ◌<◌, ◌++◌, ◌∷◌, [], ◌∙◌, List, Some, None, ap, refl, find, length}
 use Rattle.std.specs.HashMap.{get}
 use Rattle.quota_settings.specs.Pairs.{same_pairs}
-use Rattle.quota_buckets.specs.Slots.{IsAgenda}
 use Rattle.quota_buckets.specs.Tables.{Stored, Table, held, is_stored_as}
 use Rattle.quota_buckets.proofs.Advancing.{agenda_push, held_push}
 use Rattle.quota_buckets.proofs.Steps.{pushed_index}
