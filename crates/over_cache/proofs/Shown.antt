@@ -1,5 +1,5 @@
 -- Entries whose keys are shown as their bytes.
-use Rattle.std.proofs.Common.{◌≡◌, ℕ, ◌+◌, ◌≤◌, Bool, true, false, cond, List, [], ◌∷◌, length, take, map, Option, Some, None, option_map, refl, sym, ◌∙◌, ap, subst, arith}
+use Rattle.std.proofs.Common.{◌≡◌, ℕ, ◌+◌, ◌≤◌, Bool, true, false, cond, List, [], ◌∷◌, length, take, map, slice_get, Option, Some, None, option_map, refl, sym, ◌∙◌, ap, subst, arith}
 use Rattle.std.specs.List.{AllByRecursion, IsDistinct}
 use Rattle.std.specs.Option.{option_map_or}
 use Rattle.std.specs.Map.{keys_of, lookup, lookup_entry, remove_entry, set_value}
@@ -41,6 +41,25 @@ module _ {A V : Type 0} (items : A → List ℕ) where
           ≡ map shown (option_map_or (λ e. e ∷ remove_entry (λ a. test (items a)) es) o es)
       by None = refl
       by (Some e) = refl
+
+module _ {A V : Type 0} (items : A → List ℕ) (test : List ℕ → Bool) where
+  -- the first entry, where its key is the one that is looked up
+  pub first_known : (es : List (A × V)) (e : A × V) → slice_get es 0 ≡ Some e → test (items e.0) ≡ true → lookup test (map (shown items) es) ≡ Some e.1
+  first_known [] e is found = cc
+  first_known (f ∷ fs) e is found =
+      let same : f ≡ e = cc in
+      ap (λ b. cond b (Some f.1) (lookup test (map (shown items) fs))) (subst (λ (g : A × V). test (items g.0) ≡ true) (sym same) found)
+      ∙ ap (λ (g : A × V). Some g.1) same
+
+  -- it stays first
+  pub first_stays : (es : List (A × V)) (e : A × V) → slice_get es 0 ≡ Some e → test (items e.0) ≡ true → promoted test (map (shown items) es) ≡ map (shown items) es
+  first_stays [] e is found = cc
+  first_stays (f ∷ fs) e is found =
+      let same : f ≡ e = cc in
+      let first : test (items f.0) ≡ true = subst (λ (g : A × V). test (items g.0) ≡ true) (sym same) found in
+      let all : List (List ℕ × V) = map (shown items) fs in
+      ap (λ b. option_map_or (λ (x : List ℕ × V). x ∷ cond b all (shown items f ∷ remove_entry test all)) (cond b (Some (shown items f)) (lookup_entry test all))
+      (shown items f ∷ all)) first
 
 module _ {A V : Type 0} (test : A → Bool) where
   -- an entry that is found

@@ -1,4 +1,4 @@
-ghost use Rattle.std.specs.Prelude.{◌≡◌, ℕ, List, [], ◌∷◌, false, length, Some, is_some, IfOk, IsSome, IsOk, OnOk, OnErr};
+ghost use Rattle.std.specs.Prelude.{◌≡◌, ℕ, List, [], ◌∷◌, false, length, Some, is_some, IfOk, IfSome, IsSome, IsOk, OnOk, OnErr};
 ghost use Rattle.std.specs.Bool.{IsTrue};
 ghost use Rattle.over_cache.specs.Entries.{is_key, known_of, asked, noted, AreEntries};
 ghost use Rattle.over_cache.specs.declared.known.Known.{Known as KnownValue};
@@ -10,6 +10,7 @@ use counter_cells::Spot;
 use lru::LruCache;
 use rate_types::OutOfMemory;
 use std::alloc::Global;
+use std::collections::hash_map::Equivalent;
 use std::hash::RandomState;
 use std::marker::Model;
 use std::num::NonZeroUsize;
@@ -62,7 +63,23 @@ impl OverCache {
         ensures order { self.new ≡ asked key.now self.old }
         ensures remembers { (uses : List Use) → Remembers uses self.old → Remembers (Asked key.now ∷ uses) self.new }
     {
+        if let Some(known) = self.used_last(key) {
+            return Some(known);
+        }
         self.keys.get(SoughtBytes { bytes: key }).copied()
+    }
+
+    // What is known of the key, where it is the one used last: it is compared, and needs no hash.
+    fn used_last(&self, key: &[u8]) -> Option<Known>
+        ensures known { IfSome result (λ known. known_of key.now self.now ≡ Some known) }
+        ensures order { IsSome result → asked key.now self.now ≡ self.now }
+    {
+        let (last, known) = self.keys.peek_mru()?;
+        if (SoughtBytes { bytes: key }).equivalent(last) {
+            Some(*known)
+        } else {
+            None
+        }
     }
 
     /// Notes a spot and a value of a key as [`OverCache::note`] does, where the key is known. Else nothing changes. It takes no

@@ -1,4 +1,4 @@
-use Rattle.std.proofs.Common.{◌∙◌, ◌∷◌, map, sym, ap, subst}
+use Rattle.std.proofs.Common.{◌∙◌, ◌∷◌, map, refl, sym, ap, subst}
 use Rattle.lru.specs.LruCache.{LruCache}
 use Rattle.over_cache.specs.declared.known.Known.{Known}
 use Rattle.over_cache.specs.declared.key_bytes.KeyBytes.{KeyBytes}
@@ -22,4 +22,9 @@ returns-clause-order c =
 
 pub returns-clause-remembers : goal.returns-clause-remembers
 returns-clause-remembers c = λ uses r. subst (λ (es : Entries). Remembers (Asked c.args.key.now ∷ uses) es) (sym (returns-clause-order c))
+    (asked_remembers c.args.key.now uses c.args.self.now r)
+
+pub returns-in-Some-clause-remembers : goal.returns-in-Some-clause-remembers
+returns-in-Some-clause-remembers c = λ uses r.
+    subst (λ (es : Entries). Remembers (Asked c.args.key.now ∷ uses) es) (c.in-Some.ensures.order refl)
     (asked_remembers c.args.key.now uses c.args.self.now r)
