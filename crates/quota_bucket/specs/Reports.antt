@@ -9,12 +9,12 @@ use Rattle.quota_bucket.specs.declared.rules.BucketRules.{BucketRules}
 use Rattle.quota_bucket.specs.declared.bucket_state.Usage.{Usage}
 use Rattle.quota_bucket.specs.declared.timed_phase.TimedPhase.{TimedPhase}
 
--- the moment of the latest event
+-- the moment of the latest event; a history begins at 0, as a stream does
 abbrev pub present : List Event → ℕ
 present [] = 0
 present (event ∷ history) = moment_of event
 
--- the moment of the request that made the bucket
+-- the moment of the request that made the bucket; without one there is no bucket, and nothing asks for it
 abbrev pub first_at : BucketRules → List Event → ℕ
 first_at rules [] = 0
 first_at rules (Request at up ∷ history) = if is_gone (phase_after rules history) then at else first_at rules history
@@ -53,7 +53,8 @@ unreported rules (Request at up ∷ history) =
     else record { at = at; allowed = is_allowed rules history at } ∷ unreported rules history
 unreported rules (_ ∷ history) = unreported rules history
 
--- the moment of the last report, and before the first one that of the request that made the bucket
+-- the moment of the last report, and before the first one that of the request that made the bucket; without one there is no bucket,
+-- and nothing asks for it
 abbrev pub last_report : BucketRules → List Event → ℕ
 last_report rules [] = 0
 last_report rules (Advance at up ∷ history) =
