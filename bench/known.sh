@@ -1,6 +1,7 @@
 #!/usr/bin/env bash
-# Nanoseconds of one check of a counter that its pass knows, by check_open_into and by check_into of rate_limiter: from one thread, from four
-# threads that count on one key, and from four threads of which each has a key of its own. Beside them the same work over a dashmap in Rust
+# Nanoseconds of one check of a counter that its pass knows, by check_open_into and by check_into of rate_limiter: from one thread on one key
+# and on 64 keys in turn, from four threads that count on one key, and from four threads of which each has a key of its own. Beside them the
+# same work over a dashmap in Rust
 # (bench/peer.rs; no ratio where there is no cargo): the rule by its domain and key, the counter by its bytes, one look, one addition and
 # a status. Each is the least of five tries, in turns.
 # Then, where there is valgrind, what 1,000 of these checks a thread take beyond what one takes: allocations of the whole program, and
@@ -76,12 +77,13 @@ fn request(alloc: Global, value: &str) -> Option<Request> {
     Request::build(Text::new(alloc, "d").ok()?, descriptors, 1).ok()
 }
 
-// What the threads of a run share: their limiter and how many they are, whether each has a key of its own, whether they check by
-// check_open_into, and how often each.
+// What the threads of a run share: their limiter and how many they are, how many keys each checks in turn, whether these are its own,
+// whether they check by check_open_into, and how often they check each key.
 #[derive(Drop)]
 struct Run<'a, N: CellNaming> {
     limiter: &'a Limiter<N>,
     threads: u64,
+    keys: u32,
     is_apart: bool,
     is_open: bool,
     each: u32,
@@ -89,31 +91,71 @@ struct Run<'a, N: CellNaming> {
     come: AtomicU64,
 }
 
-// How many of so many checks were refused.
-fn open_rounds<N: CellNaming>(limiter: &Limiter<N>, pass: &mut Pass<N>, request: &Request, rounds: u32) -> u64
+// How many checks of these requests were refused.
+fn open_each<N: CellNaming>(limiter: &Limiter<N>, pass: &mut Pass<N>, requests: &[Request], reply: &mut Reply) -> u64
     requires pass { pass.old.limiter ≡ limiter.now.id }
+    ensures pass { pass.new.limiter ≡ limiter.now.id }
 {
-    let mut reply = Reply::new();
     let mut refused = 0u64;
-    for _round in 0..rounds {
-        if limiter.check_open_into(pass, request, Seconds::capped(5), &mut reply).is_err() {
+    for request in requests {
+        if limiter.check_open_into(pass, request, Seconds::capped(5), reply).is_err() {
             refused = refused.wrapping_add(1);
         }
     }
     refused
 }
 
-fn rounds<N: CellNaming, R: Wait>(rt: &R, alloc: Global, limiter: &Limiter<N>, pass: &mut Pass<N>, request: &Request, rounds: u32) -> u64
+fn check_each<N: CellNaming, R: Wait>(
+    rt: &R,
+    alloc: Global,
+    limiter: &Limiter<N>,
+    pass: &mut Pass<N>,
+    requests: &[Request],
+    reply: &mut Reply,
+) -> u64
+    requires pass { pass.old.limiter ≡ limiter.now.id }
+    ensures pass { pass.new.limiter ≡ limiter.now.id }
+{
+    let mut refused = 0u64;
+    for request in requests {
+        if limiter.check_into(rt, alloc, pass, request, Seconds::capped(5), reply).is_err() {
+            refused = refused.wrapping_add(1);
+        }
+    }
+    refused
+}
+
+// How many checks were refused, so many of each of these requests.
+fn open_rounds<N: CellNaming>(limiter: &Limiter<N>, pass: &mut Pass<N>, requests: &[Request], rounds: u32) -> u64
     requires pass { pass.old.limiter ≡ limiter.now.id }
 {
     let mut reply = Reply::new();
     let mut refused = 0u64;
     for _round in 0..rounds {
-        if limiter.check_into(rt, alloc, pass, request, Seconds::capped(5), &mut reply).is_err() {
-            refused = refused.wrapping_add(1);
-        }
+        refused = refused.wrapping_add(open_each(limiter, pass, requests, &mut reply));
     }
     refused
+}
+
+fn rounds<N: CellNaming, R: Wait>(rt: &R, alloc: Global, limiter: &Limiter<N>, pass: &mut Pass<N>, requests: &[Request], rounds: u32) -> u64
+    requires pass { pass.old.limiter ≡ limiter.now.id }
+{
+    let mut reply = Reply::new();
+    let mut refused = 0u64;
+    for _round in 0..rounds {
+        refused = refused.wrapping_add(check_each(rt, alloc, limiter, pass, requests, &mut reply));
+    }
+    refused
+}
+
+// A request for each of so many values that no thread of another number has.
+fn requests(alloc: Global, number: u64, keys: u32) -> Option<Vec<Request>> {
+    let mut requests = Vec::new(alloc);
+    for key in 0..keys {
+        let value = format!(in alloc; "v{number}_{key}").ok()?;
+        requests.push(request(alloc, &value)?).ok()?;
+    }
+    Some(requests)
 }
 
 // Waits until so many threads have come.
@@ -127,7 +169,7 @@ fn meet(come: &AtomicU64, threads: u64) {
     }
 }
 
-// The nanoseconds of the checks of a thread, after one that makes its counter known.
+// The nanoseconds of the checks of a thread, after those that make its counters known.
 fn work<N: CellNaming, R: Wait + Clock>(rt: &R, alloc: Global, run: &Run<'_, N>, mut pass: Pass<N>) -> Option<u64>
     requires pass { pass.limiter ≡ run.now.limiter.now.id }
 {
@@ -135,18 +177,18 @@ fn work<N: CellNaming, R: Wait + Clock>(rt: &R, alloc: Global, run: &Run<'_, N>,
     if run.is_apart {
         number = run.numbers.fetch_add(1, Ordering::SeqCst);
     }
-    let value = format!(in alloc; "v{number}").ok()?;
-    let request = request(alloc, &value)?;
+    let requests = requests(alloc, number, run.keys)?;
     let limiter = run.limiter;
-    if limiter.check(rt, alloc, &mut pass, &request, Seconds::capped(5)).is_err() {
+    let mut reply = Reply::new();
+    if check_each(rt, alloc, limiter, &mut pass, requests.as_slice(), &mut reply) > 0 {
         return None;
     }
     meet(&run.come, run.threads);
     let start = Instant::now(rt).ok()?;
     let refused = if run.is_open {
-        open_rounds(limiter, &mut pass, &request, run.each)
+        open_rounds(limiter, &mut pass, requests.as_slice(), run.each)
     } else {
-        rounds(rt, alloc, limiter, &mut pass, &request, run.each)
+        rounds(rt, alloc, limiter, &mut pass, requests.as_slice(), run.each)
     };
     let spent = start.elapsed(rt).ok()?;
     if refused > 0 {
@@ -188,6 +230,7 @@ fn timed<N: CellNaming + Send + Sync, R: Threads + Wait + Clock + RandomSource +
     alloc: Global,
     opened: OpenedCells,
     threads: u32,
+    keys: u32,
     is_apart: bool,
     is_open: bool,
     each: u32,
@@ -204,6 +247,7 @@ fn timed<N: CellNaming + Send + Sync, R: Threads + Wait + Clock + RandomSource +
     let run = Run {
         limiter: &limiter,
         threads: u64::from(threads),
+        keys,
         is_apart,
         is_open,
         each,
@@ -218,16 +262,17 @@ fn one<R: Threads + Wait + Clock + RandomSource + Sync>(
     rt: &R,
     alloc: Global,
     threads: u32,
+    keys: u32,
     is_apart: bool,
     is_open: bool,
     each: u32,
 ) -> u64
     requires { (1 ≤ threads) × (threads ≤ 4) }
 {
-    let Ok(opened) = OpenedCells::make(alloc, 64, threads, Seconds::capped(0)) else {
+    let Ok(opened) = OpenedCells::make(alloc, 128, threads, Seconds::capped(0)) else {
         return 0;
     };
-    timed::<Brand, R>(rt, alloc, opened, threads, is_apart, is_open, each).unwrap_or(0)
+    timed::<Brand, R>(rt, alloc, opened, threads, keys, is_apart, is_open, each).unwrap_or(0)
 }
 
 // How many checks a thread makes: the number among the program's words.
@@ -244,17 +289,20 @@ fn main(rt: HostRuntime) -> std::io::Result<()> {
     let Some(each) = checks(&rt)? else {
         return Ok(());
     };
-    let a = one(&rt, rt.alloc(), 1, false, true, each);
-    let b = one(&rt, rt.alloc(), 1, false, false, each);
-    let c = one(&rt, rt.alloc(), 4, false, true, each);
-    let d = one(&rt, rt.alloc(), 4, false, false, each);
-    let e = one(&rt, rt.alloc(), 4, true, true, each);
-    let f = one(&rt, rt.alloc(), 4, true, false, each);
-    println!(rt; "{a} {b} 1\n{c} {d} 4\n{e} {f} 4")?;
+    let in_turn = each.checked_div(64).unwrap_or(0);
+    let a = one(&rt, rt.alloc(), 1, 1, false, true, each);
+    let b = one(&rt, rt.alloc(), 1, 1, false, false, each);
+    let c = one(&rt, rt.alloc(), 1, 64, false, true, in_turn);
+    let d = one(&rt, rt.alloc(), 1, 64, false, false, in_turn);
+    let e = one(&rt, rt.alloc(), 4, 1, false, true, each);
+    let f = one(&rt, rt.alloc(), 4, 1, false, false, each);
+    let g = one(&rt, rt.alloc(), 4, 1, true, true, each);
+    let h = one(&rt, rt.alloc(), 4, 1, true, false, each);
+    println!(rt; "{a} {b} 1\n{c} {d} 1\n{e} {f} 4\n{g} {h} 4")?;
     Ok(())
 }
 RT
-mkdir -p "$bench/proofs/one" "$bench/proofs/rounds" "$bench/proofs/open_rounds" "$bench/proofs/work_each"
+mkdir -p "$bench/proofs/one" "$bench/proofs/rounds" "$bench/proofs/open_rounds" "$bench/proofs/check_each" "$bench/proofs/open_each" "$bench/proofs/work_each"
 cat > "$bench/proofs/one/Invariants.antt" <<'PF'
 use Rattle.counter_cells.specs.Opened.{table_of, setup_of}
 use Rattle.known_bench.proofs.one.Given as goal
@@ -262,13 +310,15 @@ use Rattle.known_bench.proofs.one.Given as goal
 abbrev pub ghosts-timed : goal.ghosts-timed
 ghosts-timed g a = record { table = table_of a.opened; setup = setup_of a.opened }
 PF
-for each in rounds open_rounds; do
+for each in rounds open_rounds check_each open_each; do
+    loop=round
+    [ "${each%each}" = "$each" ] || loop=request
     cat > "$bench/proofs/$each/Invariants.antt" <<PF
 use Rattle.std.proofs.Common.{◌≡◌}
 use Rattle.known_bench.proofs.$each.Given as goal
 
-abbrev pub invariant-loop-round : goal.invariant-loop-round
-invariant-loop-round g l = l.pass.limiter ≡ l.limiter.id
+abbrev pub invariant-loop-$loop : goal.invariant-loop-$loop
+invariant-loop-$loop g l = l.pass.limiter ≡ l.limiter.id
 PF
 done
 cat > "$bench/proofs/Crossing.antt" <<'PF'
@@ -332,17 +382,18 @@ for attempt in 1 2 3 4 5; do
 done
 grep -E '^[0-9]+ [0-9]+ [0-9]+$' "$work/run.txt" | paste -d ' ' - "$work/peer.txt" | awk -v n="$checks" '
 {
-    row = (NR - 1) % 3
+    row = (NR - 1) % 4
     threads[row] = $3
-    if (NR <= 3 || $1 < open[row]) open[row] = $1
-    if (NR <= 3 || $2 < all[row]) all[row] = $2
-    if (NR <= 3 || $4 < peer[row]) peer[row] = $4
+    if (NR <= 4 || $1 < open[row]) open[row] = $1
+    if (NR <= 4 || $2 < all[row]) all[row] = $2
+    if (NR <= 4 || $4 < peer[row]) peer[row] = $4
 }
 END {
     print "threads keys       check_open ns ratio   check ns ratio   dashmap ns"
-    for (row = 0; row < 3; row++) {
-        per = n * threads[row]
-        printf "%7d %-10s %13.1f %5.2f %10.1f %5.2f %12.1f\n", threads[row], row == 2 ? "each its" : "one",
+    split("one,64 in turn,one,each its", keys, ",")
+    for (row = 0; row < 4; row++) {
+        per = (row == 1 ? n - n % 64 : n) * threads[row]
+        printf "%7d %-10s %13.1f %5.2f %10.1f %5.2f %12.1f\n", threads[row], keys[row + 1],
             open[row] / per, peer[row] ? open[row] / peer[row] : 0, all[row] / per, peer[row] ? all[row] / peer[row] : 0, peer[row] / per
     }
 }'
@@ -390,6 +441,6 @@ PY
         valgrind --tool=callgrind --dump-instr=yes --callgrind-out-file="$work/counted" "$bench/out/known_bench" "$each" > /dev/null 2>&1
         locked+=("$(python3 "$work/locked.py" "$bench/out/known_bench" "$work/counted")")
     done
-    # Six runs, two of one thread and four of four: 18 threads.
-    awk -v one="${locked[0]}" -v all="${locked[1]}" 'BEGIN { printf "locked instructions a check: %.2f\n", (all - one) / (999 * 18) }'
+    # Six runs of one key a thread, two of one thread and four of four: 18 threads. Two of 64 keys, each of which is checked 15 times.
+    awk -v one="${locked[0]}" -v all="${locked[1]}" 'BEGIN { printf "locked instructions a check: %.2f\n", (all - one) / (999 * 18 + 2 * 15 * 64) }'
 fi

@@ -1,6 +1,6 @@
 // What a good engineer would write over dashmap: the rule by its domain and key, the counter by its bytes, a look, an addition, a status.
-//   peer known CHECKS         three lines: the nanoseconds of all threads, with so many checks each of a counter that is there,
-//                             for one thread, for four threads with one key, and for four with a key each
+//   peer known CHECKS         four lines: the nanoseconds of all threads, with so many checks each of counters that are there,
+//                             for one thread with one key and with 64 in turn, for four threads with one key, and for four with a key each
 //   peer gen NUMBER CHECKS    the load and the line of `ratelimit gen NUMBER CHECKS`
 use dashmap::DashMap;
 use std::collections::HashMap;
@@ -104,7 +104,7 @@ fn request(domain: &str, key: &str, value: String) -> Request {
     Request { domain: domain.to_string(), descriptors: vec![vec![entry]], hits: 1 }
 }
 
-fn known(threads: usize, are_apart: bool, checks: u32) -> u64 {
+fn known(threads: usize, keys: u32, are_apart: bool, checks: u32) -> u64 {
     let limiter = Limiter::of("d", "k", 4_000_000_000);
     let start = Barrier::new(threads);
     std::thread::scope(|scope| {
@@ -112,14 +112,19 @@ fn known(threads: usize, are_apart: bool, checks: u32) -> u64 {
             .map(|thread| {
                 let (limiter, start) = (&limiter, &start);
                 scope.spawn(move || {
-                    let request = request("d", "k", format!("v{}", if are_apart { thread } else { 0 }));
+                    let number = if are_apart { thread } else { 0 };
+                    let requests: Vec<_> = (0..keys).map(|key| request("d", "k", format!("v{number}_{key}"))).collect();
                     let (mut key, mut statuses) = (Vec::with_capacity(64), Vec::with_capacity(32));
-                    limiter.check(&request, 5, &mut key, &mut statuses);
+                    for request in &requests {
+                        limiter.check(request, 5, &mut key, &mut statuses);
+                    }
                     start.wait();
                     let from = Instant::now();
-                    for _ in 0..checks {
-                        black_box(limiter.check(black_box(&request), 5, &mut key, &mut statuses));
-                        black_box(&statuses);
+                    for _ in 0..checks / keys {
+                        for request in &requests {
+                            black_box(limiter.check(black_box(request), 5, &mut key, &mut statuses));
+                            black_box(&statuses);
+                        }
                     }
                     from.elapsed().as_nanos() as u64
                 })
@@ -160,8 +165,8 @@ fn main() {
     match &words[..] {
         [what, checks] if what == "known" => {
             let checks = checks.parse().unwrap();
-            for (threads, are_apart) in [(1, false), (4, false), (4, true)] {
-                println!("{}", known(threads, are_apart, checks));
+            for (threads, keys, are_apart) in [(1, 1, false), (1, 64, false), (4, 1, false), (4, 1, true)] {
+                println!("{}", known(threads, keys, are_apart, checks));
             }
         }
         [what, number, checks] if what == "gen" => gen(number.parse().unwrap(), checks.parse().unwrap()),
