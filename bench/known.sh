@@ -1,9 +1,8 @@
 #!/usr/bin/env bash
 # Nanoseconds of one check of a counter that its pass knows, by check_open_into and by check_into of rate_limiter: from one thread on one key
 # and on 64 keys in turn, from four threads that count on one key, and from four threads of which each has a key of its own. Beside them the
-# same work over a dashmap in Rust
-# (bench/peer.rs; no ratio where there is no cargo): the rule by its domain and key, the counter by its bytes, one look, one addition and
-# a status. Each is the least of five tries, in turns.
+# same work over a dashmap in Rust (bench/peer.rs; no ratio where there is no cargo): the rule by its domain and key, the counter by its
+# bytes, one look, one addition and a status. Each is the least of five tries, in turns.
 # Then, where there is valgrind, what 1,000 of these checks a thread take beyond what one takes: allocations of the whole program, and
 # locked instructions for each check.
 # Run it at the top of the repository: bench/known.sh [CHECKS of each thread, 1000000 unless given]
