@@ -22,7 +22,7 @@ use Rattle.reply_text.specs.declared.record.Outcome.TheVariants.{Checked}
 use Rattle.script_run.specs.ScriptLine.{check}
 use Rattle.script_run.specs.Charges.{charges_shown, sights_shown}
 use Rattle.load_gen.specs.Load.{load_config, request_for, descriptor_for}
-use Rattle.load_gen.specs.Summary.{is_admitted, is_denied}
+use Rattle.script_run.specs.Answers.{is_admitted, is_denied}
 use Rattle.load_gen.specs.declared.constants.TheConstants.{LIMIT}
 use Rattle.load_gen.proofs.Counters.{counter_for}
 

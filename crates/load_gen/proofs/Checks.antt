@@ -13,7 +13,7 @@ use Rattle.reply_text.specs.declared.record.Record.{Record}
 use Rattle.script_run.specs.Charges.{ledger_of, sights_of, ChargesFormLedger, LimitsHold, SightsLawful}
 use Rattle.load_gen.specs.Load.{checks_for}
 use Rattle.load_gen.specs.Sums.{sum_below}
-use Rattle.load_gen.specs.Summary.{is_admitted, is_denied}
+use Rattle.script_run.specs.Answers.{is_admitted, is_denied}
 use Rattle.load_gen.specs.declared.constants.TheConstants.{VALUES, LIMIT}
 use Rattle.load_gen.proofs.Counters.{counter_for, same_for}
 use Rattle.load_gen.proofs.Answering.{charge_on, sight_on, IsAnswered}

@@ -19,7 +19,8 @@ use Rattle.script_run.specs.Refusals.{HasRefusalCause}
 use Rattle.script_run.specs.Run.{IsRun}
 use Rattle.script_run.specs.Versions.{version_in}
 use Rattle.load_gen.specs.Load.{load_config, load_lines, request_for, checks_for, values_of, value_at}
-use Rattle.load_gen.specs.Summary.{is_admitted, is_denied, counted, admitted_of, load_counts, counts_line, IsSameForEachRun}
+use Rattle.script_run.specs.Answers.{is_admitted, is_denied}
+use Rattle.load_gen.specs.Summary.{counted, admitted_of, load_counts, counts_line, IsSameForEachRun}
 use Rattle.load_gen.specs.declared.constants.TheConstants.{VALUES, LIMIT}
 use Rattle.load_gen.specs.declared.counts.CheckCounts.{CheckCounts}
 use Rattle.load_gen.proofs.Answering.{IsAnswered, answered}

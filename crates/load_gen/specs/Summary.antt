@@ -1,13 +1,12 @@
 -- What comes of the checks of a run, and of those of a made-up load.
-use Rattle.std.specs.Prelude.{◌≡◌, ℕ, ◌+◌, ◌-◌, ◌*◌, ◌≤◌, List, Bool, false, not, min, codes, count_by}
+use Rattle.std.specs.Prelude.{◌≡◌, ℕ, ◌+◌, ◌-◌, ◌*◌, ◌≤◌, List, false, min, codes}
 use Rattle.serde_json.specs.Data.{Data, object, member, no_members}
 use Rattle.serde_json.specs.Written.{compact_text}
 use Rattle.rate_types.specs.Sums.{times}
 use Rattle.rate_types.specs.declared.limits.TheConstants.{MOST_PINS}
 use Rattle.reply_text.specs.Texts.{whole}
 use Rattle.reply_text.specs.declared.record.Record.{Record}
-use Rattle.reply_text.specs.declared.record.Outcome.{Outcome}
-use Rattle.reply_text.specs.declared.record.Outcome.TheVariants.{Checked}
+use Rattle.script_run.specs.Answers.{admitted_among, denied_among}
 use Rattle.script_run.specs.Run.{IsRun}
 use Rattle.load_gen.specs.declared.constants.TheConstants.{VALUES, LIMIT}
 use Rattle.load_gen.specs.declared.counts.CheckCounts.{CheckCounts}
@@ -16,22 +15,12 @@ use Rattle.load_gen.specs.Load.{values_of, load_config, load_lines}
 
 -- ---- of the records of a run
 
--- an answered check whose overall code is OK
-abbrev pub is_admitted : Outcome → Bool
-is_admitted (Checked answer) = not answer.over
-is_admitted other = false
-
--- an answered check whose overall code is OVER_LIMIT
-abbrev pub is_denied : Outcome → Bool
-is_denied (Checked answer) = answer.over
-is_denied other = false
-
 -- how many answered checks the records show, and how many of either code
 abbrev pub counted : List Record → CheckCounts
 counted records = record {
-  admitted = count_by (λ r. is_admitted r.outcome) records;
-  checks = count_by (λ r. is_admitted r.outcome) records + count_by (λ r. is_denied r.outcome) records;
-  denied = count_by (λ r. is_denied r.outcome) records;
+  admitted = admitted_among records;
+  checks = admitted_among records + denied_among records;
+  denied = denied_among records;
 }
 
 -- ---- of a load

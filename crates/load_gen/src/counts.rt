@@ -6,8 +6,7 @@ ghost use Rattle.rate_types.specs.declared.limits.TheConstants.{MOST_LINES};
 ghost use Rattle.load_gen.specs.Summary as spec;
 
 use rate_types::OutOfMemory;
-use reply_text::Outcome;
-use script_run::RunRecords;
+use script_run::{AnswerCounts, RunRecords, count_answers};
 use serde_json::{Value, json};
 use std::alloc::{AllocError, Global};
 
@@ -22,45 +21,15 @@ pub struct CheckCounts {
     pub denied: u32,
 }
 
-fn is_admitted(outcome: &Outcome) -> bool
-    ensures { result ≡ spec.is_admitted outcome.now }
-{
-    match outcome {
-        Outcome::Checked(answer) => !answer.over(),
-        _ => false,
-    }
-}
-
-fn is_denied(outcome: &Outcome) -> bool
-    ensures { result ≡ spec.is_denied outcome.now }
-{
-    match outcome {
-        Outcome::Checked(answer) => answer.over(),
-        _ => false,
-    }
-}
-
 fn count_checks(records: &RunRecords) -> CheckCounts
     requires { length records.now ≤ MOST_LINES }
     ensures { result ≡ spec.counted records.now }
 {
-    let mut admitted = 0u32;
-    let mut denied = 0u32;
-    'records: for index in 0..records.len() {
-        let Some(rec) = records.get(index) else {
-            unreachable!()
-        };
-        if is_admitted(&rec.outcome) {
-            admitted += 1;
-        }
-        if is_denied(&rec.outcome) {
-            denied += 1;
-        }
-    }
+    let AnswerCounts { admitted, denied } = count_answers(records);
     CheckCounts {
-        admitted,
-        checks: admitted + denied,
-        denied,
+        admitted: admitted as u32,
+        checks: (admitted + denied) as u32,
+        denied: denied as u32,
     }
 }
 

@@ -2,3 +2,4 @@ pub mod Placing
 pub mod Spreading
 pub mod Admits
 pub mod Lone
+pub mod Counting

@@ -16,3 +16,4 @@ pub mod Merged
 pub mod Lone
 pub mod Places
 pub mod RunRecords
+pub mod Answers

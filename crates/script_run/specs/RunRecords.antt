@@ -1,6 +1,7 @@
 -- Inside: the records of a run, by where each lies in the journals of its workers.
-use Rattle.std.specs.Prelude.{ℕ, ◌+◌, ◌-◌, ◌≤◌, ◌<◌, List, [], ◌∷◌, length, map, Option, Some, None, slice_set, slice_index_or}
+use Rattle.std.specs.Prelude.{◌≡◌, ℕ, ◌+◌, ◌-◌, ◌≤◌, ◌<◌, List, [], ◌∷◌, length, map, Option, Some, None, slice_set, slice_index_or}
 use Rattle.std.specs.List.{AllByRecursion}
+use Rattle.rate_types.specs.Sums.{total}
 use Rattle.reply_text.specs.declared.record.Record.{Record}
 use Rattle.reply_text.specs.declared.record.Outcome.TheVariants.{Installed}
 use Rattle.script_run.specs.declared.run_records.RecordPlace.{RecordPlace}
@@ -30,6 +31,10 @@ ordered journals (Some places) = map (record_at journals) places
 abbrev pub IsOrder : List (List Record) → Option (List RecordPlace) → Type 0
 IsOrder journals None = 1 ≤ length journals
 IsOrder journals (Some places) = AllByRecursion (IsPlace journals) places
+
+-- what is summed over the records in their order is what is summed over all journals
+abbrev pub HasAll : List (List Record) → Option (List RecordPlace) → Type 0
+HasAll journals places = (f : Record → ℕ) → total f (ordered journals places) ≡ total (total f) journals
 
 -- the places after that of each of these records, which are those of a journal from an index on, was put at that of its line
 abbrev pub all_put : ℕ → ℕ → List RecordPlace → List Record → List RecordPlace
