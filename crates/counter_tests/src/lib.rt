@@ -8,6 +8,8 @@ mod directory;
 #[cfg(test)]
 mod known;
 #[cfg(test)]
+mod numbers;
+#[cfg(test)]
 mod told;
 #[cfg(test)]
 mod versions;

@@ -15,8 +15,6 @@ mod drawer;
 mod drawers;
 mod numbers;
 mod rule;
-#[cfg(test)]
-mod tests;
 
 pub use drawer::Drawer;
 pub use numbers::LineNumbers;

@@ -17,6 +17,3 @@ pub use bucket_id::BucketId;
 pub use pair::Pair;
 pub use part::{Part, PartSource, Parts};
 pub use settings::{BucketSettings, Settings};
-
-#[cfg(test)]
-mod tests;

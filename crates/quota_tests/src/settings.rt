@@ -1,6 +1,7 @@
 mod limits;
 mod meanings;
 mod refusals;
+mod sharing;
 
 use proto_json::{FormFault, parse};
 use quota_bucket::Strategy;

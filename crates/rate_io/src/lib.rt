@@ -51,6 +51,3 @@ pub use stream_link::StreamLink;
 pub use stream_listen::StreamListen;
 pub use sure::{SureSink, SureSource};
 pub use whole::read_up_to;
-
-#[cfg(test)]
-mod tests;

@@ -1,11 +1,11 @@
-use crate::{Attributes, Settings};
+// Threads share settings, and each of them owns the attributes of its requests.
+use quota_settings::{Attributes, Settings};
 use std::test::Fail;
 
 fn needs_send<T: Send>() {}
 
 fn needs_sync<T: Sync>() {}
 
-// Threads share settings, and each of them owns the attributes of its requests.
 #[test]
 fn settings_cross_threads(_rt: HostRuntime) -> Result<(), Fail> {
     needs_send::<Settings>();

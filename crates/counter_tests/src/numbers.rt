@@ -1,7 +1,8 @@
+// Numbers of lines, each drawn once.
 ghost use Rattle.std.specs.Prelude.{◌≡◌, ◌≤◌};
 ghost use Rattle.line_numbers.specs.Drawers.{numbers_id, numbers_of};
 
-use crate::{Drawer, LineNumbers};
+use line_numbers::{Drawer, LineNumbers};
 use std::alloc::Global;
 use std::test::Fail;
 use std::thread::{Threads, map_vec};
