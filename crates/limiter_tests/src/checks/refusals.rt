@@ -1,103 +1,58 @@
-// Counters that find no claim, or no cell of a later window.
-ghost use Rattle.std.specs.Prelude.{◌≡◌, ◌≤◌, ◌+◌, All, IfOk, vec_len};
-ghost use Rattle.counter_cells.specs.Opened.{table_of, setup_of};
-
-use super::{answers, open, refuses, request, take};
-use counter_cells::{CellNaming, OpenedCells};
-use rate_limiter::{Limiter, Pass};
-use rate_types::{Request, Seconds};
-use rls_core::{CheckFault, Code, Count};
-use std::alloc::Global;
-use std::marker::Brand;
-use std::process::Abort;
-use std::random::RandomSource;
-use std::sync::Wait;
+// Counters that find no claim, or no cell.
+use super::tables::{Setup, play_table};
 use std::test::Fail;
 
-// Whether a check of one descriptor is answered OK, with so many hits before it.
-fn answers_after<N: CellNaming, R: Wait>(
-    rt: &R,
-    alloc: Global,
-    limiter: &Limiter<N>,
-    pass: &mut Pass<N>,
-    request: &Request,
-    now: u64,
-    before: u64,
-) -> bool
-    requires pass { pass.old.limiter ≡ limiter.now.id }
-    ensures pass { pass.new.limiter ≡ limiter.now.id }
-{
-    answers(
-        rt,
-        alloc,
-        limiter,
-        pass,
-        request,
-        now,
-        &[(Code::Ok, Count::Before(before))],
-    )
-}
+const ONE_CELL: Setup = Setup {
+    limit: 2,
+    cells: 1,
+    claims_max: 2,
+};
+
+const TWO_VALUES: &str = "\
+one checks 5 k=a => ok before 0
+one checks 6 k=a k=b => CountersFull { moment: Seconds { value: 6 }, live: 1, held: 0, wanted: 1 }
+one checks 6 k=a => ok before 1
+one checks 60 k=a k=b => ClaimsSpent { claims: 1, wanted: 2 }
+one shows => version 0, moment 60, 2 looks, 2 refused";
 
 #[test]
-fn a_third_counter_of_two_claims_is_refused(rt: HostRuntime) -> Result<(), Fail> {
-    let opened = OpenedCells::make(rt.alloc(), 8, 1, Seconds::capped(0))?;
-    check_three_values::<Brand, _>(&rt, rt.alloc(), opened)
-}
-
-// With two claims at most, of which each of the first two counters has one.
-fn check_three_values<N: CellNaming, R: Abort + RandomSource + Wait>(
-    rt: &R,
-    alloc: Global,
-    opened: OpenedCells,
-) -> Result<(), Fail>
-    requires name { (table_of opened ≡ N.table) × (setup_of opened ≡ N.setup) }
-    requires passes { N.setup.passes ≡ 1 }
-{
-    let (limiter, mut passes) = open::<N, _>(rt, alloc, opened, 2)?;
-    let mut pass = take(&limiter, &mut passes)?;
-    let spent = CheckFault::ClaimsSpent {
-        claims: 2,
-        wanted: 1,
-    };
-    let a = request(alloc, &[("k", "a", None)])?;
-    let b = request(alloc, &[("k", "b", None)])?;
-    let c = request(alloc, &[("k", "c", None)])?;
-    assert!(rt; answers_after(rt, alloc, &limiter, &mut pass, &a, 0, 0));
-    assert!(rt; answers_after(rt, alloc, &limiter, &mut pass, &b, 0, 0));
-    assert!(rt; refuses(rt, alloc, &limiter, &mut pass, &c, 0, spent));
-    assert!(rt; answers_after(rt, alloc, &limiter, &mut pass, &a, 0, 1));
+fn a_cell_too_few_refuses_the_check(rt: HostRuntime) -> Result<(), Fail> {
+    let _closed = play_table(&rt, rt.alloc(), ONE_CELL, TWO_VALUES)?;
     Ok(())
 }
 
+// One pass has the cell in the first minute, the other in the second, and then the one asks again for its counter.
+const TWO_MINUTES: &str = "\
+one checks 0 k=a => ok before 0
+other checks 60 k=b => ok before 0
+one shows => version 0, moment 0, 1 looks, 0 refused
+one checks 0 k=a => CountersFull { moment: Seconds { value: 60 }, live: 1, held: 0, wanted: 1 }
+one shows => version 0, moment 60, 1 looks, 1 refused";
+
 #[test]
 fn a_cell_of_a_later_window_is_full(rt: HostRuntime) -> Result<(), Fail> {
-    let opened = OpenedCells::make(rt.alloc(), 1, 2, Seconds::capped(0))?;
-    check_in_two_minutes::<Brand, _>(&rt, rt.alloc(), opened)
+    let setup = Setup {
+        claims_max: 100,
+        ..ONE_CELL
+    };
+    let _closed = play_table(&rt, rt.alloc(), setup, TWO_MINUTES)?;
+    Ok(())
 }
 
-// With one cell: one pass has it in the first minute, the other in the second, and then the one asks again for its counter.
-fn check_in_two_minutes<N: CellNaming, R: Abort + RandomSource + Wait>(
-    rt: &R,
-    alloc: Global,
-    opened: OpenedCells,
-) -> Result<(), Fail>
-    requires name { (table_of opened ≡ N.table) × (setup_of opened ≡ N.setup) }
-    requires passes { N.setup.passes ≡ 2 }
-{
-    let (limiter, mut passes) = open::<N, _>(rt, alloc, opened, 100)?;
-    let mut one = take(&limiter, &mut passes)?;
-    let mut other = take(&limiter, &mut passes)?;
-    let full = CheckFault::CountersFull {
-        moment: Seconds::capped(60),
-        live: 1,
-        held: 0,
-        wanted: 1,
+// Each of the first two counters has one of the two claims.
+const THREE_VALUES: &str = "\
+one checks 0 k=a => ok before 0
+one checks 0 k=b => ok before 0
+one checks 0 k=c => ClaimsSpent { claims: 2, wanted: 1 }
+one checks 0 k=a => ok before 1
+one shows => version 0, moment 0, 3 looks, 1 refused";
+
+#[test]
+fn a_third_counter_of_two_claims_is_refused(rt: HostRuntime) -> Result<(), Fail> {
+    let setup = Setup {
+        cells: 8,
+        ..ONE_CELL
     };
-    let a = request(alloc, &[("k", "a", None)])?;
-    let b = request(alloc, &[("k", "b", None)])?;
-    assert!(rt; answers_after(rt, alloc, &limiter, &mut one, &a, 0, 0));
-    assert!(rt; answers_after(rt, alloc, &limiter, &mut other, &b, 60, 0));
-    assert!(rt; refuses(rt, alloc, &limiter, &mut one, &a, 0, full));
-    assert_eq!(rt; one.moment().get(), 60);
+    let _closed = play_table(&rt, rt.alloc(), setup, THREE_VALUES)?;
     Ok(())
 }

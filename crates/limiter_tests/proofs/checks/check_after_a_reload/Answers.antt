@@ -1,6 +1,0 @@
-use Rattle.std.proofs.Common.{ap, ◌∙◌}
-use Rattle.rate_limiter.specs.Passes.{PassView}
-use Rattle.limiter_tests.proofs.checks.check_after_a_reload.Goals as goal
-
-pub meet-requires-clause-one : goal.meet-requires-clause-one
-meet-requires-clause-one g c = ap (λ (x : PassView). x.limiter) c.reload.ensures.rest ∙ c.in_ok-one.ensures.pass
