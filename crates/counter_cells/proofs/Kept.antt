@@ -11,7 +11,7 @@ use Rattle.counter_cells.specs.declared.view.CellView.{CellView}
 use Rattle.counter_cells.specs.declared.setup.Setup.{Setup}
 use Rattle.rate_types.specs.Sums.{total, one_if, times}
 use Rattle.counter_cells.specs.Gates.{gate_word}
-use Rattle.counter_cells.specs.WordIndex.{gate_of, count_of, clock_of}
+use Rattle.counter_cells.specs.WordIndex.{gate_of, count_of, clock_of, words_of}
 use Rattle.counter_cells.specs.Views.{most_hits, good_on, small_on, Capped}
 use Rattle.counter_cells.specs.Counting.{good_at, pins_on, pins_of, unused_on, pair_at, pair_of, charges_of, looks_of}
 use Rattle.counter_cells.specs.Lawful.{Register, ClockIsGreatestOffer, FindingsHaveCauses}
@@ -75,5 +75,5 @@ pub record Rule (a : Setup) (t : Register) (gate count : ℕ → ℕ) (views : L
   pub few : a.passes ≤ 1024
 
 abbrev pub Holds : Setup → State ℕ CellView → Type 0
-Holds a s = (t : Register) × (length s.words ≡ 8 * length t.cells + 8) × (length t.cells ≡ a.cells) × Rule a t (gate_of s.words) (count_of s.words) s.views
+Holds a s = (t : Register) × (length s.words ≡ words_of (length t.cells)) × (length t.cells ≡ a.cells) × Rule a t (gate_of s.words) (count_of s.words) s.views
     × ClockIsGreatestOffer a (clock_of s.words) s.views × FindingsHaveCauses a (clock_of s.words) s.views

@@ -21,7 +21,7 @@ use Rattle.counter_cells.specs.declared.view.CellView.{CellView}
 use Rattle.counter_cells.specs.declared.setup.Setup.{Setup}
 use Rattle.rate_types.specs.Sums.{total, one_if, times}
 use Rattle.counter_cells.specs.Gates.{shows, gate_word, pins_shown}
-use Rattle.counter_cells.specs.WordIndex.{gate_at, count_at, count_cell, gate_cell, gate_of, count_of}
+use Rattle.counter_cells.specs.WordIndex.{gate_at, count_at, count_cell, gate_cell, gate_of, count_of, words_of}
 use Rattle.counter_cells.specs.Views.{most_hits, good_on, small_on, no_cell, cell_or, Capped, claim_on}
 use Rattle.counter_cells.specs.Counting.{pins_of, pins_on, is_pair, pair_of, OwnShown}
 use Rattle.counter_cells.specs.Steps.{charged, looked, good_pin, unpinned, ticked, glanced, has_heard, taken_cell, claimed_by, held_by, reset_by, opened_by}
@@ -72,9 +72,9 @@ capped_at a t gate count views r id k v at pin =
     subst (λ c. Capped c (count k) v) m.3 (f.caps k m.0 m.1 m.2)
 
 -- the state after a step on a count, and on a gate
-module _ (a : Setup) (t : Register) (ws : List ℕ) (k x : ℕ) (views : List CellView) (long : length ws ≡ 8 * length t.cells + 8) (count : length t.cells ≡ a.cells) where
+module _ (a : Setup) (t : Register) (ws : List ℕ) (k x : ℕ) (views : List CellView) (long : length ws ≡ words_of (length t.cells)) (count : length t.cells ≡ a.cells) where
   pub on_count : (homes : List ℕ) → Rule a t (gate_of ws) (count_of (set ws (count_at k) x)) views → ClockIsGreatestOffer a (slice_index ws 0) views
-      → FindingsHaveCauses a (slice_index ws 0) views → (length (set ws (count_at k) x) ≡ 8 * length t.cells + 8) × (length t.cells ≡ a.cells)
+      → FindingsHaveCauses a (slice_index ws 0) views → (length (set ws (count_at k) x) ≡ words_of (length t.cells)) × (length t.cells ≡ a.cells)
       × Rule a t (gate_of (set ws (count_at k) x)) (count_of (set ws (count_at k) x)) views × ClockIsGreatestOffer a (slice_index (set ws (count_at k) x) 0) views
       × FindingsHaveCauses a (slice_index (set ws (count_at k) x) 0) views
   on_count homes r c f = (
@@ -86,7 +86,7 @@ module _ (a : Setup) (t : Register) (ws : List ℕ) (k x : ℕ) (views : List Ce
   )
 
   pub on_gate : (homes : List ℕ) → Rule a t (gate_of (set ws (gate_at k) x)) (count_of ws) views → ClockIsGreatestOffer a (slice_index ws 0) views
-      → FindingsHaveCauses a (slice_index ws 0) views → (length (set ws (gate_at k) x) ≡ 8 * length t.cells + 8) × (length t.cells ≡ a.cells) × Rule a t (gate_of (set ws
+      → FindingsHaveCauses a (slice_index ws 0) views → (length (set ws (gate_at k) x) ≡ words_of (length t.cells)) × (length t.cells ≡ a.cells) × Rule a t (gate_of (set ws
       (gate_at k) x)) (count_of (set ws (gate_at k) x)) views
       × ClockIsGreatestOffer a (slice_index (set ws (gate_at k) x) 0) views × FindingsHaveCauses a (slice_index (set ws (gate_at k) x) 0) views
   on_gate homes r c f = (
@@ -299,7 +299,7 @@ module _ (a : Setup) (slots id k : ℕ) (me : Me ℕ CellView) (within : k < a.c
       → Holds a (stepped s (gate_at k) x id me.1 w keeps)
   on_cells t' x s w hold at len same rule found =
       let clock = clock_same a (slice_index s.words 0) s.views hold.4 id me.0 w at same in
-      let after = on_gate a t' s.words k x (set s.views id w) (hold.1 ∙ ap (λ n. 8 * n + 8) (sym len)) (len ∙ hold.2) [] rule clock found in
+      let after = on_gate a t' s.words k x (set s.views id w) (hold.1 ∙ ap words_of (sym len)) (len ∙ hold.2) [] rule clock found in
       (t', after.0, after.1, after.2, after.3, after.4)
 
   pub opens : let c = cell_or me.0.cells k in c.ever ≡ true → c.is_open ≡ false → c.reset ≡ true
@@ -432,7 +432,7 @@ module _ (a : Setup) (slots id k : ℕ) (me : Me ℕ CellView) (within : k < a.c
       let is : w ≡ record me.0 { cells = set me.0.cells k (record st { reset = true }); used_claims = t.used_claims; held = me.0.held } =
       λ i. record me.0 { cells = set me.0.cells k (record st { reset = true }); used_claims = mine.1 i; held = me.0.held } in
       let clock = clock_same a (slice_index ws 0) s.views hold.4 id me.0 w at (refl, refl, refl, refl, refl) in
-      let after = on_count a t' ws k 0 (set s.views id w) (hold.1 ∙ ap (λ n. 8 * n + 8) (sym len)) (len ∙ hold.2) []
+      let after = on_count a t' ws k 0 (set s.views id w) (hold.1 ∙ ap words_of (sym len)) (len ∙ hold.2) []
       (subst (λ (x : CellView). Rule a t' (gate_of ws) (count_of (set ws (count_at k) 0)) (set s.views id x)) (sym is) rule) clock
       (findings_same a (slice_index ws 0) (slice_index ws 0) s.views hold.5 (omega arith) id me.0 w at (refl, refl, refl, refl, refl, refl) (λ j. omega arith)) in
       (w, keeps, tt, (t', after.0, after.1, after.2, after.3, after.4), (ap (λ (i : ℕ). reset_by i me.0) (let e : k ≡ count_cell (count_at k) = omega arith in e), refl))

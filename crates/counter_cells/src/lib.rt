@@ -15,7 +15,8 @@
 //! **Trusted.** That `tick` and `hear` answer by the clock as it stood at their step, and not by an earlier one, is no
 //! clause: a load that goes unused looks like one that was done before. A test has two passes tick in turn.
 //!
-//! **Memory.** Each cell has 64 bytes, and so has the clock, so that threads on different cells share no line of memory.
+//! **Memory.** Each cell has 16 bytes, in blocks of 256 cells. The clock has a line of memory of 64 bytes to itself, and the first 64 cells
+//! of each block begin one line each, so that threads on few cells share no line.
 //!
 //! **Limits.** 1,048,576 cells, 1,024 passes, 32 pins of a pass at a time, claims below 2 ^ 40, hits of one charge
 //! below 2 ^ 32. No step takes memory, waits or locks. Nothing is said of progress: a `reclaim` is one try.
