@@ -33,6 +33,21 @@ fn the_calls_named_fail_and_take_no_byte(rt: HostRuntime) -> Result<(), Fail> {
 }
 
 #[test]
+fn each_call_of_a_source_counts(rt: HostRuntime) -> Result<(), Fail> {
+    let alloc = rt.alloc();
+    let bytes = Vec::from_slice(alloc, b"abcdef")?;
+    let mut source = MemSource::new(bytes, Vec::from_slice(alloc, &[2, 5])?);
+    assert_eq!(rt;
+        read_four_times(&mut source),
+        [Ok(4), Err(Failed), Ok(2), Ok(0)]
+    );
+    let mut buf = [0u8; 4];
+    assert_eq!(rt; source.read(&mut buf), Err(Failed));
+    assert_eq!(rt; source.read(&mut buf), Ok(0));
+    Ok(())
+}
+
+#[test]
 fn a_failed_write_keeps_what_was_written(rt: HostRuntime) -> Result<(), Fail> {
     let alloc = rt.alloc();
     let mut sink = MemSink::new(alloc, Vec::from_slice(alloc, &[2, 4])?);

@@ -6,6 +6,7 @@ const SETUP: Setup = Setup {
     limit: 2,
     cells: 8,
     claims_max: 100,
+    start: 0,
 };
 
 // A descriptor without a rule has no counter to know. One with a rule is known once a check has counted it, and is then counted as by any

@@ -7,6 +7,7 @@ const SETUP: Setup = Setup {
     limit: 2,
     cells: 8,
     claims_max: 100,
+    start: 0,
 };
 
 // What was charged in all, of the one total.
@@ -34,7 +35,7 @@ fn a_value_is_over_its_limit_until_its_window_ends(rt: HostRuntime) -> Result<()
 }
 
 const RELOADED: &str = "\
-one ticks 7 => 7
+one shows => version 0, moment 7, 0 looks, 0 refused
 other checks 0 k=a => ok before 0
 other ticks 8 => 8
 one reloads 0 => Ok(1)
@@ -44,6 +45,7 @@ one shows => version 1, moment 8, 0 looks, 0 refused";
 
 #[test]
 fn a_reload_of_one_pass_is_used_by_the_other(rt: HostRuntime) -> Result<(), Fail> {
-    let _closed = play_table(&rt, rt.alloc(), SETUP, RELOADED)?;
+    let setup = Setup { start: 7, ..SETUP };
+    let _closed = play_table(&rt, rt.alloc(), setup, RELOADED)?;
     Ok(())
 }

@@ -6,6 +6,7 @@ const ONE_CELL: Setup = Setup {
     limit: 2,
     cells: 1,
     claims_max: 2,
+    start: 0,
 };
 
 const TWO_VALUES: &str = "\

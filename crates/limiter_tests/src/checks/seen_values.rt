@@ -6,6 +6,7 @@ const SETUP: Setup = Setup {
     limit: 1,
     cells: 8,
     claims_max: 100,
+    start: 0,
 };
 
 // The second check leaves the counter above the limit, so the third one needs no look. A descriptor of no hits is looked at always. Where the

@@ -6,13 +6,19 @@ use super::words::{answer_text, pass_text};
 use crate::configs::config;
 use counter_cells::CellNaming;
 use rate_limiter::{Limiter, Pass};
-use rate_types::Seconds;
+use rate_types::{Request, Seconds};
 use std::alloc::Global;
 use std::sync::Wait;
 use std::test::Fail;
 
 fn moment(text: &str) -> Result<Seconds, Fail> {
     Ok(Seconds::capped(text.parse::<u64>()?))
+}
+
+// A moment, and a request behind it.
+fn moment_and_request(alloc: Global, words: &str) -> Result<(Seconds, Request), Fail> {
+    let (now, asked) = words.split_once(" ").ok_or("a moment")?;
+    Ok((moment(now)?, request(alloc, asked)?))
 }
 
 // A check of a request at a moment.
@@ -26,9 +32,7 @@ fn check<N: CellNaming, R: Wait>(
     requires pass { pass.old.limiter ≡ limiter.now.id }
     ensures pass { pass.new.limiter ≡ limiter.now.id }
 {
-    let (now, asked) = words.split_once(" ").ok_or("a moment")?;
-    let now = moment(now)?;
-    let asked = request(alloc, asked)?;
+    let (now, asked) = moment_and_request(alloc, words)?;
     answer_text(alloc, limiter.check(rt, alloc, pass, &asked, now))
 }
 
@@ -42,9 +46,7 @@ fn check_open<N: CellNaming>(
     requires pass { pass.old.limiter ≡ limiter.now.id }
     ensures pass { pass.new.limiter ≡ limiter.now.id }
 {
-    let (now, asked) = words.split_once(" ").ok_or("a moment")?;
-    let now = moment(now)?;
-    let asked = request(alloc, asked)?;
+    let (now, asked) = moment_and_request(alloc, words)?;
     answer_text(alloc, limiter.check_open(pass, &asked, now))
 }
 
@@ -134,6 +136,7 @@ pub fn step<N: CellNaming, R: Wait>(
     match who {
         "one" => ask(rt, alloc, limiter, one, asked),
         "other" => ask(rt, alloc, limiter, other, asked),
-        _ => meet(rt, alloc, limiter, one, other),
+        "both" => meet(rt, alloc, limiter, one, other),
+        _ => Err(Fail::new("a pass")),
     }
 }

@@ -23,6 +23,8 @@ pub struct Setup {
     pub limit: u32,
     pub cells: u32,
     pub claims_max: u64,
+    /// The moment at which the limiter begins, in seconds.
+    pub start: u64,
 }
 
 // One line of a table, asked and answered as it says.
@@ -116,7 +118,7 @@ fn give<N: CellNaming>(
     Ok(())
 }
 
-// Plays a table, and closes the limiter. The table is no `&str`, since a call that names the cells takes none.
+// Plays a table, and closes the limiter. The table is a `String`, since a call that picks the name of the cells takes no `&str`.
 fn played<N: CellNaming, R: Abort + RandomSource + Wait>(
     rt: &R,
     alloc: Global,
@@ -137,7 +139,7 @@ fn played<N: CellNaming, R: Abort + RandomSource + Wait>(
     Ok(limiter.close(alloc, passes)?)
 }
 
-/// Plays a table on a limiter that begins at 0 and has two passes, and closes it.
+/// Plays a table on a limiter that has two passes, and closes it.
 pub fn play_table<R: Abort + RandomSource + Wait>(
     rt: &R,
     alloc: Global,
@@ -148,6 +150,6 @@ pub fn play_table<R: Abort + RandomSource + Wait>(
     requires claims_max { (1 ≤ setup.claims_max) × (setup.claims_max ≤ MOST_CLAIM_NUMBERS) }
 {
     let table = String::from_str(alloc, table)?;
-    let opened = OpenedCells::make(alloc, setup.cells, 2, Seconds::capped(0))?;
+    let opened = OpenedCells::make(alloc, setup.cells, 2, Seconds::capped(setup.start))?;
     played::<Brand, _>(rt, alloc, opened, setup, &table)
 }
