@@ -3,3 +3,4 @@ pub mod Reloads
 pub mod Firsts
 mod Lines
 mod UsualLine
+mod LineStarts

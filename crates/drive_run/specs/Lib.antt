@@ -4,3 +4,4 @@ pub mod Views
 pub mod LineAnswers
 pub mod Pointers
 pub mod Usual
+pub mod LineStarts

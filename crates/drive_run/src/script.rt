@@ -1,6 +1,7 @@
-ghost use Rattle.std.specs.Prelude.{◌≡◌, ◌<◌, ◌≤◌, ℕ, length, map, IfOk, Err};
+ghost use Rattle.std.specs.Prelude.{◌≡◌, ◌<◌, ◌≤◌, ℕ, length, map, drop, IfOk, Err};
 ghost use Rattle.rate_types.specs.declared.limits.TheConstants.{MOST_LINES};
 ghost use Rattle.text_lines.specs.Lines.{cut};
+ghost use Rattle.drive_run.specs.LineStarts.{AreLineStarts};
 ghost use Rattle.drive_run.specs.declared.script.ScriptFault.TheVariants.{TooManyLines};
 
 use crate::reading::read_line;
@@ -9,7 +10,7 @@ use rate_types::OutOfMemory;
 use rate_types::limits::MOST_LINES;
 use script_run::Line;
 use std::alloc::Global;
-use text_lines::cut_line;
+use text_lines::{cut_line, line_feed};
 use thiserror::Error;
 use worker_run::ScriptLines;
 
@@ -24,14 +25,29 @@ pub enum ScriptFault {
     OutOfMemory,
 }
 
-/// A script: its lines in order, at most 1,048,576. It keeps their bytes, from which each is read when it is run.
+/// A script: its lines in order, at most 1,048,576. It keeps their bytes and where each line begins, and a line is read when it is run.
 #[derive(Drop)]
 pub struct Script<'a> {
-    lines: Vec<&'a [u8]>,
-    ghost few: { length lines.items ≤ MOST_LINES },
+    bytes: &'a [u8],
+    starts: Vec<usize>,
+    ghost few: { length starts.items ≤ MOST_LINES },
+    ghost lines: { AreLineStarts bytes.now starts.items },
+}
+
+// Where the line behind the one that begins here begins: at the end of the bytes where there is none.
+fn next_start(bytes: &[u8], start: usize) -> usize
+    requires { start < length bytes.now }
+    ensures later { (start < result) × (result ≤ length bytes.now) }
+    ensures cut { cut (drop result bytes.now) ≡ drop 1 (cut (drop start bytes.now)) }
+{
+    match line_feed(&bytes[start..]) {
+        Some(at) => start + at + 1,
+        None => bytes.len(),
+    }
 }
 
 impl<'a> Script<'a> {
+    ghost use Rattle.std.specs.Prelude.{List, slice_index_or};
     ghost use Rattle.script_run.specs.Views.{line_view};
     ghost use Rattle.drive_run.specs.Views.{script_view};
     ghost use Rattle.drive_run.specs.Script as scripts;
@@ -44,21 +60,29 @@ impl<'a> Script<'a> {
         ensures many { (lines : ℕ) → result ≡ Err (TooManyLines lines) → MOST_LINES < lines }
         ensures more { (lines : ℕ) → result ≡ Err (TooManyLines lines) → lines ≤ length (cut bytes.now) }
     {
-        let mut lines = Vec::new(alloc);
-        let mut rest = bytes;
-        'lines: while rest.len() > 0 {
-            if lines.len() >= MOST_LINES as usize {
+        let mut starts = Vec::new(alloc);
+        let mut start = 0;
+        'lines: while start < bytes.len() {
+            if starts.len() >= MOST_LINES as usize {
                 return Err(ScriptFault::TooManyLines {
-                    lines: lines.len() as u64 + 1,
+                    lines: starts.len() as u64 + 1,
                 });
             }
-            let (first, after) = cut_line(rest);
-            if lines.push(first).is_err() {
+            if starts.push(start).is_err() {
                 return Err(ScriptFault::OutOfMemory);
             }
-            rest = after;
+            start = next_start(bytes, start);
         }
-        Ok(Script { lines })
+        Ok(Script { bytes, starts })
+    }
+
+    // The line at an index, counted from 0.
+    fn line(&self, index: usize) -> &[u8]
+        requires { index < length self.now.starts.items }
+        ensures { (d : List ℕ) → slice_index_or (cut self.now.bytes.now) index d ≡ result.now }
+    {
+        let (line, _) = cut_line(&self.bytes[self.starts[index]..]);
+        line
     }
 
     /// What each line says, in order.
@@ -67,10 +91,10 @@ impl<'a> Script<'a> {
         ensures lines { IfOk result (λ v. map line_view v.items ≡ script_view self.now) }
         ensures within { length (script_view self.now) ≤ MOST_LINES }
     {
-        let mut lines = Vec::with_capacity(alloc, self.lines.len())?;
+        let mut lines = Vec::with_capacity(alloc, self.starts.len())?;
         let mut scratch = Scratch::new(alloc);
-        'lines: for index in 0..self.lines.len() {
-            let line = read_line(alloc, &mut scratch, self.lines[index])?;
+        'lines: for index in 0..self.starts.len() {
+            let line = read_line(alloc, &mut scratch, self.line(index))?;
             lines.push_reserved(line);
         }
         Ok(lines)
@@ -84,16 +108,17 @@ impl ScriptLines for Script<'_> {
 
     #[tactic(auto, unfolding(crate::specs::Views::script_view))]
     fn count(&self) -> u32 {
-        self.lines.len() as u32
+        self.starts.len() as u32
     }
 
-    #[tactic(auto, using(crate::proofs::Lines::line_at), unfolding(crate::specs::Views::script_view))]
+    #[tactic(auto, unfolding(crate::specs::Views::script_view))]
     fn read(
         &self,
         alloc: Global,
         scratch: &mut Scratch,
         index: usize,
     ) -> Result<Line, OutOfMemory> {
-        read_line(alloc, scratch, self.lines[index])
+        let line = read_line(alloc, scratch, self.line(index))?;
+        Ok(line)
     }
 }

@@ -1,14 +1,17 @@
-use Rattle.std.proofs.Common.{◌≡◌, ◌≤◌, ◌++◌, map, length}
+use Rattle.std.proofs.Common.{◌≡◌, ◌<◌, ◌≤◌, ◌-◌, ℕ, drop, length}
+use Rattle.std.specs.Prelude.{slice_index}
 use Rattle.rate_types.specs.declared.limits.TheConstants.{MOST_LINES}
 use Rattle.text_lines.specs.Lines.{cut}
-use Rattle.drive_run.specs.Script.{line_of, script_of}
+use Rattle.drive_run.specs.LineStarts.{BeginsAt}
 use Rattle.drive_run.proofs.script.Script.read.Given as goal
 
 abbrev pub invariant-lines : goal.invariant-lines
 invariant-lines l = record {
-  read : map (λ line. line_of line.now) l.lines.items ++ map line_of (cut l.rest) ≡ script_of l.bytes;
-  within : length l.lines.items ≤ MOST_LINES;
+  few : length l.starts.items ≤ MOST_LINES;
+  within : length l.starts.items ≤ length (cut l.bytes);
+  left : cut (drop l.start l.bytes) ≡ drop (length l.starts.items) (cut l.bytes);
+  each : (i : ℕ) → i < length l.starts.items → BeginsAt l.bytes i (slice_index l.starts.items i);
 }
 
 abbrev pub decreases-lines : goal.decreases-lines
-decreases-lines l = length l.rest
+decreases-lines l = length l.bytes - l.start
