@@ -12,7 +12,7 @@ use rate_limiter::{Limiter, Limits};
 use rate_types::limits::MOST_CLAIMS;
 use rate_types::{OutOfMemory, Seconds};
 use rls_core::Totals;
-use script_run::RunRecords;
+use script_run::RunJournals;
 use std::alloc::Global;
 use std::hash::RandomState;
 use std::marker::Brand;
@@ -36,10 +36,10 @@ pub struct Setup {
     ghost cells_in_range: { (1 ≤ cells) × (cells ≤ MOST_CELLS) },
 }
 
-/// The records of a script, in order of its lines, and the totals of the windows that are open at its end.
+/// The records of a script, and the totals of the windows that are open at its end.
 #[derive(Drop)]
 pub struct Driven {
-    pub records: RunRecords,
+    pub records: RunJournals,
     pub totals: Totals,
 }
 

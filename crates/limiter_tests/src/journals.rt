@@ -30,7 +30,7 @@ fn merge_two(alloc: Global, first: Record, second: Record) -> Result<RunRecords,
     let mut journals = Vec::with_capacity(alloc, 2)?;
     journals.push_reserved(Records::of(one));
     journals.push_reserved(Records::of(two));
-    merge(alloc, 2, journals)
+    merge(2, journals).in_order(alloc)
 }
 
 #[test]

@@ -91,7 +91,7 @@ fn run<N: CellNaming + Send + Sync, G: Gate, R: Abort + RandomSource + Threads +
         return Err(Fail::new("one total"));
     };
     assert_eq!(rt; total.charged, charged);
-    Ok(finished.records)
+    Ok(finished.records.in_order(alloc)?)
 }
 
 #[test]

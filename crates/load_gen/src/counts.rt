@@ -6,7 +6,7 @@ ghost use Rattle.rate_types.specs.declared.limits.TheConstants.{MOST_LINES};
 ghost use Rattle.load_gen.specs.Summary as spec;
 
 use rate_types::OutOfMemory;
-use script_run::{AnswerCounts, RunRecords, count_answers};
+use script_run::{AnswerCounts, RunJournals, count_answers};
 use serde_json::{Value, json};
 use std::alloc::{AllocError, Global};
 
@@ -21,7 +21,7 @@ pub struct CheckCounts {
     pub denied: u32,
 }
 
-fn count_checks(records: &RunRecords) -> CheckCounts
+fn count_checks(records: &RunJournals) -> CheckCounts
     requires { length records.now ≤ MOST_LINES }
     ensures { result ≡ spec.counted records.now }
 {
@@ -57,7 +57,7 @@ fn counts_line(alloc: Global, counts: CheckCounts) -> Result<String, OutOfMemory
 
 /// What came of the checks of a run, by its records: how many were answered, how many of them admitted and how many denied. Each lawful
 /// run of a made-up load has the summary of that load.
-pub fn summary(alloc: Global, records: &RunRecords) -> Result<String, OutOfMemory>
+pub fn summary(alloc: Global, records: &RunJournals) -> Result<String, OutOfMemory>
     requires { length records.now ≤ MOST_LINES }
     ensures counted { IfOk result (λ t. string_bytes t ≡ spec.counts_line (spec.counted records.now)) }
     ensures same { IfOk result (λ t. spec.IsSameForEachRun records.now (string_bytes t)) }

@@ -9,7 +9,7 @@ use rate_types::{RuleId, Seconds, Text, Unit};
 use reply_text::{Outcome, Record};
 use rls_core::{Count, Total, status_for};
 use rule_lookup::Found;
-use script_run::RunRecords;
+use script_run::RunJournals;
 use std::alloc::Global;
 use std::hash::RandomState;
 use std::random::RandomSource;
@@ -98,7 +98,8 @@ fn bytes_of(alloc: Global, lines: &[&str]) -> Result<String, Fail> {
 }
 
 // What came of each line, and then the totals.
-fn told(alloc: Global, records: &RunRecords, totals: &[Total]) -> Result<String, Fail> {
+fn told(alloc: Global, records: RunJournals, totals: &[Total]) -> Result<String, Fail> {
+    let records = records.in_order(alloc)?;
     let mut text = String::new(alloc);
     for index in 0..records.len() {
         if let Some(record) = records.get(index) {
@@ -133,7 +134,7 @@ fn run<R: RandomSource + Threads + Wait + Sync>(
     let script = Script::read(alloc, bytes.as_bytes())?;
     let config = config(alloc, limit)?;
     let driven = drive_script(rt, alloc, &script, config, setup, &Open)?;
-    told(alloc, &driven.records, driven.totals.items())
+    told(alloc, driven.records, driven.totals.items())
 }
 
 const A: &str = r#"{"check":{"domain":"d","descriptors":[{"entries":[{"key":"k","value":"a"}]}]}}"#;

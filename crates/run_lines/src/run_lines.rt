@@ -3,7 +3,7 @@ ghost use Rattle.std.specs.Prelude.{◌≡◌};
 use crate::making::{fill, is_short, push_others, push_totals, room};
 use rate_types::OutOfMemory;
 use rls_core::Total;
-use script_run::RunRecords;
+use script_run::{RunJournals, RunRecords};
 use std::alloc::Global;
 use std::marker::Model;
 
@@ -48,12 +48,13 @@ impl RunLines {
     /// The lines of these records and totals, of which none is come to yet.
     pub fn make(
         alloc: Global,
-        records: RunRecords,
+        records: RunJournals,
         totals: &[Total],
     ) -> Result<RunLines, OutOfMemory>
         ensures { IfOk result (λ r. r.rest ≡ run_lines records totals.now) }
     {
         let kept = room(alloc)?;
+        let records = records.in_order(alloc)?;
         let mut made = Vec::new(alloc);
         push_others(alloc, &mut made, &records)?;
         push_totals(alloc, &mut made, totals)?;

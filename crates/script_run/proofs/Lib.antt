@@ -3,3 +3,4 @@ pub mod Spreading
 pub mod Admits
 pub mod Lone
 pub mod Counting
+pub mod Ordering

@@ -1,7 +1,6 @@
 -- Inside: the records of a run, by where each lies in the journals of its workers.
-use Rattle.std.specs.Prelude.{◌≡◌, ℕ, ◌+◌, ◌-◌, ◌≤◌, ◌<◌, List, [], ◌∷◌, length, map, Option, Some, None, slice_set, slice_index_or}
+use Rattle.std.specs.Prelude.{ℕ, ◌+◌, ◌-◌, ◌≤◌, ◌<◌, List, [], ◌∷◌, length, map, replicate, Option, Some, None, Bool, true, false, slice_set, slice_index_or}
 use Rattle.std.specs.List.{AllByRecursion}
-use Rattle.rate_types.specs.Sums.{total}
 use Rattle.reply_text.specs.declared.record.Record.{Record}
 use Rattle.reply_text.specs.declared.record.Outcome.TheVariants.{Installed}
 use Rattle.script_run.specs.declared.run_records.RecordPlace.{RecordPlace}
@@ -32,10 +31,6 @@ abbrev pub IsOrder : List (List Record) → Option (List RecordPlace) → Type 0
 IsOrder journals None = 1 ≤ length journals
 IsOrder journals (Some places) = AllByRecursion (IsPlace journals) places
 
--- what is summed over the records in their order is what is summed over all journals
-abbrev pub HasAll : List (List Record) → Option (List RecordPlace) → Type 0
-HasAll journals places = (f : Record → ℕ) → total f (ordered journals places) ≡ total (total f) journals
-
 -- the places after that of each of these records, which are those of a journal from an index on, was put at that of its line
 abbrev pub all_put : ℕ → ℕ → List RecordPlace → List Record → List RecordPlace
 all_put journal index places [] = places
@@ -46,3 +41,12 @@ all_put journal index places (r ∷ rs) =
 abbrev pub each_put : ℕ → List RecordPlace → List (List Record) → List RecordPlace
 each_put number places [] = places
 each_put number places (j ∷ js) = each_put (number + 1) (all_put number 0 places j) js
+
+-- the place of the record of each of so many lines in these journals
+abbrev pub places_of : ℕ → List (List Record) → List RecordPlace
+places_of lines journals = each_put 0 (replicate lines (record { journal = 0; index = 0 })) journals
+
+-- where the records lie: nothing has to be said of them where one journal has them in their order
+abbrev pub order_of : Bool → ℕ → List (List Record) → Option (List RecordPlace)
+order_of true lines journals = None
+order_of false lines journals = Some (places_of lines journals)

@@ -2,7 +2,7 @@
 ghost use Rattle.std.specs.Prelude.{◌≡◌, ◌≤◌, length};
 ghost use Rattle.script_run.specs.Answers.{is_admitted, is_denied, admitted_among, denied_among};
 
-use crate::RunRecords;
+use crate::RunJournals;
 use reply_text::{Outcome, Record};
 
 /// How many checks were answered, by their overall codes.
@@ -52,11 +52,12 @@ fn count_journal(journal: &[Record]) -> AnswerCounts
 }
 
 /// How many checks of a run were answered. The records are counted where they lie, whatever their order.
-pub fn count_answers(records: &RunRecords) -> AnswerCounts
+pub fn count_answers(records: &RunJournals) -> AnswerCounts
     ensures admitted { result.admitted ≡ admitted_among records.now }
     ensures denied { result.denied ≡ denied_among records.now }
     ensures few { (result.admitted ≤ length records.now) × (result.denied ≤ length records.now) }
 {
+    // There are fewer records than a usize can count, and so are those of each kind.
     let _most = records.len();
     let journals = records.journals();
     let mut admitted = 0;

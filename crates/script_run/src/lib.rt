@@ -3,16 +3,18 @@
 //! A [`Line`] is an event or a refusal. `specs/Run.antt` relates the lines of a script to the records of a run: each clause
 //! stands in a file of its own. No word of it speaks of threads, cells or locks: it is said of lines and of records alone.
 //!
-//! Each worker writes the records of its lines into a journal of its own. [`merge`] puts the records of all journals in the
-//! order of their lines: [`RunRecords`] says where each lies. [`count_answers`] counts the answered checks journal after journal.
+//! Each worker writes the records of its lines into a journal of its own. [`RunJournals`] has those of all workers, and stands for their
+//! records in the order of the lines ([`merge`]). [`RunJournals::in_order`] finds that order: [`RunRecords`] says where each lies.
+//! [`count_answers`] counts the answered checks journal after journal.
 #![tactic(auto)]
 
 mod answer_counts;
 mod line;
 mod merging;
+mod run_journals;
 mod run_records;
 
 pub use answer_counts::{AnswerCounts, count_answers};
 pub use line::Line;
-pub use merging::merge;
+pub use run_journals::{RunJournals, merge};
 pub use run_records::RunRecords;

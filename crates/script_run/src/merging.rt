@@ -1,11 +1,11 @@
-// From journals to the records of a run.
-ghost use Rattle.std.specs.Prelude.{◌≡◌, ◌≤◌, IfOk, true, Some, None, length, replicate, vec_len};
+// Where the records of a run lie in its journals.
+ghost use Rattle.std.specs.Prelude.{◌≡◌, ◌≤◌, IfOk, true, replicate, vec_len};
 ghost use Rattle.std.specs.List.{AllByRecursion};
-ghost use Rattle.script_run.specs.Merged.{EachLineOnce, Merges, joined};
+ghost use Rattle.script_run.specs.Merged.{EachLineOnce, joined};
 ghost use Rattle.script_run.specs.Lone.{AreInOrder, IsLone};
-ghost use Rattle.script_run.specs.RunRecords.{all_put, each_put};
+ghost use Rattle.script_run.specs.RunRecords.{all_put, places_of};
 
-use crate::run_records::{RecordPlace, RunRecords};
+use crate::run_records::RecordPlace;
 use rate_types::OutOfMemory;
 use reply_text::{Record, Records};
 use std::alloc::Global;
@@ -56,8 +56,8 @@ fn are_in_order(lines: u32, records: &[Record]) -> bool
     true
 }
 
-// Whether there is one journal, whose records are in the order of their lines.
-fn is_lone(lines: u32, journals: &[Records]) -> bool
+/// Whether there is one journal, whose records are in the order of their lines.
+pub(crate) fn is_lone(lines: u32, journals: &[Records]) -> bool
     ensures { result ≡ true → IsLone lines journals.now }
 {
     match journals {
@@ -66,30 +66,18 @@ fn is_lone(lines: u32, journals: &[Records]) -> bool
     }
 }
 
-// Where the record of each line lies in these journals.
-fn places_in(
+/// Where the record of each line lies in these journals.
+pub(crate) fn places_in(
     alloc: Global,
     lines: u32,
     journals: &[Records],
 ) -> Result<Vec<RecordPlace>, OutOfMemory>
     requires once { EachLineOnce lines (joined journals.now) }
-    ensures { IfOk result (λ v. v.items ≡ each_put 0 (replicate lines (record { journal = 0; index = 0 })) journals.now) }
+    ensures { IfOk result (λ v. v.items ≡ places_of lines journals.now) }
 {
     let mut places = places_for(alloc, lines)?;
     'journals: for number in 0..journals.len() {
         put(&mut places, number, journals[number].items());
     }
     Ok(places)
-}
-
-/// The records of these journals in the order of their lines, where each of so many lines has one record in one of them.
-pub fn merge(alloc: Global, lines: u32, journals: Vec<Records>) -> Result<RunRecords, OutOfMemory>
-    requires once { EachLineOnce lines (joined journals.items) }
-    ensures merged { IfOk result (λ r. Merges lines journals.items r) }
-{
-    if is_lone(lines, &journals) {
-        return Ok(RunRecords::of(journals, None));
-    }
-    let places = places_in(alloc, lines, &journals)?;
-    Ok(RunRecords::of(journals, Some(places)))
 }

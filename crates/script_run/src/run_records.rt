@@ -1,8 +1,6 @@
-// The records of a run.
-ghost use Rattle.std.specs.Prelude.{◌≡◌, ◌≤◌, ◌<◌, ◌^◌, ℕ, MatchOption, length, option_map, slice_index_or};
-ghost use Rattle.rate_types.specs.Sums.{total};
-ghost use Rattle.reply_text.specs.declared.record.Record.{Record as RecordValue};
-ghost use Rattle.script_run.specs.RunRecords.{ordered, IsOrder, HasAll};
+// The records of a run in the order of its lines.
+ghost use Rattle.std.specs.Prelude.{◌≡◌, ◌≤◌, ◌<◌, ◌^◌, MatchOption, length, option_map, slice_index_or};
+ghost use Rattle.script_run.specs.RunRecords.{ordered, IsOrder};
 
 use reply_text::{Record, Records};
 use std::marker::Model;
@@ -26,21 +24,19 @@ pub struct RunRecords {
 impl Model for RunRecords {
     ghost use Rattle.std.specs.Prelude.{List, option_map};
     ghost use Rattle.reply_text.specs.declared.record.Record.{Record as RecordValue};
-    ghost use Rattle.script_run.specs.RunRecords.{ordered, IsOrder, HasAll};
+    ghost use Rattle.script_run.specs.RunRecords.{ordered, IsOrder};
 
     ghost Value = { List RecordValue };
 
     ghost view = { λ r. ordered r.journals.items (option_map (λ p. p.items) r.places) };
 
-    ghost invariant = { λ r. IsOrder r.journals.items (option_map (λ p. p.items) r.places)
-        × HasAll r.journals.items (option_map (λ p. p.items) r.places) };
+    ghost invariant = { λ r. IsOrder r.journals.items (option_map (λ p. p.items) r.places) };
 }
 
 impl RunRecords {
     /// The records of these journals, in the order of these places, or those of the first where there are none.
     pub(crate) fn of(journals: Vec<Records>, places: Option<Vec<RecordPlace>>) -> RunRecords
-        requires order { IsOrder journals.items (option_map (λ p. p.items) places) }
-        requires all { HasAll journals.items (option_map (λ p. p.items) places) }
+        requires { IsOrder journals.items (option_map (λ p. p.items) places) }
         ensures { result ≡ ordered journals.items (option_map (λ p. p.items) places) }
     {
         RunRecords { journals, places }
@@ -54,14 +50,6 @@ impl RunRecords {
             None => self.journals[0].items().len(),
             Some(places) => places.len(),
         }
-    }
-
-    /// The journals in which the records lie. What is summed over them is what is summed over the records, so whoever needs no order
-    /// reads the journals, each from its start to its end.
-    pub fn journals(&self) -> &[Records]
-        ensures { (f : RecordValue → ℕ) → total f self.now ≡ total (total f) result.now }
-    {
-        &self.journals
     }
 
     /// The record at an index, counted from 0.

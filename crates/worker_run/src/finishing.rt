@@ -14,15 +14,15 @@ use counter_cells::CellNaming;
 use rate_limiter::{Limiter, Pass};
 use rate_types::{OutOfMemory, Seconds};
 use rls_core::Totals;
-use script_run::RunRecords;
+use script_run::RunJournals;
 use std::alloc::Global;
 use std::sync::Wait;
 use std::thread::Threads;
 
-/// The records of a script in the order of its lines, and what was charged in the windows that are open at the end.
+/// The records of a script, and what was charged in the windows that are open at the end.
 #[derive(Drop)]
 pub struct Finished {
-    pub records: RunRecords,
+    pub records: RunJournals,
     pub totals: Totals,
 }
 

@@ -16,7 +16,7 @@ use line_numbers::{Drawer, LineNumbers};
 use rate_limiter::{Limiter, Pass};
 use rate_types::{OutOfMemory, Seconds};
 use reply_text::Records;
-use script_run::{RunRecords, merge};
+use script_run::{RunJournals, merge};
 use std::alloc::{AllocError, Global};
 use std::sync::Wait;
 use std::thread::{Threads, map_vec};
@@ -146,7 +146,7 @@ fn parts_of<N: CellNaming>(alloc: Global, workers: Vec<Worked<N>>) -> Result<Par
     })
 }
 
-/// Runs the lines of a script on these passes, each in a thread of its own: the records in the order of the lines, and the passes.
+/// Runs the lines of a script on these passes, each in a thread of its own: the records of the lines, and the passes.
 /// Checks offer `start`, ticks their number.
 pub fn run_lines<N: CellNaming + Send + Sync, L: ScriptLines, G: Gate, R: Threads + Wait + Sync>(
     rt: &R,
@@ -156,7 +156,7 @@ pub fn run_lines<N: CellNaming + Send + Sync, L: ScriptLines, G: Gate, R: Thread
     lines: &L,
     start: Seconds,
     gate: &G,
-) -> Result<(RunRecords, Vec<Pass<N>>), OutOfMemory>
+) -> Result<(RunJournals, Vec<Pass<N>>), OutOfMemory>
     requires passes { All (λ p. p.limiter ≡ limiter.now.id) passes.items }
     requires started { All (λ p. start ≤ p.cells.moment) passes.items }
     requires workers { (1 ≤ vec_len passes) × (vec_len passes ≤ MOST_WORKERS) }
@@ -193,6 +193,6 @@ pub fn run_lines<N: CellNaming + Send + Sync, L: ScriptLines, G: Gate, R: Thread
         journals,
     } = parts_of(alloc, done?)?;
     numbers.close(drawers);
-    let records = merge(alloc, count, journals)?;
+    let records = merge(count, journals);
     Ok((records, passes))
 }

@@ -36,8 +36,8 @@ close-requires-clause-every g c =
     let n = c.in_ok-numbers.ensures.numbers in
     omega arith
 
-pub merge-requires : goal.merge-requires
-merge-requires g c =
+pub merge-records-requires : goal.merge-records-requires
+merge-records-requires g c =
     let ws = c.in_ok-workers.workers.items in
     let vs = c.in_ok-done.field-0.items in
     let done = c.in_ok-done.ensures.done in
@@ -64,21 +64,21 @@ pub returns-clause-run : goal.returns-clause-run
 returns-clause-run g c =
     let ws = c.in_ok-workers.workers.items in
     let vs = c.in_ok-done.field-0.items in
-    let merged : Merges (length (g.L.ScriptLines.lines c.args.lines.now)) (map (λ v. v.journal) vs) c.in_ok-records.records =
-    subst (λ (n : ℕ). Merges n (map (λ v. v.journal) vs) c.in_ok-records.records) c.count-count.ensures.all
-    (subst (λ (l : List (List Record)). Merges c.count-count.result l c.in_ok-records.records) c.in_ok-passes.ensures.journals c.in_ok-records.ensures.merged) in
+    let merged : Merges (length (g.L.ScriptLines.lines c.args.lines.now)) (map (λ v. v.journal) vs) c.merge-records.result =
+    subst (λ (n : ℕ). Merges n (map (λ v. v.journal) vs) c.merge-records.result) c.count-count.ensures.all
+    (subst (λ (l : List (List Record)). Merges c.count-count.result l c.merge-records.result) c.in_ok-passes.ensures.journals c.merge-records.ensures.merged) in
     let b = bounds_of g.N.CellNaming.setup.cells c.args.limiter.now in
     let ls = g.L.ScriptLines.lines c.args.lines.now in
-    subst (λ (l : List PassView). HaveRun b c.args.limiter.now c.args.start ls c.args.passes.items l c.in_ok-records.records) (sym c.in_ok-passes.ensures.passes)
-    (subst (λ (l : List PassView). HaveRun b c.args.limiter.now c.args.start ls l (map (λ v. v.pass) vs) c.in_ok-records.records) c.in_ok-workers.ensures.passes
-    (have_run b c.args.limiter.now c.args.start ls (numbers_id c.in_ok-numbers.numbers) ws vs c.in_ok-records.records c.in_ok-workers.ensures.workers c.in_ok-done.ensures.done
+    subst (λ (l : List PassView). HaveRun b c.args.limiter.now c.args.start ls c.args.passes.items l c.merge-records.result) (sym c.in_ok-passes.ensures.passes)
+    (subst (λ (l : List PassView). HaveRun b c.args.limiter.now c.args.start ls l (map (λ v. v.pass) vs) c.merge-records.result) c.in_ok-workers.ensures.passes
+    (have_run b c.args.limiter.now c.args.start ls (numbers_id c.in_ok-numbers.numbers) ws vs c.merge-records.result c.in_ok-workers.ensures.workers c.in_ok-done.ensures.done
     merged))
 
 pub returns-clause-records : goal.returns-clause-records
 returns-clause-records g c =
-    subst (λ (n : ℕ). AreInOrder n c.args.start (g.L.ScriptLines.lines c.args.lines.now) c.in_ok-records.records) (sym c.args.passes.ok.0)
+    subst (λ (n : ℕ). AreInOrder n c.args.start (g.L.ScriptLines.lines c.args.lines.now) c.merge-records.result) (sym c.args.passes.ok.0)
     (ordered (bounds_of g.N.CellNaming.setup.cells c.args.limiter.now) c.args.limiter.now c.args.start (g.L.ScriptLines.lines c.args.lines.now) c.args.passes.items
-    c.in_ok-passes.field-0.passes.items c.in_ok-records.records (returns-clause-run g c)
+    c.in_ok-passes.field-0.passes.items c.merge-records.result (returns-clause-run g c)
     (index_all (λ (p : PassView). c.args.start ≤ p.cells.moment) c.args.passes.items c.requires.started))
 
 pub workers_of-requires-clause-passes : goal.workers_of-requires-clause-passes
