@@ -3,6 +3,7 @@ pub mod Lists
 pub mod Turning
 pub mod Counting
 pub mod Showing
+pub mod ShowingOver
 pub mod Stepping
 pub mod Making
 pub mod Renewing

@@ -5,7 +5,6 @@ use Rattle.descriptor_tree.specs.Trees.{DomainTree}
 use Rattle.config_versions.specs.PassState.{PassState, IsFirst}
 use Rattle.counter_cells.specs.Steps.{new_passes}
 use Rattle.counter_cells.specs.declared.view.CellView.{CellView}
-use Rattle.counter_directory.specs.declared.claim.Claim.{Claim}
 use Rattle.rate_limiter.specs.Passes.{LimiterId, IsNewPass}
 use Rattle.rate_limiter.specs.Made.{IsNewCellPass}
 

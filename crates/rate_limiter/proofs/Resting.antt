@@ -1,4 +1,4 @@
--- A check that took no turn at the directory.
+-- A check that took no turn at the directory, and one that tried no pin.
 use Rattle.std.proofs.Common.{◌≡◌, ℕ, List, [], ◌∷◌, ◌++◌, length, map, sym, ap, ◌∙◌, subst, append_assoc}
 use mathlib.Core.Option.{some, some-injective}
 use lib.ListN.{get_elem?}
@@ -15,7 +15,8 @@ use Rattle.rls_core.specs.Reply.{found_for}
 use Rattle.rate_limiter.specs.Known.{KnowsCounter}
 use Rattle.rate_limiter.specs.Passes.{PassView, KeepsAllButTicks, KeepsAllButVersion}
 use Rattle.rate_limiter.specs.Sought.{KnowsUnder}
-use Rattle.rate_limiter.specs.Turns.{TakesNoTurn}
+use Rattle.rate_limiter.specs.SeenOver.{AreKnownOver}
+use Rattle.rate_limiter.specs.Turns.{TakesNoTurn, TriesNoPin, IsKnownOver}
 use Rattle.rate_limiter.proofs.Lists.{map_some}
 
 -- lists that are equal behind equal ones
@@ -43,11 +44,27 @@ module _ (request : RequestParts) (moment now : ℕ) (p p1 p2 q : PassView) (tic
   pub no_turn_at_all : q.claims ≡ p2.claims → TakesNoTurn request p q
   no_turn_at_all same first more is knew others = same ∙ ap (λ (x : PassView). x.claims) renewed ∙ ap (λ (x : PassView). x.claims) rest
 
+  -- no pin was tried after it
+  pub no_pin_at_all : q.cells.pairs ≡ p2.cells.pairs → q.cells.others ≡ p2.cells.others → TriesNoPin request p q
+  no_pin_at_all pairs others first more is over = (pairs ∙ ap (λ (v : CellView). v.pairs) cells_same, others ∙ ap (λ (v : CellView). v.others) cells_same)
+
   module _ (ds : List Descriptor) (rules : List Found) (all : ds ≡ request.descriptors) (are : rules ≡ map (found_for p2.version.index request) request.descriptors)
-      (version : q.version ≡ p2.version) (added : List Tick) (then_ticks : q.cells.ticks ≡ p2.cells.ticks ++ added)
-      (stays : KnowsUnder (length ds) request p2.cells.moment p2.known ds rules → q.cells.others ≡ p2.cells.others → q.claims ≡ p2.claims) where
-    pub no_turn : TakesNoTurn request p q
-    no_turn first more is knew others = no_turn_at_all (stays knows others_same) first more is knew others
+      (version : q.version ≡ p2.version) (added : List Tick) (then_ticks : q.cells.ticks ≡ p2.cells.ticks ++ added) where
+    -- what holds of each descriptor before the check, in the windows of its first tick, holds when the rules are found
+    then_found : (P : ℕ → Entries → Descriptor → Found → Type 0) (first : Tick) (more : List Tick) → q.cells.ticks ≡ p.cells.ticks ++ first ∷ more
+        → ((i : ℕ) (d : Descriptor) → get_elem? request.descriptors i ≡ some d → P first.moment p.known d (found_for q.version.index request d))
+        → (i : ℕ) (d : Descriptor) (f : Found) → get_elem? ds i ≡ some d → get_elem? rules i ≡ some f → P p2.cells.moment p2.known d f
+    then_found P first more is before i d f a b =
+        let at = subst (λ (l : List Descriptor). get_elem? l i ≡ some d) all a in
+        let g = found_for p2.version.index request d in
+        let here = map_some (found_for p2.version.index request) request.descriptors i d at in
+        let f_is : g ≡ f = some-injective g f (sym here ∙ sym (ap (λ (l : List Found). get_elem? l i) are) ∙ b) in
+        let k = before i d at in
+        let index : q.version.index ≡ p2.version.index = ap (λ (s : PassState (List DomainTree)). s.index) version in
+        subst (P p2.cells.moment p2.known d) f_is
+        (subst (λ (c : List DomainTree). P p2.cells.moment p2.known d (found_for c request d)) index
+        (subst (λ (l : Entries). P p2.cells.moment l d (found_for q.version.index request d)) (sym known_same)
+        (subst (λ m. P m p.known d (found_for q.version.index request d)) at_first k)))
       where
         tick : Tick
         tick = tick_of moment now p.cells
@@ -61,21 +78,14 @@ module _ (request : RequestParts) (moment now : ℕ) (p p1 p2 q : PassView) (tic
             ap (λ (t : Tick). t.moment) (sym (first_same tick first added more (rest_same p.cells.ticks (tick ∷ added) (first ∷ more) (sym whole ∙ is))))
             ∙ sym (ap (λ (v : CellView). v.moment) cells_same)
 
-        others_same : q.cells.others ≡ p2.cells.others
-        others_same = others ∙ sym (ap (λ (v : CellView). v.others) cells_same)
-
         known_same : p2.known ≡ p.known
         known_same = ap (λ (x : PassView). x.known) renewed ∙ ap (λ (x : PassView). x.known) rest
 
-        knows : KnowsUnder (length ds) request p2.cells.moment p2.known ds rules
-        knows i d f lt a b =
-            let at = subst (λ (l : List Descriptor). get_elem? l i ≡ some d) all a in
-            let g = found_for p2.version.index request d in
-            let here = map_some (found_for p2.version.index request) request.descriptors i d at in
-            let f_is : g ≡ f = some-injective g f (sym here ∙ sym (ap (λ (l : List Found). get_elem? l i) are) ∙ b) in
-            let k = knew i d at in
-            let index : q.version.index ≡ p2.version.index = ap (λ (s : PassState (List DomainTree)). s.index) version in
-            subst (KnowsCounter request p2.cells.moment p2.known d) f_is
-            (subst (λ (c : List DomainTree). KnowsCounter request p2.cells.moment p2.known d (found_for c request d)) index
-            (subst (λ (l : Entries). KnowsCounter request p2.cells.moment l d (found_for q.version.index request d)) (sym known_same)
-            (subst (λ m. KnowsCounter request m p.known d (found_for q.version.index request d)) at_first k)))
+    pub no_turn : (KnowsUnder (length ds) request p2.cells.moment p2.known ds rules → q.cells.others ≡ p2.cells.others → q.claims ≡ p2.claims) → TakesNoTurn request p q
+    no_turn stays first more is knew others =
+        let others_same : q.cells.others ≡ p2.cells.others = others ∙ sym (ap (λ (v : CellView). v.others) cells_same) in
+        no_turn_at_all (stays (λ i d f lt a b. then_found (KnowsCounter request) first more is knew i d f a b) others_same) first more is knew others
+
+    -- a check that did more than to show what was seen had something to count
+    pub no_pin : (AreKnownOver request p2.cells.moment p2.known ds rules → ⊥) → TriesNoPin request p q
+    no_pin counted first more is over = absurd (counted (then_found (IsKnownOver request) first more is over))

@@ -13,7 +13,6 @@ use Rattle.counter_cells.specs.Steps.{number_of, last_moment}
 use Rattle.counter_cells.specs.declared.view.CellView.{CellView}
 use Rattle.counter_cells.specs.declared.view.Tick.{Tick}
 use Rattle.counter_cells.specs.declared.answers.Spot.{Spot}
-use Rattle.counter_directory.specs.declared.claim.Claim.{Claim}
 use Rattle.counter_directory.specs.declared.acquired.AcquireFault.{AcquireFault}
 use Rattle.counter_directory.specs.declared.acquired.AcquireFault.TheVariants.{OutOfMemory, ClaimsSpent, CountersFull}
 use Rattle.counter_directory.specs.Keys.{keys_at}
@@ -21,7 +20,7 @@ use Rattle.counter_directory.specs.Gates.{HeldSince}
 use Rattle.counter_directory.specs.Acquired.{Bounds, OffersNothing}
 use Rattle.counter_directory.specs.Spots.{LeavesAllButPins}
 use Rattle.over_cache.specs.Entries.{Entries}
-use Rattle.rls_core.specs.Reply.{found_for, counters_named, charges_of, sights_of, IsReplyOf, is_over_limit}
+use Rattle.rls_core.specs.Reply.{found_for, counters_named, charges_of, sights_of, AreStatuses, IsReplyOf, is_over_limit}
 use Rattle.rls_core.specs.declared.status.Count.{Count}
 use Rattle.rls_core.specs.declared.status.Count.TheVariants.{NoCount, Before, Seen}
 use Rattle.rls_core.specs.declared.status.Status.{Status}
@@ -37,14 +36,17 @@ use Rattle.rate_limiter.specs.Values.{HasSights}
 use Rattle.rate_limiter.specs.PassStep.{HasRenewed, HasOffered, HasClaimed, HasCharged, IsPassStep}
 use Rattle.rate_limiter.specs.Replied.{replied}
 use Rattle.rate_limiter.specs.Refusals.{HasRefused, HasCause, AreClaimsSpent, AreCountersFull, one_more, but_for_claims, Checks}
-use Rattle.rate_limiter.specs.Known.{SameSpots}
+use Rattle.rate_limiter.specs.Known.{SameSpots, AreSeenEntries}
 use Rattle.rate_limiter.specs.Sought.{KnowsUnder}
+use Rattle.rate_limiter.specs.SeenOver.{HaveShownOver}
 use Rattle.rate_limiter.specs.Planned.{names_under, planned_each, CountedAt, DoneAt, DoneEach}
 use Rattle.rate_limiter.specs.Pinned.{HasWaited, HasPins, HasNoPins, fault_of, refused_after}
 use Rattle.rate_limiter.proofs.Lists.{each_append, each_more, prefix_self, last_then}
 use Rattle.rate_limiter.proofs.Noting.{knows_all}
 use Rattle.rate_limiter.proofs.Turning.{claimed_none}
+use Rattle.rate_limiter.proofs.Meeting.{never_ticked}
 use Rattle.rate_limiter.proofs.Showing.{charged_of, seen_of}
+use Rattle.rate_limiter.proofs.ShowingOver.{counts_shown, statuses_shown}
 use Rattle.rate_limiter.proofs.Counting.{counts_of, statuses_of, keys_named, each_front, each_back}
 
 -- neither the number nor the ticks nor the moment nor the pins, good or missed, changed
@@ -183,6 +185,53 @@ module _ (limiter : LimiterView) (request : RequestParts) (now : ℕ) (p p1 p2 q
     later = subst (λ n. p.cells.moment ≤ n) (sym s.moment) h.later;
   }
 
+  -- a check that counted so from some view of the cells on
+  step_with : (rules : List Found) (w : CellView) (r : Reply)
+      → HasRenewed p1.version p2.version
+      → rules ≡ map (found_for p2.version.index request) request.descriptors
+      → HasWaited p2.cells w → Still w q.cells
+      → HasClaimed (counters_named p2.version.index request w.moment) w.moment p2.claims q.claims
+      → CountsEach q.claims.known p2.version.index request w.moment request.descriptors r.statuses.items w q.cells
+      → AreStatuses p2.version.index request w.moment request.descriptors r.statuses.items
+      → q.cells.good ≡ []
+      → q.version ≡ p2.version → q.limiter ≡ p2.limiter → q.refused ≡ p2.refused
+      → r.version ≡ q.version.version → r.moment ≡ w.moment
+      → r.over ≡ (list_any (λ s. is_over_limit s.code) r.statuses.items && not limiter.global_shadow)
+      → (known : Entries) → SameSpots known q.known → KnowsUnder (length request.descriptors) request w.moment known request.descriptors rules
+      → IsPassStep limiter request now p r q
+  step_with rules w r renewed rules_are waited all claimed counts statuses bare version same refused version_is moment_is over known spots_same knows =
+      let ds = request.descriptors in
+      let config = p2.version.index in
+      let sts = r.statuses.items in
+      let index : q.version.index ≡ config = ap (λ (s : PassState (List DomainTree)). s.index) version in
+      let moment : q.cells.moment ≡ w.moment = all.moment in
+      let from_start = each_front q.claims.known request w.moment config ds sts p.cells w q.cells (waited_keeps w waited) counts in
+      let claimed_so : HasClaimed (counters_named config request w.moment) w.moment p.claims q.claims
+      = subst (λ (t : KnownClaims). HasClaimed (counters_named config request w.moment) w.moment t q.claims) start_claims claimed in
+      record {
+        same = same ∙ start_limiter;
+        version = subst (λ (t : PassState (List DomainTree)). HasRenewed p.version t) (sym version)
+            (subst (λ (s : PassState (List DomainTree)). HasRenewed s p2.version) start_version renewed);
+        version_is = version_is;
+        ticks = offered_still w q.cells all (waited_offers w waited);
+        moment_is = moment_is ∙ sym moment;
+        reply = subst (λ c. IsReplyOf c request q.cells.moment limiter.global_shadow r.over sts) (sym index)
+            (subst (λ n. IsReplyOf config request n limiter.global_shadow r.over sts) (sym moment)
+            (record { each = statuses; overall = over }));
+        counts = subst (λ c. CountsEach q.claims.known c request q.cells.moment ds sts p.cells q.cells) (sym index)
+            (subst (λ n. CountsEach q.claims.known config request n ds sts p.cells q.cells) (sym moment) from_start);
+        charged = subst (λ n. HasCharged q.claims.known (charges_of request n ds sts) p.cells q.cells) (sym moment)
+            (charged_of q.claims.known request w.moment config ds sts p.cells q.cells statuses from_start);
+        seen = subst (λ n. HasSights q.claims.known q.cells (sights_of request n ds sts)) (sym moment)
+            (seen_of q.claims.known request w.moment config ds sts p.cells q.cells statuses from_start);
+        claims = subst (λ c. HasClaimed (counters_named c request q.cells.moment) q.cells.moment p.claims q.claims) (sym index)
+            (subst (λ n. HasClaimed (counters_named config request n) n p.claims q.claims) (sym moment) claimed_so);
+        knows = knows_all request q known w.moment rules (rules_are ∙ ap (λ (c : List DomainTree). map (found_for c request) ds) (sym index)) moment spots_same knows;
+        bare = bare;
+        refused = refused ∙ start_refused;
+      }
+
+  -- a check whose counters were pinned
   pub step_of : (names : List CounterName) (rules : List Found) (spots : List Spot) (w mid : CellView) (r : Reply)
       → HasRenewed p1.version p2.version
       → rules ≡ map (found_for p2.version.index request) request.descriptors
@@ -195,14 +244,11 @@ module _ (limiter : LimiterView) (request : RequestParts) (now : ℕ) (p p1 p2 q
       → r.over ≡ (list_any (λ s. is_over_limit s.code) r.statuses.items && not limiter.global_shadow)
       → (known : Entries) → SameSpots known q.known → KnowsUnder (length request.descriptors) request w.moment known request.descriptors rules
       → IsPassStep limiter request now p r q
-  step_of names rules spots w mid r renewed rules_are names_are pins done leaves bare version same refused version_is moment_is over known spots_same knows =
+  step_of names rules spots w mid r renewed rules_are names_are pins done leaves bare =
       let ds = request.descriptors in
       let config = p2.version.index in
       let sts = r.statuses.items in
-      let index : q.version.index ≡ config = ap (λ (s : PassState (List DomainTree)). s.index) version in
-      let after = leaves_still mid q.cells leaves in
-      let all = still_then w mid q.cells (each_still w.moment (planned_each request ds rules spots) sts w mid done) after in
-      let moment : q.cells.moment ≡ w.moment = all.moment in
+      let all = still_then w mid q.cells (each_still w.moment (planned_each request ds rules spots) sts w mid done) (leaves_still mid q.cells leaves) in
       let names_so : names ≡ names_under request ds (map (found_for config request) ds) = names_are ∙ ap (names_under request ds) rules_are in
       let done_so : DoneEach w.moment (planned_each request ds (map (found_for config request) ds) spots) sts w mid
       = subst (λ (fs : List Found). DoneEach w.moment (planned_each request ds fs spots) sts w mid) rules_are done in
@@ -210,36 +256,39 @@ module _ (limiter : LimiterView) (request : RequestParts) (now : ℕ) (p p1 p2 q
       = subst (λ (ns : List CounterName). HasPins ns spots p2.cells w p2.claims q.claims) names_so pins in
       let counts = counts_of q.claims.known request w.moment config ds spots sts w mid pins_so.bound pins_so.under pins_so.count done_so in
       let back : Keeps mid q.cells = record { looks = ap (λ (x : CellView). x.looks) leaves; charges = ap (λ (x : CellView). x.charges) leaves } in
-      let from_start = each_front q.claims.known request w.moment config ds sts p.cells w q.cells (waited_keeps w pins.waited)
-      (each_back q.claims.known request w.moment config ds sts w mid q.cells counts back) in
-      let statuses = statuses_of q.claims.known request w.moment config ds spots sts w mid done_so in
       let named : keys_at w.moment (names_under request ds (map (found_for config request) ds)) ≡ counters_named config request w.moment
       = keys_named q.claims.known request w.moment config ds in
-      let claimed : HasClaimed (counters_named config request w.moment) w.moment p.claims q.claims
-      = subst (λ (t : KnownClaims). HasClaimed (counters_named config request w.moment) w.moment t q.claims) start_claims
-      (subst (λ ks. HasClaimed ks w.moment p2.claims q.claims) named pins_so.claimed) in
-      record {
-        same = same ∙ start_limiter;
-        version = subst (λ (t : PassState (List DomainTree)). HasRenewed p.version t) (sym version)
-            (subst (λ (s : PassState (List DomainTree)). HasRenewed s p2.version) start_version renewed);
-        version_is = version_is;
-        ticks = offered_still w q.cells all (waited_offers w pins.waited);
-        moment_is = moment_is ∙ sym moment;
-        reply = subst (λ c. IsReplyOf c request q.cells.moment limiter.global_shadow r.over sts) (sym index)
-            (subst (λ n. IsReplyOf config request n limiter.global_shadow r.over sts) (sym moment)
-            (record { each = statuses; overall = over }));
-        counts = subst (λ c. CountsEach q.claims.known c request q.cells.moment ds sts p.cells q.cells) (sym index)
-            (subst (λ n. CountsEach q.claims.known config request n ds sts p.cells q.cells) (sym moment) from_start);
-        charged = subst (λ n. HasCharged q.claims.known (charges_of request n ds sts) p.cells q.cells) (sym moment)
-            (charged_of q.claims.known request w.moment config ds sts p.cells q.cells statuses from_start);
-        seen = subst (λ n. HasSights q.claims.known q.cells (sights_of request n ds sts)) (sym moment)
-            (seen_of q.claims.known request w.moment config ds sts p.cells q.cells statuses from_start);
-        claims = subst (λ c. HasClaimed (counters_named c request q.cells.moment) q.cells.moment p.claims q.claims) (sym index)
-            (subst (λ n. HasClaimed (counters_named config request n) n p.claims q.claims) (sym moment) claimed);
-        knows = knows_all request q known w.moment rules (rules_are ∙ ap (λ (c : List DomainTree). map (found_for c request) ds) (sym index)) moment spots_same knows;
-        bare = bare;
-        refused = refused ∙ start_refused;
-      }
+      step_with rules w r renewed rules_are pins.waited all (subst (λ ks. HasClaimed ks w.moment p2.claims q.claims) named pins_so.claimed)
+      (each_back q.claims.known request w.moment config ds sts w mid q.cells counts back) (statuses_of q.claims.known request w.moment config ds spots sts w mid done_so) bare
+
+  -- a check whose counters were all seen above their limits before
+  pub step_over : (rules : List Found) (r : Reply)
+      → HasRenewed p1.version p2.version
+      → rules ≡ map (found_for p2.version.index request) request.descriptors
+      → q.cells ≡ p2.cells → q.claims ≡ p2.claims
+      → AreSeenEntries p2.cells q.known
+      → HaveShownOver p2.claims.known q.known request p2.cells.moment request.descriptors rules r.statuses.items
+      → p2.cells.good ≡ []
+      → q.version ≡ p2.version → q.limiter ≡ p2.limiter → q.refused ≡ p2.refused
+      → r.version ≡ q.version.version → r.moment ≡ p2.cells.moment
+      → r.over ≡ (list_any (λ s. is_over_limit s.code) r.statuses.items && not limiter.global_shadow)
+      → (known : Entries) → SameSpots known q.known → KnowsUnder (length request.descriptors) request p2.cells.moment known request.descriptors rules
+      → IsPassStep limiter request now p r q
+  step_over rules r renewed rules_are cells claims seen shown bare =
+      let ds = request.descriptors in
+      let config = p2.version.index in
+      let sts = r.statuses.items in
+      let w = p2.cells in
+      let each = subst (λ (fs : List Found). HaveShownOver p2.claims.known q.known request w.moment ds fs sts) rules_are shown in
+      let counts : CountsEach p2.claims.known config request w.moment ds sts w w
+      = counts_shown p2.claims.known q.known request w.moment w seen config ds sts each.count each.each in
+      step_with rules w r renewed rules_are (record { ticked = never_ticked w; keeps = record { looks = refl; charges = refl } }) (same_still w q.cells cells)
+      (claimed_none (counters_named config request w.moment) w.moment p2.claims q.claims
+      (subst (λ (t : KnownClaims). IsPrefix p2.claims.known t.known) (sym claims) (prefix_self p2.claims.known)) (ap (λ (t : KnownClaims). t.own) claims))
+      (subst (λ (t : KnownClaims). CountsEach t.known config request w.moment ds sts w q.cells) (sym claims)
+      (subst (λ (x : CellView). CountsEach p2.claims.known config request w.moment ds sts w x) (sym cells) counts))
+      (statuses_shown p2.claims.known q.known request w.moment w seen config ds sts each.count each.each)
+      (ap (λ (x : CellView). x.good) cells ∙ bare)
 
   -- ---- a refused check
 

@@ -10,6 +10,7 @@ pub mod Turns
 pub mod Planned
 pub mod Pinned
 pub mod Sought
+pub mod SeenOver
 pub mod Replied
 pub mod Opens
 pub mod Opening

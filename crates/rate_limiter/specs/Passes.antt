@@ -7,7 +7,6 @@ use Rattle.counter_directory.specs.Passes.{IsFresh, KnownClaims}
 use Rattle.config_versions.specs.PassState.{PassState, IsFirst}
 use Rattle.counter_cells.specs.Steps.{number_of, fresh_pass}
 use Rattle.counter_cells.specs.declared.view.CellView.{CellView}
-use Rattle.counter_directory.specs.declared.claim.Claim.{Claim}
 use Rattle.counter_directory.specs.Acquired.{Bounds}
 use Rattle.over_cache.specs.Entries.{Entries}
 

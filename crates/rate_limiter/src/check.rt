@@ -1,5 +1,6 @@
 ghost use Rattle.std.specs.Prelude.{◌≡◌};
 
+use crate::hold::Hold;
 use crate::pinned::refuse;
 use crate::{Limiter, Pass};
 use counter_cells::CellNaming;
@@ -14,12 +15,12 @@ impl<N: CellNaming> Limiter<N> {
     ghost use Rattle.rate_types.specs.declared.limits.TheConstants.{MOST_DESCRIPTORS};
     ghost use Rattle.rate_limiter.specs.Passes.{bounds_of};
     ghost use Rattle.rate_limiter.specs.Refusals.{Checks};
-    ghost use Rattle.rate_limiter.specs.Turns.{TakesNoTurn};
+    ghost use Rattle.rate_limiter.specs.Turns.{TakesNoTurn, TriesNoPin};
     ghost use Rattle.rate_limiter.specs.Replied.{replied};
 
     /// Answers a request in the windows of a moment that is the pass's afterwards, and no earlier than `now`. It may wait for
     /// other calls on this limiter. It asks the directory for nothing where the pass knows all counters of the request and their
-    /// cells are theirs still.
+    /// cells are theirs still. It tries no pin where the pass knows each to be above its limit, and each is to be hit.
     pub fn check<R: Wait>(
         &self,
         rt: &R,
@@ -33,6 +34,7 @@ impl<N: CellNaming> Limiter<N> {
         ensures few { length request.now.descriptors ≤ MOST_DESCRIPTORS }
         ensures step { Checks (bounds_of N.setup.cells self.now) self.now request.now now pass.old result pass.new }
         ensures turns { TakesNoTurn request.now pass.old pass.new }
+        ensures pins { TriesNoPin request.now pass.old pass.new }
     {
         let mut reply = Reply::new();
         self.check_into(rt, alloc, pass, request, now, &mut reply)?;
@@ -55,6 +57,7 @@ impl<N: CellNaming> Limiter<N> {
         ensures few { length request.now.descriptors ≤ MOST_DESCRIPTORS }
         ensures step { Checks (bounds_of N.setup.cells self.now) self.now request.now now pass.old (replied result reply.new) pass.new }
         ensures turns { TakesNoTurn request.now pass.old pass.new }
+        ensures pins { TriesNoPin request.now pass.old pass.new }
         ensures kept { OnErr result (reply.new ≡ reply.old) }
     {
         let descriptors = request.descriptors();
@@ -81,7 +84,20 @@ impl<N: CellNaming> Limiter<N> {
             &mut scratch.acquired,
         ) {
             Err(fault) => Err(refuse(&mut pass.refused, fault)),
-            Ok(()) => {
+            Ok(Hold::SeenOver) => {
+                self.answer_seen(
+                    &pass.claims,
+                    &pass.cells,
+                    &pass.known,
+                    pass.version.version(),
+                    request,
+                    scratch.rules.as_slice(),
+                    scratch.seen.as_slice(),
+                    reply,
+                );
+                Ok(())
+            }
+            Ok(Hold::Pinned) => {
                 self.answer(
                     &pass.claims,
                     &mut pass.cells,

@@ -1,5 +1,6 @@
 ghost use Rattle.std.specs.Prelude.{◌≡◌};
 
+use crate::hold::Hold;
 use crate::sought::pin_known;
 use crate::{Limiter, NotOpen, Pass};
 use counter_cells::CellNaming;
@@ -11,10 +12,12 @@ impl<N: CellNaming> Limiter<N> {
     ghost use Rattle.std.specs.Prelude.{◌≡◌, ◌≤◌, length, OnErr};
     ghost use Rattle.rate_types.specs.declared.limits.TheConstants.{MOST_DESCRIPTORS};
     ghost use Rattle.rate_limiter.specs.Opens.{Opens};
+    ghost use Rattle.rate_limiter.specs.Turns.{TriesNoPin};
     ghost use Rattle.rate_limiter.specs.Replied.{replied};
 
     /// Answers a request as [`Limiter::check`] does, where no newer version is installed, the pass knows each counter of the
-    /// request at its moment, and their cells are theirs still. It takes no lock and no memory, and waits for nobody.
+    /// request at its moment, and their cells are theirs still. It takes no lock and no memory, and waits for nobody. Where the pass
+    /// knows each counter to be above its limit, and each is to be hit, no cell is asked for.
     ///
     /// A refusal charges nothing and leaves no pin. `Behind` does nothing but one load. After the other two the pass's moment may
     /// have risen. `Unknown` comes before `Reclaimed`, and pins nothing.
@@ -28,6 +31,7 @@ impl<N: CellNaming> Limiter<N> {
         ensures pass { pass.new.limiter ≡ self.now.id }
         ensures few { length request.now.descriptors ≤ MOST_DESCRIPTORS }
         ensures step { Opens self.now request.now now pass.old result pass.new }
+        ensures pins { TriesNoPin request.now pass.old pass.new }
     {
         let mut reply = Reply::new();
         self.check_open_into(pass, request, now, &mut reply)?;
@@ -47,6 +51,7 @@ impl<N: CellNaming> Limiter<N> {
         ensures pass { pass.new.limiter ≡ self.now.id }
         ensures few { length request.now.descriptors ≤ MOST_DESCRIPTORS }
         ensures step { Opens self.now request.now now pass.old (replied result reply.new) pass.new }
+        ensures pins { TriesNoPin request.now pass.old pass.new }
         ensures kept { OnErr result (reply.new ≡ reply.old) }
     {
         let descriptors = request.descriptors();
@@ -74,7 +79,20 @@ impl<N: CellNaming> Limiter<N> {
             &mut scratch.seen,
         ) {
             Err(missed) => Err(NotOpen::of(missed)),
-            Ok(()) => {
+            Ok(Hold::SeenOver) => {
+                self.answer_seen(
+                    &pass.claims,
+                    &pass.cells,
+                    &pass.known,
+                    pass.version.version(),
+                    request,
+                    scratch.rules.as_slice(),
+                    scratch.seen.as_slice(),
+                    reply,
+                );
+                Ok(())
+            }
+            Ok(Hold::Pinned) => {
                 self.answer(
                     &pass.claims,
                     &mut pass.cells,

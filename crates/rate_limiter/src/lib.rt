@@ -11,7 +11,8 @@
 //!
 //! A pass keeps what it knows of its counters. A check whose counters it knows, and whose cells are theirs still, asks the directory
 //! for nothing. [`Limiter::check_open`] is such a check alone: it takes no lock and no memory, or isn't answered, for a cause
-//! (`specs/Opens.antt`). A counter that the pass has seen above the limit is answered without a look at its cell.
+//! (`specs/Opens.antt`). A counter that the pass has seen above the limit is answered without a look at its cell, and where all
+//! counters of a check are such, no cell is asked for: the check tries no pin (`specs/Turns.antt`).
 //!
 //! The limits: `check`, `reload` and `meet` may wait for other calls on the limiter.
 #![tactic(auto)]
@@ -22,6 +23,7 @@ mod check_open;
 mod close;
 mod count_each;
 mod count_one;
+mod hold;
 mod known;
 mod known_counters;
 mod limiter;
@@ -38,6 +40,7 @@ mod planned;
 mod reload;
 mod renew;
 mod scratch;
+mod seen_over;
 mod sought;
 mod split;
 mod totals;

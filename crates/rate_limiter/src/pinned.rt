@@ -3,6 +3,7 @@ ghost use Rattle.std.specs.Prelude.{◌≡◌};
 ghost use Rattle.rate_limiter.specs.Pinned.{fault_of, refused_after};
 
 use crate::Limiter;
+use crate::hold::Hold;
 use crate::known::note_pinned;
 use crate::known_counters::KnownCounters;
 use crate::names::names_of;
@@ -18,7 +19,7 @@ use std::alloc::Global;
 use std::sync::Wait;
 
 impl<N: CellNaming> Limiter<N> {
-    ghost use Rattle.std.specs.Prelude.{◌≡◌, ◌≤◌, ◌<◌, ℕ, [], All, OnOk, IfErr, length};
+    ghost use Rattle.std.specs.Prelude.{◌≡◌, ◌≤◌, ◌<◌, ℕ, [], All, Ok, IfOk, OnOk, IfErr, length};
     ghost use Rattle.rate_types.specs.declared.limits.TheConstants.{MOST_PINS, MOST_DESCRIPTORS};
     ghost use Rattle.counter_directory.specs.Passes.{list_of, knows};
     ghost use Rattle.counter_cells.specs.Views.{good_on};
@@ -28,6 +29,8 @@ impl<N: CellNaming> Limiter<N> {
     ghost use Rattle.rate_limiter.specs.Sought.{AreSeenAt, KnowsUnder};
     ghost use Rattle.rate_limiter.specs.Planned.{names_under};
     ghost use Rattle.rate_limiter.specs.Pinned.{HasPins, HasNoPins};
+    ghost use Rattle.rate_limiter.specs.SeenOver.{AreSeenOver, AreKnownOver, WhenPinned, WhenOver};
+    ghost use Rattle.rate_limiter.specs.declared.hold.Hold.TheVariants.{SeenOver};
 
     // Pins the counters of the names, where there are any.
     pub(crate) fn pin_names<R: Wait>(
@@ -64,7 +67,7 @@ impl<N: CellNaming> Limiter<N> {
 
     // Pins the counters of the descriptors that have a limit on the spots of `acquired`: without a turn at the directory where the pass
     // knows each and its cell is the counter's still. Then `seen` is the greatest value that the pass has seen of each; else it is
-    // empty, and the pass knows each now.
+    // empty, and the pass knows each now. Nothing is pinned where what the pass has seen leaves nothing to count.
     pub(crate) fn pin_counters<R: Wait>(
         &self,
         rt: &R,
@@ -78,7 +81,7 @@ impl<N: CellNaming> Limiter<N> {
         found: &mut ArrayVec<Option<Spot>, MOST_DESCRIPTORS>,
         seen: &mut ArrayVec<u64, MOST_DESCRIPTORS>,
         acquired: &mut Acquired,
-    ) -> Result<(), AcquireFault>
+    ) -> Result<Hold, AcquireFault>
         requires pass { list_of claims.old ≡ self.now.id.claims }
         requires bare { cell_pass.old.good ≡ [] }
         requires few { length descriptors.now ≤ MOST_DESCRIPTORS }
@@ -97,14 +100,20 @@ impl<N: CellNaming> Limiter<N> {
             (KnowsUnder (length descriptors.now) request.now cell_pass.new.moment known.new descriptors.now rules.now) }
         ensures values { OnOk result (AreSeenAt (knows claims.new).known request.now cell_pass.new.moment known.new descriptors.now
             rules.now seen.new.items) }
-        ensures within { OnOk result (All (λ s. s.cell < N.setup.cells) acquired.new.spots.items) }
-        ensures pins { OnOk result ((cell : ℕ) → good_on cell cell_pass.new ≡ spots_on cell acquired.new.spots.items) }
-        ensures pinned { OnOk result (HasPins (names_under request.now descriptors.now rules.now) acquired.new.spots.items
-            cell_pass.old cell_pass.new (knows claims.old) (knows claims.new)) }
+        ensures within { IfOk result (λ hold. WhenPinned hold (All (λ s. s.cell < N.setup.cells) acquired.new.spots.items)) }
+        ensures pins { IfOk result (λ hold. WhenPinned hold
+            ((cell : ℕ) → good_on cell cell_pass.new ≡ spots_on cell acquired.new.spots.items)) }
+        ensures pinned { IfOk result (λ hold. WhenPinned hold
+            (HasPins (names_under request.now descriptors.now rules.now) acquired.new.spots.items cell_pass.old cell_pass.new
+            (knows claims.old) (knows claims.new))) }
+        ensures over { IfOk result (λ hold. WhenOver hold (AreSeenOver request.now descriptors.now rules.now seen.new.items
+            × (cell_pass.new ≡ cell_pass.old) × (knows claims.new ≡ knows claims.old))) }
+        ensures unpinned { AreKnownOver request.now cell_pass.old.moment known.old descriptors.now rules.now
+            → (result ≡ Ok SeenOver) × (cell_pass.new ≡ cell_pass.old) }
         ensures refused { IfErr result (λ f. HasNoPins (bounds_of N.setup.cells self.now)
             (names_under request.now descriptors.now rules.now) f cell_pass.old cell_pass.new (knows claims.old) (knows claims.new)) }
     {
-        if let Ok(()) = pin_known(
+        if let Ok(hold) = pin_known(
             &self.cells,
             claims,
             cell_pass,
@@ -116,7 +125,7 @@ impl<N: CellNaming> Limiter<N> {
             &mut acquired.spots,
             seen,
         ) {
-            return Ok(());
+            return Ok(hold);
         }
         seen.clear();
         let Ok(names) = names_of(alloc, request, descriptors, rules) else {
@@ -124,14 +133,17 @@ impl<N: CellNaming> Limiter<N> {
         };
         match self.pin_names(rt, claims, cell_pass, names.as_slice(), acquired) {
             Err(fault) => Err(fault),
-            Ok(()) => note_pinned(
-                &self.cells,
-                claims,
-                known,
-                names.as_slice(),
-                acquired.spots.as_slice(),
-                cell_pass,
-            ),
+            Ok(()) => {
+                note_pinned(
+                    &self.cells,
+                    claims,
+                    known,
+                    names.as_slice(),
+                    acquired.spots.as_slice(),
+                    cell_pass,
+                )?;
+                Ok(Hold::Pinned)
+            }
         }
     }
 }

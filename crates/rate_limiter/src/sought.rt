@@ -1,5 +1,6 @@
-// Counters that the pass knows are pinned without a turn at the directory: first all are looked up, then all are pinned.
-ghost use Rattle.std.specs.Prelude.{◌≡◌, ◌≤◌, ◌<◌, ◌+◌, ◌++◌, ℕ, List, [], All, IfOk, IfErr, IfSome, OnOk, IsOk, length};
+// Counters that the pass knows are pinned without a turn at the directory: first all are looked up, then all are pinned, unless what was
+// seen of them leaves nothing to count.
+ghost use Rattle.std.specs.Prelude.{◌≡◌, ◌≤◌, ◌<◌, ◌+◌, ◌++◌, ℕ, List, [], All, Ok, IfOk, IfErr, IfSome, OnOk, IsOk, length};
 ghost use Rattle.rate_types.specs.declared.limits.TheConstants.{MOST_DESCRIPTORS, MOST_PINS};
 ghost use Rattle.rate_types.specs.declared.counter_name.CounterName.{CounterName as CounterNameValue};
 ghost use Rattle.counter_cells.specs.declared.view.CellView.{CellView};
@@ -10,10 +11,14 @@ ghost use Rattle.rate_limiter.specs.Known.{AreBoundEntries, PinsGrow, key_of, pi
 ghost use Rattle.rate_limiter.specs.Planned.{name_under, names_under};
 ghost use Rattle.rate_limiter.specs.Pinned.{SameButPins, ArePinned};
 ghost use Rattle.rate_limiter.specs.Sought.{SameKnown, seen_in, IsSeenAt, AreSeenAt, IsOwnSpot, IsOwnAt, AreOwn, IsKnownAt, AreKnown};
+ghost use Rattle.rate_limiter.specs.SeenOver.{AreSeenOver, AreKnownOver, WhenPinned, WhenOver};
+ghost use Rattle.rate_limiter.specs.declared.hold.Hold.TheVariants.{SeenOver};
 ghost use Rattle.rate_limiter.specs.Sought.{IsUnknownAt, IsFirstUnknown, HasMissedAt, HasMissedFirst, HasMissCause, KnowsUnder};
 
+use crate::hold::Hold;
 use crate::known_counters::KnownCounters;
 use crate::missed::Missed;
+use crate::seen_over::are_seen_over;
 use arrayvec::ArrayVec;
 use counter_cells::{CellNaming, CellPass, Cells, Pin, Spot};
 use counter_directory::{DirectoryPass, give_back};
@@ -116,6 +121,7 @@ fn find_known<N: CellNaming>(
     ensures known { AreBoundEntries N.setup.cells (knows claims.now).known cell_pass.now.pairs known.new }
     ensures same { SameKnown known.old known.new }
     ensures count { OnOk result (length spots.new.items ≡ length descriptors.now) }
+    ensures values { OnOk result (length seen.new.items ≡ length descriptors.now) }
     ensures own { OnOk result (AreOwn N.setup.cells (knows claims.now).known cell_pass.now.pairs request.now cell_pass.now.moment
         descriptors.now rules.now spots.new.items) }
     ensures spots { OnOk result
@@ -236,8 +242,9 @@ fn pin_found<N: CellNaming>(
 }
 
 /// Pins the counters of all descriptors that have a limit, at the pass's moment, where the pass knows each and its cell is the
-/// counter's still: then `spots` has where, and `seen` the greatest value that the pass has seen of each. Where not, nothing is pinned.
-/// A counter that isn't known comes before a cell that is another's.
+/// counter's still: then `spots` has where, and `seen` the greatest value that the pass has seen of each. Where these values leave nothing
+/// to count, no cell is asked for. Where a counter isn't known, or a cell isn't the counter's any more, nothing is pinned; a counter that
+/// isn't known comes first.
 pub(crate) fn pin_known<N: CellNaming>(
     cells: &Cells<N>,
     claims: &DirectoryPass<N>,
@@ -249,15 +256,19 @@ pub(crate) fn pin_known<N: CellNaming>(
     found: &mut ArrayVec<Option<Spot>, MOST_DESCRIPTORS>,
     spots: &mut ArrayVec<Spot, 32>,
     seen: &mut ArrayVec<u64, MOST_DESCRIPTORS>,
-) -> Result<(), Missed>
+) -> Result<Hold, Missed>
     requires bare { cell_pass.old.good ≡ [] }
     requires few { length descriptors.now ≤ MOST_DESCRIPTORS }
     requires rules { length rules.now ≡ length descriptors.now }
     requires known { AreBoundEntries N.setup.cells (knows claims.now).known cell_pass.old.pairs known.old }
     ensures known { AreBoundEntries N.setup.cells (knows claims.now).known cell_pass.new.pairs known.new }
     ensures same { SameKnown known.old known.new }
-    ensures pinned { OnOk result (ArePinned N.setup.cells (knows claims.now).known
-        (names_under request.now descriptors.now rules.now) spots.new.items cell_pass.old cell_pass.new) }
+    ensures pinned { IfOk result (λ hold. WhenPinned hold (ArePinned N.setup.cells (knows claims.now).known
+        (names_under request.now descriptors.now rules.now) spots.new.items cell_pass.old cell_pass.new)) }
+    ensures over { IfOk result (λ hold. WhenOver hold
+        (AreSeenOver request.now descriptors.now rules.now seen.new.items × (cell_pass.new ≡ cell_pass.old))) }
+    ensures unpinned { AreKnownOver request.now cell_pass.old.moment known.old descriptors.now rules.now
+        → (result ≡ Ok SeenOver) × (cell_pass.new ≡ cell_pass.old) }
     ensures all { OnOk result (KnowsUnder (length descriptors.now) request.now cell_pass.old.moment known.old descriptors.now
         rules.now) }
     ensures seen { OnOk result
@@ -279,15 +290,21 @@ pub(crate) fn pin_known<N: CellNaming>(
         seen,
     ) {
         Err(place) => Err(Missed::Unknown { place }),
-        Ok(()) => pin_found(
-            cells,
-            claims,
-            cell_pass,
-            request,
-            descriptors,
-            rules,
-            found.as_slice(),
-            spots,
-        ),
+        Ok(()) => {
+            if are_seen_over(request, descriptors, rules, seen.as_slice()) {
+                return Ok(Hold::SeenOver);
+            }
+            pin_found(
+                cells,
+                claims,
+                cell_pass,
+                request,
+                descriptors,
+                rules,
+                found.as_slice(),
+                spots,
+            )?;
+            Ok(Hold::Pinned)
+        }
     }
 }

@@ -15,7 +15,6 @@ use Rattle.config_versions.specs.Passes.{pass_state, versions_id, versions_of}
 use Rattle.counter_cells.specs.Ledgers.{ledger_of, sights_of}
 use Rattle.counter_cells.specs.Closing.{ticks_of, TicksAreLawful, CountsAreTotals}
 use Rattle.counter_cells.specs.declared.view.CellView.{CellView}
-use Rattle.counter_directory.specs.declared.claim.Claim.{Claim}
 use Rattle.counter_directory.specs.declared.closed.OpenClaim.{OpenClaim}
 use Rattle.counter_directory.specs.Claims.{IsLawfulClaims}
 use Rattle.counter_directory.specs.Open.{open_claims_of}
