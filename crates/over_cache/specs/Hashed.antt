@@ -1,13 +1,20 @@
--- Inside: keys that are hashed by one write of their bytes.
-use Rattle.std.proofs.Common.{◌≡◌, ℕ, List, [], ◌∷◌, ap}
+-- Inside: what is hashed of a key.
+use Rattle.std.proofs.Common.{◌≡◌, ℕ, ◌-◌, ◌%◌, nat_lt, List, [], ◌∷◌, length, take, drop, if◌then◌else◌, ap}
 use Rattle.std.specs.Bool.{IsTrue}
+use Rattle.std.specs.Hash.{HashWrites}
 use Rattle.std.specs.Cmp.Lexicographic.{bytes_decides, nat_list_eq_equiv}
 use Rattle.over_cache.specs.Entries.{is_key}
 
+-- the bytes that fill words of eight, and the last eight; a key of less than eight bytes is hashed as it is
+abbrev pub key_writes : List ℕ → HashWrites
+key_writes key =
+    let len = length key in
+    if nat_lt len 8 then key ∷ [] else take (len - len % 8) key ∷ drop (len - 8) key ∷ []
+
 module _ {A B : Type 0} (f : A → List ℕ) (g : B → List ℕ) where
-  -- equal bytes make the same write
-  pub one_write : (x : A) (y : B) → IsTrue (is_key (f x) (g y)) → f x ∷ [] ≡ g y ∷ []
-  one_write x y e = ap (λ (l : List ℕ). l ∷ []) ((bytes_decides (f x) (g y)).0 e)
+  -- equal bytes make the same writes
+  pub same_writes : (x : A) (y : B) → IsTrue (is_key (f x) (g y)) → key_writes (f x) ≡ key_writes (g y)
+  same_writes x y e = ap key_writes ((bytes_decides (f x) (g y)).0 e)
 
   -- bytes that a key has are those of the keys that are equal to it
   pub same_each : (q : A) (x y : B) → IsTrue (is_key (f q) (g x)) → is_key (f q) (g y) ≡ is_key (g x) (g y)

@@ -1,5 +1,7 @@
-// Keys in the map: their bytes, which are hashed in one piece. A slice of bytes would be hashed byte by byte.
+// Keys in the map: their bytes, which are hashed in words of eight, since std hashes what doesn't fill one byte by byte.
 ghost use Rattle.std.specs.Prelude.{◌≡◌, IfOk};
+ghost use Rattle.std.specs.List.{fold};
+ghost use Rattle.over_cache.specs.Hashed.{key_writes};
 
 use rate_types::OutOfMemory;
 use std::alloc::Global;
@@ -20,6 +22,21 @@ impl KeyBytes {
         let bytes = bytes.to_vec(alloc)?;
         Ok(KeyBytes { bytes })
     }
+}
+
+/// Hashes the bytes of a key: those that fill words of eight, and the last eight, some of which may have stood before.
+fn hash_key<H: Hasher>(key: &[u8], state: &mut H)
+    ensures { state.new ≡ fold H.write state.old (key_writes key.now) }
+{
+    let len = key.len();
+    if len < 8 {
+        state.write(key);
+        return;
+    }
+    let (whole, _) = key.split_at(len - len % 8);
+    let (_, last) = key.split_at(len - 8);
+    state.write(whole);
+    state.write(last);
 }
 
 impl PartialEq for KeyBytes {
@@ -44,15 +61,14 @@ impl Eq for KeyBytes {
 }
 
 impl Hash for KeyBytes {
-    ghost use Rattle.std.specs.Prelude.{[], ◌∷◌};
-    ghost use Rattle.over_cache.specs.Hashed.{one_write};
+    ghost use Rattle.over_cache.specs.Hashed.{key_writes, same_writes};
 
-    ghost hash_input = { λ k. k.bytes.items ∷ [] };
+    ghost hash_input = { λ k. key_writes k.bytes.items };
 
-    ghost respects_eq = { one_write (λ k. k.bytes.items) (λ k. k.bytes.items) };
+    ghost respects_eq = { same_writes (λ k. k.bytes.items) (λ k. k.bytes.items) };
 
     fn hash<H: Hasher>(&self, state: &mut H) {
-        state.write(&self.bytes);
+        hash_key(&self.bytes, state);
     }
 }
 
@@ -84,25 +100,24 @@ impl Eq for SoughtBytes<'_> {
 }
 
 impl Hash for SoughtBytes<'_> {
-    ghost use Rattle.std.specs.Prelude.{[], ◌∷◌};
-    ghost use Rattle.over_cache.specs.Hashed.{one_write};
+    ghost use Rattle.over_cache.specs.Hashed.{key_writes, same_writes};
 
-    ghost hash_input = { λ k. k.bytes.now ∷ [] };
+    ghost hash_input = { λ k. key_writes k.bytes.now };
 
-    ghost respects_eq = { one_write (λ k. k.bytes.now) (λ k. k.bytes.now) };
+    ghost respects_eq = { same_writes (λ k. k.bytes.now) (λ k. k.bytes.now) };
 
     fn hash<H: Hasher>(&self, state: &mut H) {
-        state.write(self.bytes);
+        hash_key(self.bytes, state);
     }
 }
 
 impl Equivalent<KeyBytes> for SoughtBytes<'_> {
     ghost use Rattle.over_cache.specs.Entries.{is_key};
-    ghost use Rattle.over_cache.specs.Hashed.{one_write, same_each};
+    ghost use Rattle.over_cache.specs.Hashed.{same_writes, same_each};
 
     ghost equivalent = { λ q k. is_key q.bytes.now k.bytes.items };
 
-    ghost respects_hash = { one_write (λ q. q.bytes.now) (λ k. k.bytes.items) };
+    ghost respects_hash = { same_writes (λ q. q.bytes.now) (λ k. k.bytes.items) };
 
     ghost respects_eq = { same_each (λ q. q.bytes.now) (λ k. k.bytes.items) };
 
