@@ -10,7 +10,7 @@ use Rattle.counter_cells.specs.declared.view.Cell.{Cell}
 use Rattle.counter_cells.specs.declared.view.CellView.{CellView}
 use Rattle.counter_cells.specs.declared.setup.Setup.{Setup}
 use Rattle.rate_types.specs.Sums.{total}
-use Rattle.counter_cells.specs.WordIndex.{gate_of, count_of, gate_at, count_at}
+use Rattle.counter_cells.specs.WordIndex.{first_words, gate_of, count_of, gate_at, count_at}
 use Rattle.counter_cells.specs.Views.{no_cell, noted_on, held_on}
 use Rattle.counter_cells.specs.Counting.{pins_on}
 use Rattle.counter_cells.specs.InnerSteps.{first_claimer}
@@ -36,7 +36,7 @@ word_zero : (x n i : ℕ) → 1 ≤ i → get_or {A = ℕ} (x ∷ replicate n 0)
 word_zero x n zero h = absurd (omega arith)
 word_zero x n (suc i) h = rep_zero n i
 
-pub begins : (a : Setup) (ws : List ℕ) → ws ≡ a.start ∷ replicate (512 * ((a.cells + 255) / 256) + 7) 0 → a.passes ≤ 1024 → a.start ≤ 1000000000000 → AreLawful a (opening ws [] (first_claimer a))
+pub begins : (a : Setup) (ws : List ℕ) → ws ≡ first_words a.cells a.start → a.passes ≤ 1024 → a.start ≤ 1000000000000 → AreLawful a (opening ws [] (first_claimer a))
 begins a ws is few low = lawful a (opening ws [] (first_claimer a))
     (subst (λ (l : List ℕ). Holds a (opening l [] (first_claimer a))) (sym is) (
       record { cells = replicate a.cells no_cell; used_claims = [] },
@@ -47,7 +47,7 @@ begins a ws is few low = lawful a (opening ws [] (first_claimer a))
       found,
     ))
   where
-    fits : ViewFits (record { cells = replicate a.cells no_cell; used_claims = [] }) (count_of (a.start ∷ replicate (512 * ((a.cells + 255) / 256) + 7) 0)) (first_claimer a)
+    fits : ViewFits (record { cells = replicate a.cells no_cell; used_claims = [] }) (count_of (first_words a.cells a.start)) (first_claimer a)
     fits = record {
       pins = (omega arith, omega arith);
       good = λ k c o. absurd (omega arith);
@@ -64,7 +64,7 @@ begins a ws is few low = lawful a (opening ws [] (first_claimer a))
     off : (k : ℕ) (s : Cell) → get_elem? (replicate a.cells no_cell) k ≡ some s → s.ever ≡ true → ⊥
     off k s e ev = true≢false (sym ev ∙ sym (ap (λ (c : Cell). c.ever) (rep_at a.cells no_cell k s e)))
 
-    cell : (k : ℕ) → CellFits a.passes no_cell (gate_of (a.start ∷ replicate (512 * ((a.cells + 255) / 256) + 7) 0) k) (count_of (a.start ∷ replicate (512 * ((a.cells + 255) / 256) + 7) 0) k) 0 0 0 0 0 0
+    cell : (k : ℕ) → CellFits a.passes no_cell (gate_of (first_words a.cells a.start) k) (count_of (first_words a.cells a.start) k) 0 0 0 0 0 0
     cell k =
         let g = word_zero a.start (512 * ((a.cells + 255) / 256) + 7) (gate_at k) (omega arith) in
         let c = word_zero a.start (512 * ((a.cells + 255) / 256) + 7) (count_at k) (omega arith) in
@@ -77,18 +77,17 @@ begins a ws is few low = lawful a (opening ws [] (first_claimer a))
           room = omega arith;
         }
 
-    rule : Rule a (record { cells = replicate a.cells no_cell; used_claims = [] }) (gate_of (a.start ∷ replicate (512 * ((a.cells + 255) / 256) + 7) 0))
-        (count_of (a.start ∷ replicate (512 * ((a.cells + 255) / 256) + 7) 0)) (first_claimer a ∷ [])
+    rule : Rule a (record { cells = replicate a.cells no_cell; used_claims = [] }) (gate_of (first_words a.cells a.start))
+        (count_of (first_words a.cells a.start)) (first_claimer a ∷ [])
     rule = record {
       truth = record {
         apart = λ j k s u e d es eu same. absurd (off j s e es);
         used_claims = λ k s e es. absurd (off k s e es);
         small = λ k s e. let z = ap (λ (c : Cell). c.claim) (rep_at a.cells no_cell k s e) in omega arith;
       };
-      cells = λ k st e. subst (λ (c : Cell). CellFits a.passes c (gate_of (a.start ∷ replicate (512 * ((a.cells + 255) / 256) + 7) 0) k) (count_of (a.start ∷ replicate
-          (512 * ((a.cells + 255) / 256) + 7) 0) k) 0 0 0 0 0 0)
+      cells = λ k st e. subst (λ (c : Cell). CellFits a.passes c (gate_of (first_words a.cells a.start) k) (count_of (first_words a.cells a.start) k) 0 0 0 0 0 0)
           (rep_at a.cells no_cell k st e) (cell k);
-      each = λ j v e. subst (ViewFits (record { cells = replicate a.cells no_cell; used_claims = [] }) (count_of (a.start ∷ replicate (512 * ((a.cells + 255) / 256) + 7) 0)))
+      each = λ j v e. subst (ViewFits (record { cells = replicate a.cells no_cell; used_claims = [] }) (count_of (first_words a.cells a.start)))
           (one_view (first_claimer a) j v e) fits;
       once = λ c b. omega arith;
       lawful = λ j v e. subst (ViewLawful (first_claimer a ∷ [])) (one_view (first_claimer a) j v e) (record { charges = tt; looks = tt });
