@@ -1,9 +1,8 @@
 // The records of a run, in the journals of its workers.
-ghost use Rattle.std.specs.Prelude.{◌≡◌, ◌≤◌, ℕ, true, length, IfOk};
+ghost use Rattle.std.specs.Prelude.{◌≡◌, ℕ, length, IfOk};
 ghost use Rattle.rate_types.specs.Sums.{total};
 ghost use Rattle.reply_text.specs.declared.record.Record.{Record as RecordValue};
 ghost use Rattle.script_run.specs.Merged.{EachLineOnce, Merges, joined};
-ghost use Rattle.script_run.specs.RunRecords.{ordered, order_of};
 
 use crate::merging::{is_lone, places_in};
 use crate::run_records::RunRecords;

@@ -1,9 +1,8 @@
-use Rattle.std.proofs.Common.{◌≡◌, ◌*◌, ◌≤◌, ℕ, List, length, false, sym, ap, ◌∙◌, subst, arith}
+use Rattle.std.proofs.Common.{◌≡◌, ◌*◌, ◌≤◌, ℕ, List, length, false, ap, ◌∙◌, subst, arith}
 use Rattle.std.specs.Arc.{arc_value}
 use Rattle.rate_types.specs.declared.limits.TheConstants.{MOST_LINES}
 use Rattle.descriptor_tree.specs.Trees.{DomainTree}
 use Rattle.descriptor_tree.specs.Views.{config_view}
-use Rattle.reply_text.specs.declared.record.Record.{Record}
 use Rattle.script_run.specs.Run.{IsRun}
 use Rattle.load_gen.specs.Load.{load_config, load_lines}
 use Rattle.load_gen.proofs.Runs.{lines_length}

@@ -1,4 +1,4 @@
-use Rattle.std.proofs.Common.{◌≡◌, [], Some, ap, ◌∙◌, sym, arith}
+use Rattle.std.proofs.Common.{[], Some, ap, ◌∙◌, sym, arith}
 use Rattle.std.proofs.lemmas.List.{length-map}
 use Rattle.text_lines.specs.Lines.{cut}
 use Rattle.drive_run.specs.Script.{line_of}
