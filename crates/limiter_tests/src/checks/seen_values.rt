@@ -46,3 +46,21 @@ fn what_one_descriptor_left_is_known_to_the_next_one(rt: HostRuntime) -> Result<
     let _closed = play_table(&rt, rt.alloc(), SETUP, THREE_OF_ONE)?;
     Ok(())
 }
+
+// Two counters, of which one and then both were seen above their limits, and a descriptor without a rule.
+const ONE_OF_TWO: &str = "\
+one checks 0 k=a k=b => ok before 0, ok before 0
+one checks 0 k=a => over before 1
+one opens 0 k=a k=b => over seen 2, over before 1
+one shows => version 0, moment 0, 4 looks, 0 refused
+one opens 0 x=a k=b k=a => ok, over seen 2, over seen 2
+one opens 0 k=b:0 k=a => over seen 2, over seen 2
+one shows => version 0, moment 0, 5 looks, 0 refused
+one reloads 2 => Ok(1)
+one checks 0 k=a k=b => over before 2, over before 2";
+
+#[test]
+fn a_counter_is_counted_beside_one_that_was_seen_over(rt: HostRuntime) -> Result<(), Fail> {
+    let _closed = play_table(&rt, rt.alloc(), SETUP, ONE_OF_TWO)?;
+    Ok(())
+}
