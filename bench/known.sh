@@ -1,6 +1,7 @@
 #!/usr/bin/env bash
 # Nanoseconds of one check of a counter that its pass knows, by check_open_into and by check_into of rate_limiter: from one thread on one key
-# and on 64 keys in turn, from four threads that count on one key, and from four threads of which each has a key of its own. Beside them the
+# and on 64 keys in turn, from four threads that count on one key, from four threads of which each has a key of its own, and from one and from
+# four threads on one key that they have seen above its limit. Beside them the
 # same work over a dashmap in Rust (bench/peer.rs; no ratio where there is no cargo): the rule by its domain and key, the counter by its
 # bytes, one look, one addition and a status. Each is the least of five tries, in turns.
 # Then, where there is valgrind, what 1,000 of these checks a thread take beyond what one takes: allocations of the whole program, and
@@ -33,14 +34,14 @@ use std::sync::{Arc, Wait};
 use std::thread::{Threads, map_vec, yield_now};
 use std::time::{Clock, Instant};
 
-fn node(alloc: Global) -> Option<Node>
+fn node(alloc: Global, key: &str, limit: u32) -> Option<Node>
     ensures { IfSome result (λ n. IsWellFormedBranch (node_view n)) }
 {
     Some(Node {
-        key: Text::new(alloc, "k").ok()?,
+        key: Text::new(alloc, key).ok()?,
         value: None,
         policy: Some(Policy::Limited {
-            limit: 4_000_000_000,
+            limit,
             unit: Unit::Hour,
         }),
         name: None,
@@ -52,7 +53,8 @@ fn node(alloc: Global) -> Option<Node>
 
 fn config(alloc: Global) -> Option<Arc<Config>> {
     let mut nodes = Vec::new(alloc);
-    nodes.push(node(alloc)?).ok()?;
+    nodes.push(node(alloc, "k", 4_000_000_000)?).ok()?;
+    nodes.push(node(alloc, "o", 1)?).ok()?;
     let mut trees = Vec::new(alloc);
     trees.push(Tree {
         domain: Text::new(alloc, "d").ok()?,
@@ -61,10 +63,10 @@ fn config(alloc: Global) -> Option<Arc<Config>> {
     Arc::new(alloc, Config::build(alloc, trees).ok()?).ok()
 }
 
-fn request(alloc: Global, value: &str) -> Option<Request> {
+fn request(alloc: Global, key: &str, value: &str) -> Option<Request> {
     let mut entries = Vec::new(alloc);
     entries.push(Entry {
-        key: Text::new(alloc, "k").ok()?,
+        key: Text::new(alloc, key).ok()?,
         value: Text::new(alloc, value).ok()?,
     }).ok()?;
     let mut descriptors = Vec::new(alloc);
@@ -77,13 +79,14 @@ fn request(alloc: Global, value: &str) -> Option<Request> {
 }
 
 // What the threads of a run share: their limiter and how many they are, how many keys each checks in turn, whether these are its own,
-// whether they check by check_open_into, and how often they check each key.
+// whether they are above their limits from the third check on, whether they are checked by check_open_into, and how often.
 #[derive(Drop)]
 struct Run<'a, N: CellNaming> {
     limiter: &'a Limiter<N>,
     threads: u64,
     keys: u32,
     is_apart: bool,
+    is_over: bool,
     is_open: bool,
     each: u32,
     numbers: AtomicU64,
@@ -148,11 +151,11 @@ fn rounds<N: CellNaming, R: Wait>(rt: &R, alloc: Global, limiter: &Limiter<N>, p
 }
 
 // A request for each of so many values that no thread of another number has.
-fn requests(alloc: Global, number: u64, keys: u32) -> Option<Vec<Request>> {
+fn requests(alloc: Global, rule: &str, number: u64, keys: u32) -> Option<Vec<Request>> {
     let mut requests = Vec::new(alloc);
     for key in 0..keys {
         let value = format!(in alloc; "v{number}_{key}").ok()?;
-        requests.push(request(alloc, &value)?).ok()?;
+        requests.push(request(alloc, rule, &value)?).ok()?;
     }
     Some(requests)
 }
@@ -176,7 +179,8 @@ fn work<N: CellNaming, R: Wait + Clock>(rt: &R, alloc: Global, run: &Run<'_, N>,
     if run.is_apart {
         number = run.numbers.fetch_add(1, Ordering::SeqCst);
     }
-    let requests = requests(alloc, number, run.keys)?;
+    let rule = if run.is_over { "o" } else { "k" };
+    let requests = requests(alloc, rule, number, run.keys)?;
     let limiter = run.limiter;
     let mut reply = Reply::new();
     if check_each(rt, alloc, limiter, &mut pass, requests.as_slice(), &mut reply) > 0 {
@@ -231,6 +235,7 @@ fn timed<N: CellNaming + Send + Sync, R: Threads + Wait + Clock + RandomSource +
     threads: u32,
     keys: u32,
     is_apart: bool,
+    is_over: bool,
     is_open: bool,
     each: u32,
 ) -> Option<u64>
@@ -248,6 +253,7 @@ fn timed<N: CellNaming + Send + Sync, R: Threads + Wait + Clock + RandomSource +
         threads: u64::from(threads),
         keys,
         is_apart,
+        is_over,
         is_open,
         each,
         numbers: AtomicU64::new(0),
@@ -263,6 +269,7 @@ fn one<R: Threads + Wait + Clock + RandomSource + Sync>(
     threads: u32,
     keys: u32,
     is_apart: bool,
+    is_over: bool,
     is_open: bool,
     each: u32,
 ) -> u64
@@ -271,7 +278,7 @@ fn one<R: Threads + Wait + Clock + RandomSource + Sync>(
     let Ok(opened) = OpenedCells::make(alloc, 128, threads, Seconds::capped(0)) else {
         return 0;
     };
-    timed::<Brand, R>(rt, alloc, opened, threads, keys, is_apart, is_open, each).unwrap_or(0)
+    timed::<Brand, R>(rt, alloc, opened, threads, keys, is_apart, is_over, is_open, each).unwrap_or(0)
 }
 
 // How many checks a thread makes: the number among the program's words.
@@ -289,15 +296,20 @@ fn main(rt: HostRuntime) -> std::io::Result<()> {
         return Ok(());
     };
     let in_turn = each.checked_div(64).unwrap_or(0);
-    let a = one(&rt, rt.alloc(), 1, 1, false, true, each);
-    let b = one(&rt, rt.alloc(), 1, 1, false, false, each);
-    let c = one(&rt, rt.alloc(), 1, 64, false, true, in_turn);
-    let d = one(&rt, rt.alloc(), 1, 64, false, false, in_turn);
-    let e = one(&rt, rt.alloc(), 4, 1, false, true, each);
-    let f = one(&rt, rt.alloc(), 4, 1, false, false, each);
-    let g = one(&rt, rt.alloc(), 4, 1, true, true, each);
-    let h = one(&rt, rt.alloc(), 4, 1, true, false, each);
+    let a = one(&rt, rt.alloc(), 1, 1, false, false, true, each);
+    let b = one(&rt, rt.alloc(), 1, 1, false, false, false, each);
+    let c = one(&rt, rt.alloc(), 1, 64, false, false, true, in_turn);
+    let d = one(&rt, rt.alloc(), 1, 64, false, false, false, in_turn);
+    let e = one(&rt, rt.alloc(), 4, 1, false, false, true, each);
+    let f = one(&rt, rt.alloc(), 4, 1, false, false, false, each);
+    let g = one(&rt, rt.alloc(), 4, 1, true, false, true, each);
+    let h = one(&rt, rt.alloc(), 4, 1, true, false, false, each);
     println!(rt; "{a} {b} 1\n{c} {d} 1\n{e} {f} 4\n{g} {h} 4")?;
+    let i = one(&rt, rt.alloc(), 1, 1, false, true, true, each);
+    let j = one(&rt, rt.alloc(), 1, 1, false, true, false, each);
+    let k = one(&rt, rt.alloc(), 4, 1, false, true, true, each);
+    let l = one(&rt, rt.alloc(), 4, 1, false, true, false, each);
+    println!(rt; "{i} {j} 1\n{k} {l} 4")?;
     Ok(())
 }
 RT
@@ -381,16 +393,16 @@ for attempt in 1 2 3 4 5; do
 done
 grep -E '^[0-9]+ [0-9]+ [0-9]+$' "$work/run.txt" | paste -d ' ' - "$work/peer.txt" | awk -v n="$checks" '
 {
-    row = (NR - 1) % 4
+    row = (NR - 1) % 6
     threads[row] = $3
-    if (NR <= 4 || $1 < open[row]) open[row] = $1
-    if (NR <= 4 || $2 < all[row]) all[row] = $2
-    if (NR <= 4 || $4 < peer[row]) peer[row] = $4
+    if (NR <= 6 || $1 < open[row]) open[row] = $1
+    if (NR <= 6 || $2 < all[row]) all[row] = $2
+    if (NR <= 6 || $4 < peer[row]) peer[row] = $4
 }
 END {
     print "threads keys       check_open ns ratio   check ns ratio   dashmap ns"
-    split("one,64 in turn,one,each its", keys, ",")
-    for (row = 0; row < 4; row++) {
+    split("one,64 in turn,one,each its,one over,one over", keys, ",")
+    for (row = 0; row < 6; row++) {
         per = (row == 1 ? n - n % 64 : n) * threads[row]
         printf "%7d %-10s %13.1f %5.2f %10.1f %5.2f %12.1f\n", threads[row], keys[row + 1],
             open[row] / per, peer[row] ? open[row] / peer[row] : 0, all[row] / per, peer[row] ? all[row] / peer[row] : 0, peer[row] / per
@@ -440,6 +452,7 @@ PY
         valgrind --tool=callgrind --dump-instr=yes --callgrind-out-file="$work/counted" "$bench/out/known_bench" "$each" > /dev/null 2>&1
         locked+=("$(python3 "$work/locked.py" "$bench/out/known_bench" "$work/counted")")
     done
-    # Six runs of one key a thread, two of one thread and four of four: 18 threads. Two of 64 keys, each of which is checked 15 times.
-    awk -v one="${locked[0]}" -v all="${locked[1]}" 'BEGIN { printf "locked instructions a check: %.2f\n", (all - one) / (999 * 18 + 2 * 15 * 64) }'
+    # Six runs of one key a thread, two of one thread and four of four: 18 threads. Two of 64 keys, each of which is checked 15 times. The checks
+    # of counters above their limits aren't among those that the instructions are shared out to: they should have none.
+    awk -v one="${locked[0]}" -v all="${locked[1]}" 'BEGIN { printf "locked instructions a check of a counter that is not over: %.2f\n", (all - one) / (999 * 18 + 2 * 15 * 64) }'
 fi

@@ -1,6 +1,7 @@
 // What a good engineer would write over dashmap: the rule by its domain and key, the counter by its bytes, a look, an addition, a status.
-//   peer known CHECKS         four lines: the nanoseconds of all threads, with so many checks each of counters that are there,
-//                             for one thread with one key and with 64 in turn, for four threads with one key, and for four with a key each
+//   peer known CHECKS         six lines: the nanoseconds of all threads, with so many checks each of counters that are there,
+//                             for one thread with one key and with 64 in turn, for four threads with one key, for four with a key each, and
+//                             for one and for four with one key above its limit
 //   peer gen NUMBER CHECKS    the load and the line of `ratelimit gen NUMBER CHECKS`
 use dashmap::DashMap;
 use std::collections::HashMap;
@@ -104,8 +105,8 @@ fn request(domain: &str, key: &str, value: String) -> Request {
     Request { domain: domain.to_string(), descriptors: vec![vec![entry]], hits: 1 }
 }
 
-fn known(threads: usize, keys: u32, are_apart: bool, checks: u32) -> u64 {
-    let limiter = Limiter::of("d", "k", 4_000_000_000);
+fn known(threads: usize, keys: u32, are_apart: bool, limit: u32, checks: u32) -> u64 {
+    let limiter = Limiter::of("d", "k", limit);
     let start = Barrier::new(threads);
     std::thread::scope(|scope| {
         let spent: Vec<_> = (0..threads)
@@ -166,7 +167,10 @@ fn main() {
         [what, checks] if what == "known" => {
             let checks = checks.parse().unwrap();
             for (threads, keys, are_apart) in [(1, 1, false), (1, 64, false), (4, 1, false), (4, 1, true)] {
-                println!("{}", known(threads, keys, are_apart, checks));
+                println!("{}", known(threads, keys, are_apart, 4_000_000_000, checks));
+            }
+            for threads in [1, 4] {
+                println!("{}", known(threads, 1, false, 1, checks));
             }
         }
         [what, number, checks] if what == "gen" => gen(number.parse().unwrap(), checks.parse().unwrap()),
