@@ -34,11 +34,11 @@ use std::sync::{Arc, Wait};
 use std::thread::{Threads, map_vec, yield_now};
 use std::time::{Clock, Instant};
 
-fn node(alloc: Global, key: &str, limit: u32) -> Option<Node>
+fn node(alloc: Global, limit: u32) -> Option<Node>
     ensures { IfSome result (λ n. IsWellFormedBranch (node_view n)) }
 {
     Some(Node {
-        key: Text::new(alloc, key).ok()?,
+        key: Text::new(alloc, "k").ok()?,
         value: None,
         policy: Some(Policy::Limited {
             limit,
@@ -51,10 +51,9 @@ fn node(alloc: Global, key: &str, limit: u32) -> Option<Node>
     })
 }
 
-fn config(alloc: Global) -> Option<Arc<Config>> {
+fn config(alloc: Global, limit: u32) -> Option<Arc<Config>> {
     let mut nodes = Vec::new(alloc);
-    nodes.push(node(alloc, "k", 4_000_000_000)?).ok()?;
-    nodes.push(node(alloc, "o", 1)?).ok()?;
+    nodes.push(node(alloc, limit)?).ok()?;
     let mut trees = Vec::new(alloc);
     trees.push(Tree {
         domain: Text::new(alloc, "d").ok()?,
@@ -63,10 +62,10 @@ fn config(alloc: Global) -> Option<Arc<Config>> {
     Arc::new(alloc, Config::build(alloc, trees).ok()?).ok()
 }
 
-fn request(alloc: Global, key: &str, value: &str) -> Option<Request> {
+fn request(alloc: Global, value: &str) -> Option<Request> {
     let mut entries = Vec::new(alloc);
     entries.push(Entry {
-        key: Text::new(alloc, key).ok()?,
+        key: Text::new(alloc, "k").ok()?,
         value: Text::new(alloc, value).ok()?,
     }).ok()?;
     let mut descriptors = Vec::new(alloc);
@@ -79,14 +78,13 @@ fn request(alloc: Global, key: &str, value: &str) -> Option<Request> {
 }
 
 // What the threads of a run share: their limiter and how many they are, how many keys each checks in turn, whether these are its own,
-// whether they are above their limits from the third check on, whether they are checked by check_open_into, and how often.
+// whether it checks by check_open_into, and how often it checks each key.
 #[derive(Drop)]
 struct Run<'a, N: CellNaming> {
     limiter: &'a Limiter<N>,
     threads: u64,
     keys: u32,
     is_apart: bool,
-    is_over: bool,
     is_open: bool,
     each: u32,
     numbers: AtomicU64,
@@ -151,11 +149,11 @@ fn rounds<N: CellNaming, R: Wait>(rt: &R, alloc: Global, limiter: &Limiter<N>, p
 }
 
 // A request for each of so many values that no thread of another number has.
-fn requests(alloc: Global, rule: &str, number: u64, keys: u32) -> Option<Vec<Request>> {
+fn requests(alloc: Global, number: u64, keys: u32) -> Option<Vec<Request>> {
     let mut requests = Vec::new(alloc);
     for key in 0..keys {
         let value = format!(in alloc; "v{number}_{key}").ok()?;
-        requests.push(request(alloc, rule, &value)?).ok()?;
+        requests.push(request(alloc, &value)?).ok()?;
     }
     Some(requests)
 }
@@ -179,8 +177,7 @@ fn work<N: CellNaming, R: Wait + Clock>(rt: &R, alloc: Global, run: &Run<'_, N>,
     if run.is_apart {
         number = run.numbers.fetch_add(1, Ordering::SeqCst);
     }
-    let rule = if run.is_over { "o" } else { "k" };
-    let requests = requests(alloc, rule, number, run.keys)?;
+    let requests = requests(alloc, number, run.keys)?;
     let limiter = run.limiter;
     let mut reply = Reply::new();
     if check_each(rt, alloc, limiter, &mut pass, requests.as_slice(), &mut reply) > 0 {
@@ -227,7 +224,7 @@ fn work_each<N: CellNaming + Send + Sync, R: Threads + Wait + Clock + Sync>(
     .ok()
 }
 
-// The nanoseconds of all threads together.
+// The nanoseconds of all threads together. Where they are to be over, their counters are above the limit from the third check on.
 fn timed<N: CellNaming + Send + Sync, R: Threads + Wait + Clock + RandomSource + Sync>(
     rt: &R,
     alloc: Global,
@@ -247,13 +244,13 @@ fn timed<N: CellNaming + Send + Sync, R: Threads + Wait + Clock + RandomSource +
         claims_max: 100,
         global_shadow: false,
     };
-    let (limiter, passes) = Limiter::<N>::make(alloc, config(alloc)?, opened, limits, seed).ok()?;
+    let limit = if is_over { 1 } else { 4_000_000_000 };
+    let (limiter, passes) = Limiter::<N>::make(alloc, config(alloc, limit)?, opened, limits, seed).ok()?;
     let run = Run {
         limiter: &limiter,
         threads: u64::from(threads),
         keys,
         is_apart,
-        is_over,
         is_open,
         each,
         numbers: AtomicU64::new(0),
