@@ -104,6 +104,7 @@ fn status_after(under: Limit, moment: Seconds, before: u64, hits: u32) -> Status
 }
 
 /// The status of a descriptor, from what its look-up found, its hits and the count of its counter. It takes no memory.
+#[inline(always)]
 pub fn status_for(found: Found, moment: Seconds, hits: u32, count: Count) -> Status
     requires { IsSome (status_of found moment hits count) }
     ensures { status_of found moment hits count ≡ Some result }

@@ -66,7 +66,10 @@ fn any_replaces(index: &Index, rules: &[Found]) -> bool
     rules.iter().any(|rule| replaces_some(index, *rule))
 }
 
-// Of these rules those that none of them replaces, and none in the place of the others.
+// Of these rules those that none of them replaces, and none in the place of the others. It stands apart, since its list is zeroed where it
+// begins.
+#[cold]
+#[inline(never)]
 fn without_replaced(index: &Index, rules: &[Found]) -> Rules
     requires { length rules.now ≤ MOST_DESCRIPTORS }
     ensures { result.items ≡ map (unless_replaced index.now rules.now) rules.now }
