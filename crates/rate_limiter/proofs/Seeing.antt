@@ -30,8 +30,8 @@ use Rattle.rls_core.specs.declared.status.Count.{Count}
 use Rattle.rls_core.specs.declared.status.Count.TheVariants.{NoCount, Before, Seen}
 use Rattle.rate_limiter.specs.Counts.{Keeps}
 use Rattle.rate_limiter.specs.Values.{looks_at, charges_to, HasValue, HasSeen, looks_counted}
-use Rattle.rate_limiter.specs.Known.{key_of, key_bindings, pins_under, IsBoundEntry, AreBoundEntries, AreSeenEntries, AreClaimedOnce, spot_in, SameSpots}
-use Rattle.rate_limiter.specs.Sought.{SameKnown, seen_in, IsSeenOf, IsSeenAt}
+use Rattle.rate_limiter.specs.Known.{key_of, key_bindings, pins_under, IsBoundEntry, AreBoundEntries, AreSeenEntries, AreClaimedOnce, spot_in, seen_in, SameSpots}
+use Rattle.rate_limiter.specs.Sought.{SameKnown, IsSeenOf, IsSeenAt}
 use Rattle.rate_limiter.specs.declared.planned.Planned.{Planned}
 use Rattle.rate_limiter.specs.Planned.{CountedAt, value_of, IsBoundAt, AreValues, HasRaised}
 use Rattle.rate_limiter.proofs.Lists.{each_append, each_at, each_more, parts, total_more, total_some}

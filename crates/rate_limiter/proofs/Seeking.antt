@@ -20,13 +20,13 @@ use Rattle.counter_directory.specs.Claims.{bindings_of}
 use Rattle.counter_directory.specs.Keys.{key_at}
 use Rattle.over_cache.specs.Entries.{Entries, known_of}
 use Rattle.over_cache.specs.declared.known.Known.{Known}
-use Rattle.rate_limiter.specs.Known.{key_of, spot_of, SameSpots, PinsGrow, KnowsCounter, HasCounter}
+use Rattle.rate_limiter.specs.Known.{key_of, spot_of, seen_in, SameSpots, PinsGrow, KnowsCounter, HasCounter}
 use Rattle.rate_limiter.specs.Planned.{name_under}
 use Rattle.rate_limiter.specs.Pinned.{ArePinned}
 use Rattle.rate_limiter.specs.declared.missed.Missed.{Missed}
 use Rattle.rate_limiter.specs.declared.missed.Missed.TheVariants.{Unknown, Reclaimed}
 use Rattle.rate_limiter.specs.Sought.{HasMissedFirst, HasMissCause, IsOwnSpot, IsOwnAt, AreOwn, IsKnownAt, AreKnown, KnowsUnder, IsUnknownAt}
-use Rattle.rate_limiter.specs.Sought.{SameKnown, seen_in, IsSeenOf, IsSeenAt}
+use Rattle.rate_limiter.specs.Sought.{SameKnown, IsSeenOf, IsSeenAt}
 use Rattle.rate_limiter.proofs.Knowing.{at_less, at_append}
 
 -- ---- one key

@@ -1,11 +1,9 @@
 -- A check whose counters the pass has all seen above their limits shows what was seen.
-use Rattle.std.proofs.Common.{◌≡◌, inr, ℕ, zero, suc, ◌+◌, ◌≤◌, ◌<◌, ◌==◌, ◌&&◌, ◌||◌, nat_lt, Bool, true, false, true≢false, List, [], ◌∷◌, length, map, drop, get_or}
+use Rattle.std.proofs.Common.{◌≡◌, inr, ℕ, zero, suc, ◌≤◌, ◌<◌, ◌==◌, ◌&&◌, ◌||◌, nat_lt, Bool, true, false, true≢false, List, [], ◌∷◌, ◌++◌, length, map}
 use Rattle.std.proofs.Common.{Option, Some, None, IsSome, refl, sym, ap, ◌∙◌, subst, arith}
 use Rattle.std.specs.Prelude.{Result, Ok, Err, IsErr, IsErrAnd, IfErr}
-use Rattle.std.proofs.Math.Bool.{or-true}
-use Rattle.std.proofs.Math.ListN.{drop_of_length-le}
+use Rattle.std.proofs.Math.Bool.{or-true, and-true, and_assoc}
 use Rattle.std.proofs.lemmas.Bool.{ltb-true, lt-ltb}
-use Rattle.std.proofs.lemmas.List.{drop_more}
 use mathlib.Core.Option.{some, some-injective, some-ne-none}
 use lib.ListN.{get_elem?}
 use Rattle.rate_types.specs.Requests.{RequestParts}
@@ -29,8 +27,8 @@ use Rattle.rls_core.specs.declared.status.Count.TheVariants.{NoCount, Before, Se
 use Rattle.rls_core.specs.declared.status.Status.{Status}
 use Rattle.rate_limiter.specs.Values.{HasSeen}
 use Rattle.rate_limiter.specs.Counts.{Counted, CountsOne, CountsEach}
-use Rattle.rate_limiter.specs.Known.{key_of, spot_in, AreSeenEntries, KnowsCounter}
-use Rattle.rate_limiter.specs.Sought.{seen_in, IsSeenOf, IsSeenAt, AreSeenAt, KnowsUnder}
+use Rattle.rate_limiter.specs.Known.{key_of, spot_in, seen_in, AreSeenEntries, KnowsCounter}
+use Rattle.rate_limiter.specs.Sought.{IsSeenOf, IsSeenAt, AreSeenAt, KnowsUnder}
 use Rattle.rate_limiter.specs.Turns.{IsKnownOver}
 use Rattle.rate_limiter.specs.SeenOver.{is_seen_over, are_seen_over, AreKnownOver, count_shown, IsShownOver, HasShownOver, WhenPinned, WhenOver}
 use Rattle.rate_limiter.specs.Pinned.{SameButPins, ArePinned}
@@ -44,15 +42,24 @@ both false y e = absurd (true≢false (sym e))
 
 -- ---- whether nothing is to be counted
 
-module _ (request : RequestParts) (ds : List Descriptor) (fs : List Found) (ns : List ℕ) (i : ℕ) where
-  -- one descriptor, and those behind it
-  pub over_next : (d : Descriptor) → i < length ds → length fs ≡ length ds → length ns ≡ length ds
-      → are_seen_over request (drop i ds) (drop i fs) (drop i ns)
-      ≡ (is_seen_over (get_or fs i NoRule) (hits_of request (get_or ds i d)) (get_or ns i 0) && are_seen_over request (drop (i + 1) ds) (drop (i + 1) fs) (drop (i + 1) ns))
-  over_next d lt few_f few_n = λ j. are_seen_over request (drop_more ds i d lt j) (drop_more fs i NoRule (omega arith) j) (drop_more ns i 0 (omega arith) j)
+-- without values nothing is to be counted
+pub over_none : (request : RequestParts) (ds : List Descriptor) (fs : List Found) → are_seen_over request ds fs [] ≡ true
+over_none request [] fs = refl
+over_none request (d ∷ ds) [] = refl
+over_none request (d ∷ ds) (f ∷ fs) = refl
 
-  pub over_end : length ds ≤ i → are_seen_over request (drop i ds) (drop i fs) (drop i ns) ≡ true
-  over_end le = ap (λ (l : List Descriptor). are_seen_over request l (drop i fs) (drop i ns)) (drop_of_length-le ds le)
+-- one value more
+pub over_next : (request : RequestParts) (ds : List Descriptor) (fs : List Found) (ns : List ℕ) (d : Descriptor) (f : Found) (n : ℕ)
+    → get_elem? ds (length ns) ≡ some d → get_elem? fs (length ns) ≡ some f
+    → are_seen_over request ds fs (ns ++ n ∷ []) ≡ (are_seen_over request ds fs ns && is_seen_over f (hits_of request d) n)
+over_next request [] fs ns d f n a b = absurd (some-ne-none d (sym a))
+over_next request (e ∷ ds) [] ns d f n a b = absurd (some-ne-none f (sym b))
+over_next request (e ∷ ds) (g ∷ fs) [] d f n a b =
+    (λ i. is_seen_over g (hits_of request e) n && over_none request ds fs i) ∙ and-true (is_seen_over g (hits_of request e) n)
+    ∙ (λ i. is_seen_over (some-injective g f b i) (hits_of request (some-injective e d a i)) n)
+over_next request (e ∷ ds) (g ∷ fs) (m ∷ ns) d f n a b =
+    ap (λ x. is_seen_over g (hits_of request e) m && x) (over_next request ds fs ns d f n a b)
+    ∙ sym (and_assoc (is_seen_over g (hits_of request e) m) (are_seen_over request ds fs ns) (is_seen_over f (hits_of request d) n))
 
 -- nothing is to be counted for any of them
 pub over_at : (request : RequestParts) (ds : List Descriptor) (fs : List Found) (ns : List ℕ) → are_seen_over request ds fs ns ≡ true

@@ -65,6 +65,11 @@ abbrev pub spot_in : Option Known → Option Spot
 spot_in None = None
 spot_in (Some known) = Some known.spot
 
+-- the value of what is known, or 0
+abbrev pub seen_in : Option Known → ℕ
+seen_in None = 0
+seen_in (Some known) = known.seen
+
 -- the spot that is known of a counter, where it is known
 abbrev pub spot_of : CounterKey → Entries → Option Spot
 spot_of q entries = spot_in (known_of (key_of q) entries)

@@ -54,7 +54,8 @@ abbrev pub count_shown : Found → ℕ → Count
 count_shown (Limited limit unit shadow rule) seen = Seen seen
 count_shown found seen = NoCount
 
--- a counter's count is the value that is known of it, above the limit and below the hits
+-- where there is a limit, the count shows the value that is known of the counter, which is above the limit; the descriptor has hits, which
+-- aren't added to it
 abbrev pub IsShownOver : List Claim → Entries → RequestParts → ℕ → Descriptor → Found → Count → Type 0
 IsShownOver claims entries request moment d (Limited limit unit shadow rule) (Seen seen) =
     (1 ≤ hits_of request d) × (limit < seen) × IsSeenOf claims entries (counter_of request.domain d unit moment) seen

@@ -18,18 +18,13 @@ use Rattle.counter_directory.specs.Keys.{key_at}
 use Rattle.over_cache.specs.Entries.{Entries, known_of}
 use Rattle.over_cache.specs.declared.known.Known.{Known}
 use Rattle.rls_core.specs.Reply.{counter_under}
-use Rattle.rate_limiter.specs.Known.{key_of, pins_under, spot_of, KnowsCounter, HasCounter, HasMissed}
+use Rattle.rate_limiter.specs.Known.{key_of, pins_under, spot_of, seen_in, KnowsCounter, HasCounter, HasMissed}
 use Rattle.rate_limiter.specs.declared.missed.Missed.{Missed}
 use Rattle.rate_limiter.specs.declared.missed.Missed.TheVariants.{Unknown, Reclaimed}
 
 -- under each key the same is known as before
 abbrev pub SameKnown : Entries → Entries → Type 0
 SameKnown entries entries' = (key : List ℕ) → known_of key entries' ≡ known_of key entries
-
--- the value that is known, or 0
-abbrev pub seen_in : Option Known → ℕ
-seen_in None = 0
-seen_in (Some known) = known.seen
 
 -- the value is the one that is known of the counter, and the claims bind the counter to the cell under which it is known
 pub record IsSeenOf (claims : List Claim) (entries : Entries) (q : CounterKey) (seen : ℕ) : Type 0 where

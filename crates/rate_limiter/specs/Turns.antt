@@ -11,8 +11,7 @@ use Rattle.counter_cells.specs.declared.view.Tick.{Tick}
 use Rattle.over_cache.specs.Entries.{Entries, known_of}
 use Rattle.rls_core.specs.Reply.{found_for, hits_of}
 use Rattle.rate_limiter.specs.Passes.{PassView}
-use Rattle.rate_limiter.specs.Known.{KnowsCounter, key_of}
-use Rattle.rate_limiter.specs.Sought.{seen_in}
+use Rattle.rate_limiter.specs.Known.{KnowsCounter, key_of, seen_in}
 
 -- before the check the pass knew the counters of all descriptors, by its version after the check and in the windows of the moment
 abbrev pub KnewAll : RequestParts → ℕ → PassView → PassView → Type 0

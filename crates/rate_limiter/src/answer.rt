@@ -3,7 +3,7 @@ ghost use Rattle.std.specs.Prelude.{◌≡◌};
 use crate::Limiter;
 use crate::count_each::count_pinned;
 use crate::known_counters::KnownCounters;
-use crate::over::is_over;
+use crate::over::finish_reply;
 use crate::plan::write_plan;
 use crate::planned::Planned;
 use arrayvec::ArrayVec;
@@ -92,8 +92,6 @@ impl<N: CellNaming> Limiter<N> {
             moment,
             &mut reply.statuses,
         );
-        reply.version = version;
-        reply.moment = moment;
-        reply.over = is_over(reply.statuses.as_slice(), self.global_shadow);
+        finish_reply(reply, version, moment, self.global_shadow);
     }
 }

@@ -4,11 +4,11 @@ ghost use Rattle.std.specs.Prelude.{◌≡◌, ◌≤◌, ℕ, length};
 ghost use Rattle.rate_types.specs.declared.limits.TheConstants.{MOST_DESCRIPTORS};
 ghost use Rattle.counter_directory.specs.Passes.{knows};
 ghost use Rattle.rate_limiter.specs.Sought.{AreSeenAt};
-ghost use Rattle.rate_limiter.specs.SeenOver.{is_seen_over, are_seen_over, AreSeenOver, count_shown, HaveShownOver};
+ghost use Rattle.rate_limiter.specs.SeenOver.{is_seen_over, AreSeenOver, count_shown, HaveShownOver};
 
 use crate::Limiter;
 use crate::known_counters::KnownCounters;
-use crate::over::is_over;
+use crate::over::finish_reply;
 use arrayvec::ArrayVec;
 use counter_cells::{CellNaming, CellPass};
 use counter_directory::DirectoryPass;
@@ -17,8 +17,8 @@ use rate_types::{Descriptor, Request, Seconds};
 use rls_core::{Count, Reply, Status, status_for};
 use rule_lookup::Found;
 
-// Whether nothing is to be counted for a descriptor: it has no limit, or it has hits and its counter was seen above the limit.
-fn is_seen_over(found: Found, hits: u32, seen: u64) -> bool
+/// Whether nothing is to be counted for a descriptor: it has no limit, or it has hits and its counter was seen above the limit.
+pub(crate) fn is_seen_over(found: Found, hits: u32, seen: u64) -> bool
     ensures { result ≡ is_seen_over found hits seen }
 {
     match found {
@@ -26,26 +26,6 @@ fn is_seen_over(found: Found, hits: u32, seen: u64) -> bool
         Found::Unlimited { .. } => true,
         Found::Limited { limit, .. } => hits > 0 && seen > u64::from(limit),
     }
-}
-
-/// Whether nothing is to be counted for the descriptors, of whose counters these values were seen.
-pub(crate) fn are_seen_over(
-    request: &Request,
-    descriptors: &[Descriptor],
-    rules: &[Found],
-    seen: &[u64],
-) -> bool
-    requires rules { length rules.now ≡ length descriptors.now }
-    requires seen { length seen.now ≡ length descriptors.now }
-    ensures { result ≡ are_seen_over request.now descriptors.now rules.now seen.now }
-{
-    'descriptors: for place in 0..descriptors.len() {
-        let hits = descriptors[place].hits.unwrap_or(request.hits());
-        if !is_seen_over(rules[place], hits, seen[place]) {
-            return false;
-        }
-    }
-    true
 }
 
 // The count that is shown of what was seen.
@@ -128,8 +108,6 @@ impl<N: CellNaming> Limiter<N> {
             moment,
             &mut reply.statuses,
         );
-        reply.version = version;
-        reply.moment = moment;
-        reply.over = is_over(reply.statuses.as_slice(), self.global_shadow);
+        finish_reply(reply, version, moment, self.global_shadow);
     }
 }

@@ -7,18 +7,18 @@ ghost use Rattle.counter_cells.specs.declared.view.CellView.{CellView};
 ghost use Rattle.window_keys.specs.Counter.{counter_of};
 ghost use Rattle.counter_directory.specs.Passes.{knows};
 ghost use Rattle.over_cache.specs.Entries.{known_of};
-ghost use Rattle.rate_limiter.specs.Known.{AreBoundEntries, PinsGrow, key_of, pins_under, spot_in};
+ghost use Rattle.rate_limiter.specs.Known.{AreBoundEntries, PinsGrow, key_of, pins_under, spot_in, seen_in};
 ghost use Rattle.rate_limiter.specs.Planned.{name_under, names_under};
 ghost use Rattle.rate_limiter.specs.Pinned.{SameButPins, ArePinned};
-ghost use Rattle.rate_limiter.specs.Sought.{SameKnown, seen_in, IsSeenAt, AreSeenAt, IsOwnSpot, IsOwnAt, AreOwn, IsKnownAt, AreKnown};
-ghost use Rattle.rate_limiter.specs.SeenOver.{AreSeenOver, AreKnownOver, WhenPinned, WhenOver};
+ghost use Rattle.rate_limiter.specs.Sought.{SameKnown, IsSeenAt, AreSeenAt, IsOwnSpot, IsOwnAt, AreOwn, IsKnownAt, AreKnown};
+ghost use Rattle.rate_limiter.specs.SeenOver.{are_seen_over, AreSeenOver, AreKnownOver, WhenPinned, WhenOver};
 ghost use Rattle.rate_limiter.specs.declared.hold.Hold.TheVariants.{SeenOver};
 ghost use Rattle.rate_limiter.specs.Sought.{IsUnknownAt, IsFirstUnknown, HasMissedAt, HasMissedFirst, HasMissCause, KnowsUnder};
 
 use crate::hold::Hold;
 use crate::known_counters::KnownCounters;
 use crate::missed::Missed;
-use crate::seen_over::are_seen_over;
+use crate::seen_over::is_seen_over;
 use arrayvec::ArrayVec;
 use counter_cells::{CellNaming, CellPass, Cells, Pin, Spot};
 use counter_directory::{DirectoryPass, give_back};
@@ -104,7 +104,7 @@ pub(crate) fn seen_of(known: Option<Known>) -> u64
 }
 
 // What the pass knows of the counters of the descriptors, at its moment: a spot for each that has a limit, and the greatest value
-// that it has seen there, or 0. Or the first place whose counter it doesn't know.
+// that it has seen there, or 0. It answers whether these values leave nothing to count. Or the first place whose counter it doesn't know.
 fn find_known<N: CellNaming>(
     claims: &DirectoryPass<N>,
     cell_pass: &CellPass<N>,
@@ -114,7 +114,7 @@ fn find_known<N: CellNaming>(
     rules: &[Found],
     spots: &mut ArrayVec<Option<Spot>, MOST_DESCRIPTORS>,
     seen: &mut ArrayVec<u64, MOST_DESCRIPTORS>,
-) -> Result<(), u32>
+) -> Result<bool, u32>
     requires few { length descriptors.now ≤ MOST_DESCRIPTORS }
     requires rules { length rules.now ≡ length descriptors.now }
     requires known { AreBoundEntries N.setup.cells (knows claims.now).known cell_pass.now.pairs known.old }
@@ -128,28 +128,28 @@ fn find_known<N: CellNaming>(
         (AreKnown request.now cell_pass.now.moment known.old descriptors.now rules.now spots.new.items) }
     ensures seen { OnOk result
         (AreSeenAt (knows claims.now).known request.now cell_pass.now.moment known.old descriptors.now rules.now seen.new.items) }
+    ensures over { IfOk result (λ is_over. is_over ≡ are_seen_over request.now descriptors.now rules.now seen.new.items) }
     ensures unknown { IfErr result
         (λ place. IsFirstUnknown request.now cell_pass.now.moment known.old descriptors.now rules.now place) }
 {
     spots.clear();
     seen.clear();
+    let mut is_over = true;
     'descriptors: for place in 0..descriptors.len() {
-        match find_next(
-            claims,
-            cell_pass,
-            known,
-            request,
-            &descriptors[place],
-            rules[place],
-        ) {
+        let descriptor = &descriptors[place];
+        let rule = rules[place];
+        match find_next(claims, cell_pass, known, request, descriptor, rule) {
             Ok(found) => {
+                let value = seen_of(found);
+                let hits = descriptor.hits.unwrap_or(request.hits());
                 spots.push(spot_of(found));
-                seen.push(seen_of(found));
+                seen.push(value);
+                is_over &= is_seen_over(rule, hits, value);
             }
             Err(UnknownCounter) => return Err(place as u32),
         }
     }
-    Ok(())
+    Ok(is_over)
 }
 
 // Pins the spot that was found for a descriptor, where there is one. Or the claim under which the pin found the cell.
@@ -290,10 +290,8 @@ pub(crate) fn pin_known<N: CellNaming>(
         seen,
     ) {
         Err(place) => Err(Missed::Unknown { place }),
-        Ok(()) => {
-            if are_seen_over(request, descriptors, rules, seen.as_slice()) {
-                return Ok(Hold::SeenOver);
-            }
+        Ok(true) => Ok(Hold::SeenOver),
+        Ok(false) => {
             pin_found(
                 cells,
                 claims,

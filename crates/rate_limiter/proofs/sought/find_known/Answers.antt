@@ -1,4 +1,5 @@
-use Rattle.std.proofs.Common.{◌≡◌, ◌∙◌, ◌<◌, ◌++◌, ◌∷◌, [], ℕ, Option, length, get_or, sym, subst, ap, arith}
+use Rattle.std.proofs.Common.{◌≡◌, ◌∙◌, ◌<◌, ◌&&◌, ◌++◌, ◌∷◌, [], ℕ, Option, length, get_or, refl, sym, subst, ap, arith, rules}
+use Rattle.std.specs.Prelude.{unwrap_or}
 use mathlib.Core.Option.{some}
 use lib.ListN.{get_elem?}
 use Rattle.counter_directory.specs.Passes.{knows}
@@ -6,12 +7,27 @@ use Rattle.counter_cells.specs.declared.answers.Spot.{Spot}
 use Rattle.rate_types.specs.declared.request.Descriptor.{Descriptor}
 use Rattle.rule_lookup.specs.declared.found.Found.{Found}
 use Rattle.rule_lookup.specs.declared.found.Found.TheVariants.{NoRule}
-use Rattle.rate_limiter.specs.Known.{spot_in}
-use Rattle.rate_limiter.specs.Sought.{seen_in, IsOwnAt, AreOwn, IsKnownAt, AreKnown, IsSeenAt, AreSeenAt}
+use Rattle.rls_core.specs.Reply.{hits_of}
+use Rattle.rate_limiter.specs.Known.{spot_in, seen_in}
+use Rattle.rate_limiter.specs.Sought.{IsOwnAt, AreOwn, IsKnownAt, AreKnown, IsSeenAt, AreSeenAt}
+use Rattle.rate_limiter.specs.SeenOver.{is_seen_over, are_seen_over}
 use Rattle.rate_limiter.proofs.Totalling.{item_at}
+use Rattle.rate_limiter.proofs.ShowingOver.{over_none, over_next}
 use Rattle.rate_limiter.proofs.Seeking.{each_next, known_since, unknown_since, knows_under, seen_since, same_known_then}
 use Rattle.rate_limiter.proofs.Knowing.{spots_same}
 use Rattle.rate_limiter.proofs.sought.find_known.Goals as goal
+
+pub descriptors-init : goal.descriptors-init
+descriptors-init g c = record {
+  known = c.requires.known;
+  same = λ key. refl;
+  count = ap length c.clear.ensures;
+  own = search rules;
+  spots = search rules;
+  values = ap length c.clear-2.ensures;
+  seen = search rules;
+  over = sym (ap (are_seen_over c.args.request.now c.args.descriptors.now c.args.rules.now) c.clear-2.ensures ∙ over_none c.args.request.now c.args.descriptors.now c.args.rules.now);
+}
 
 pub descriptors-preserved : goal.descriptors-preserved
 descriptors-preserved g c =
@@ -35,7 +51,9 @@ descriptors-preserved g c =
     let d_at : get_elem? ds i ≡ some d = item_at ds i d lt ∙ sym (ap (λ (e : Descriptor). some e) c.index-descriptors-place.is) in
     let f_at : get_elem? fs i ≡ some f = item_at fs i NoRule lt_f in
     let spot_pushed : c.push.new.self.items ≡ spots ++ o ∷ [] = c.push.ensures.items ∙ ap (λ (p : Option Spot). spots ++ p ∷ []) c.spot_of.ensures in
-    let seen_pushed : c.push-in-Ok.new.self.items ≡ values ++ n ∷ [] = c.push-in-Ok.ensures.items ∙ ap (λ (m : ℕ). values ++ m ∷ []) c.seen_of.ensures in
+    let seen_pushed : c.push-in-Ok.new.self.items ≡ values ++ n ∷ [] = c.push-in-Ok.ensures.items ∙ ap (λ (m : ℕ). values ++ m ∷ []) c.seen_of-value.ensures in
+    let hits : c.unwrap_or-hits.result ≡ hits_of r d = c.unwrap_or-hits.ensures ∙ ap (unwrap_or d.hits) c.hits.ensures.same in
+    let one : c.is_seen_over-is_over.result ≡ is_seen_over f (hits_of r d) n = c.is_seen_over-is_over.ensures ∙ (λ j. is_seen_over f (hits j) (c.seen_of-value.ensures j)) in
     record {
       known = c.find_next.ensures.known;
       same = same_known_then old c.descriptors.known c.find_next.new.known before.same c.find_next.ensures.same;
@@ -50,6 +68,8 @@ descriptors-preserved g c =
       seen = subst (AreSeenAt claims r v.moment old ds fs) (sym seen_pushed)
           (each_next (IsSeenAt claims r v.moment old) ds fs values d f n before.seen (ap (get_elem? ds) before.values ∙ d_at) (ap (get_elem? fs) before.values ∙ f_at)
           (seen_since r v.moment claims old c.descriptors.known before.same d f n c.in-Ok.ensures.seen));
+      over = (λ j. before.over j && one j) ∙ sym (over_next r ds fs values d f n (ap (get_elem? ds) before.values ∙ d_at) (ap (get_elem? fs) before.values ∙ f_at))
+          ∙ ap (are_seen_over r ds fs) (sym seen_pushed);
     }
 
 pub returns-in-Err-clause-unknown : goal.returns-in-Err-clause-unknown

@@ -2,6 +2,7 @@ use Rattle.std.proofs.Common.{◌≡◌, length}
 use Rattle.counter_directory.specs.Passes.{knows}
 use Rattle.rate_limiter.specs.Known.{AreBoundEntries}
 use Rattle.rate_limiter.specs.Sought.{SameKnown, AreOwn, AreKnown, AreSeenAt}
+use Rattle.rate_limiter.specs.SeenOver.{are_seen_over}
 use Rattle.rate_limiter.proofs.sought.find_known.Given as goal
 
 abbrev pub invariant-descriptors : goal.invariant-descriptors
@@ -13,4 +14,5 @@ invariant-descriptors g l = record {
   spots : AreKnown l.request l.cell_pass.moment l.initial.known l.descriptors l.rules l.spots.items;
   values : length l.seen.items ≡ l.place;
   seen : AreSeenAt (knows l.claims).known l.request l.cell_pass.moment l.initial.known l.descriptors l.rules l.seen.items;
+  over : l.is_over ≡ are_seen_over l.request l.descriptors l.rules l.seen.items;
 }

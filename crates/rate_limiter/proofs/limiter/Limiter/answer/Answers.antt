@@ -67,17 +67,18 @@ returns-clause-done g c =
     let w = c.args.cell_pass.now in
     let rules = c.args.rules.now in
     let spots = c.args.spots.now in
-    let sts = c.count_pinned.new.statuses.items in
+    let sts = c.finish_reply.new.reply.statuses.items in
     let did = c.count_pinned.ensures.done in
     let plan : c.as_slice.result.now ≡ planned_each request request.descriptors rules spots
     = c.as_slice.ensures.value ∙ c.write_plan.ensures ∙ (λ i. planned_each request (c.descriptors-descriptors.ensures.all i) rules spots) in (
       did.0,
       subst (λ n. DoneEach n (planned_each request request.descriptors rules spots) sts w did.0) c.moment-moment.ensures
-          (subst (λ (l : List Planned). DoneEach c.moment-moment.result l sts w did.0) plan did.1),
+          (subst (λ (l : List Planned). DoneEach c.moment-moment.result l sts w did.0) plan
+          (subst (λ (l : List Status). DoneEach c.moment-moment.result c.as_slice.result.now l w did.0) (ap (λ s. s.items) (sym c.finish_reply.ensures.statuses)) did.1)),
       did.2,
     )
 
 pub returns-clause-over : goal.returns-clause-over
 returns-clause-over g c =
     let shadow : c.self.inside.global_shadow ≡ c.args.self.now.global_shadow = ap (λ (l : LimiterView). l.global_shadow) c.self.view_is in
-    c.is_over-reply.ensures ∙ (λ i. list_any (λ (s : Status). is_over_limit s.code) (c.as_slice-2.ensures.value i) && not (shadow i))
+    c.finish_reply.ensures.over ∙ (λ i. list_any (λ (s : Status). is_over_limit s.code) c.finish_reply.new.reply.statuses.items && not (shadow i))
