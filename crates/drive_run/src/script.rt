@@ -111,6 +111,10 @@ impl ScriptLines for Script<'_> {
         self.starts.len() as u32
     }
 
+    fn batch(&self) -> u64 {
+        1
+    }
+
     #[tactic(auto, unfolding(crate::specs::Views::script_view))]
     fn read(
         &self,

@@ -14,3 +14,6 @@ pub const STEP: u32 = 37;
 
 /// The hits that a counter admits in an hour.
 pub const LIMIT: u32 = 100;
+
+/// How many checks a worker draws at a time: each is done so soon that workers would else wait for one another at the word that they draw from.
+pub const BATCH: u64 = 64;

@@ -5,7 +5,7 @@ ghost use Rattle.load_gen.specs.declared.constants.TheConstants.{VALUES};
 ghost use Rattle.load_gen.specs.Load as spec;
 
 use crate::config::short_text;
-use crate::constants::{DOMAIN, KEY, STEP, VALUES};
+use crate::constants::{BATCH, DOMAIN, KEY, STEP, VALUES};
 use arrayvec::ArrayString;
 use itoa::Buffer;
 use json::Scratch;
@@ -98,6 +98,10 @@ impl ScriptLines for Load {
     #[tactic(auto, using(crate::proofs::Runs::lines_length))]
     fn count(&self) -> u32 {
         self.checks
+    }
+
+    fn batch(&self) -> u64 {
+        BATCH
     }
 
     #[tactic(auto, using(crate::proofs::Runs::lines_length))]

@@ -9,10 +9,10 @@ use mathlib.Core.List.{[], ◌∷◌}
 use Rattle.rate_types.proofs.seconds.Seconds.TheSendSync as seconds
 use Rattle.counter_cells.specs.declared.naming.CellNaming.{Ghosts}
 use Rattle.rate_limiter.proofs.Sent.{pass_send, limiter_sync}
-use Rattle.line_numbers.proofs.drawer.Drawer.TheSendSync as drawer
+use Rattle.line_numbers.proofs.batch_drawer.BatchDrawer.TheSendSync as drawer
 use Rattle.reply_text.proofs.record.Record.TheSendSync as one_record
 use Rattle.rate_types.proofs.items.Items.TheSendSync as items
-use Rattle.line_numbers.proofs.numbers.LineNumbers.TheSendSync as numbers
+use Rattle.line_numbers.proofs.batches.Batches.TheSendSync as numbers
 use Rattle.worker_run.specs.contracts.working.Shared as shared
 use Rattle.worker_run.specs.contracts.working.Worker as worker
 use Rattle.worker_run.specs.contracts.working.Worked as worked

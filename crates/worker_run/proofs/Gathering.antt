@@ -7,13 +7,12 @@ use Rattle.std.specs.List.{AllByRecursion}
 use mathlib.Core.Option.{some, some-injective, some-ne-none}
 use native.Mathlib.Decide.{ℕ_discrete}
 use lib.ListN.{get_elem?}
-use Rattle.atomic_table.specs.Seated.{TableId}
 use Rattle.rate_types.specs.Sums.{total, one_if, times}
 use Rattle.rate_types.proofs.Sums.{total_append}
 use Rattle.counter_directory.specs.Acquired.{Bounds}
-use Rattle.line_numbers.specs.Drawers.{drawn, numbers_of, is_told}
+use Rattle.line_numbers.specs.Batches.{BatchesId, given, batches_of, is_done}
 use Rattle.line_numbers.specs.Rising.{IsRising, IsDrawnOnce}
-use Rattle.line_numbers.specs.declared.drawer.Drawer.{Drawer}
+use Rattle.line_numbers.specs.declared.batch_drawer.BatchDrawer.{BatchDrawer}
 use Rattle.rate_limiter.specs.Passes.{LimiterId, LimiterView, PassView}
 use Rattle.reply_text.specs.declared.record.Record.{Record}
 use Rattle.script_run.specs.ScriptLine.{ScriptLine}
@@ -73,18 +72,18 @@ mapped f (x ∷ xs) = ap suc (mapped f xs)
 
 module _ {N : Type 0} where
   -- one worker more
-  pub workers_more : (limiter : LimiterId) (numbers : TableId × ℕ) (n : ℕ) (ws : List (Worker N)) (w : Worker N) → AreWorkers limiter numbers n ws → w.number ≡ n + length ws
+  pub workers_more : (limiter : LimiterId) (numbers : BatchesId) (n : ℕ) (ws : List (Worker N)) (w : Worker N) → AreWorkers limiter numbers n ws → w.number ≡ n + length ws
       → IsReady limiter numbers w → AreWorkers limiter numbers n (ws ++ w ∷ [])
   workers_more limiter numbers n [] w h e r = (omega arith, r, tt)
   workers_more limiter numbers n (x ∷ xs) w h e r = (h.0, h.1, workers_more limiter numbers (suc n) xs w h.2 (omega arith) r)
 
-  pub all_ready : (limiter : LimiterId) (numbers : TableId × ℕ) (n : ℕ) (ws : List (Worker N)) → AreWorkers limiter numbers n ws
+  pub all_ready : (limiter : LimiterId) (numbers : BatchesId) (n : ℕ) (ws : List (Worker N)) → AreWorkers limiter numbers n ws
       → AllByRecursion (λ w. IsReady limiter numbers w) ws
   all_ready limiter numbers n [] h = tt
   all_ready limiter numbers n (w ∷ ws) h = (h.1, all_ready limiter numbers (suc n) ws h.2)
 
   -- workers that are done, where what each gave is there
-  pub all_done : (b : Bounds) (limiter : LimiterView) (start : ℕ) (lines : List ScriptLine) (numbers : TableId × ℕ) (ws : List (Worker N)) (vs : List (Worked N))
+  pub all_done : (b : Bounds) (limiter : LimiterView) (start : ℕ) (lines : List ScriptLine) (numbers : BatchesId) (ws : List (Worker N)) (vs : List (Worked N))
       (rs : List (Result (Worked N) OutOfMemory)) → map Ok vs ≡ rs → length vs ≡ length ws
       → ((i : ℕ) (d : Result (Worked N) OutOfMemory) (e : Worker N) → i < length ws
       → IfOk (slice_index_or rs i d) (λ v. IsDone b limiter start lines numbers (slice_index_or ws i e) v))
@@ -102,21 +101,21 @@ module _ {N : Type 0} where
       done_each (u ∷ us) [] e h = absurd (omega (arith, e))
       done_each (u ∷ us) (x ∷ xs) e h = (h 0 (Ok x) u (omega arith), done_each us xs (omega (arith, e)) (λ i d f lt. h (suc i) d f (omega (arith, lt))))
 
-  pub as_many : (b : Bounds) (limiter : LimiterView) (start : ℕ) (lines : List ScriptLine) (numbers : TableId × ℕ) (ws : List (Worker N)) (vs : List (Worked N))
+  pub as_many : (b : Bounds) (limiter : LimiterView) (start : ℕ) (lines : List ScriptLine) (numbers : BatchesId) (ws : List (Worker N)) (vs : List (Worked N))
       → AreDone b limiter start lines numbers ws vs → length vs ≡ length ws
   as_many b limiter start lines numbers [] [] h = refl
   as_many b limiter start lines numbers [] (v ∷ vs) h = absurd h
   as_many b limiter start lines numbers (w ∷ ws) [] h = absurd h
   as_many b limiter start lines numbers (w ∷ ws) (v ∷ vs) h = ap suc (as_many b limiter start lines numbers ws vs h.1)
 
-  pub drawers_here : (b : Bounds) (limiter : LimiterView) (start : ℕ) (lines : List ScriptLine) (numbers : TableId × ℕ) (ws : List (Worker N)) (vs : List (Worked N))
-      → AreDone b limiter start lines numbers ws vs → AllByRecursion (λ d. (numbers_of d ≡ numbers) × (is_told d ≡ true)) (map (λ v. v.drawer) vs)
+  pub drawers_here : (b : Bounds) (limiter : LimiterView) (start : ℕ) (lines : List ScriptLine) (numbers : BatchesId) (ws : List (Worker N)) (vs : List (Worked N))
+      → AreDone b limiter start lines numbers ws vs → AllByRecursion (λ d. (batches_of d ≡ numbers) × (is_done d ≡ true)) (map (λ v. v.drawer) vs)
   drawers_here b limiter start lines numbers [] [] h = tt
   drawers_here b limiter start lines numbers [] (v ∷ vs) h = absurd h
   drawers_here b limiter start lines numbers (w ∷ ws) [] h = absurd h
   drawers_here b limiter start lines numbers (w ∷ ws) (v ∷ vs) h = ((h.0.0, h.0.1.told), drawers_here b limiter start lines numbers ws vs h.1)
 
-  pub passes_here : (b : Bounds) (limiter : LimiterView) (start : ℕ) (lines : List ScriptLine) (numbers : TableId × ℕ) (ws : List (Worker N)) (vs : List (Worked N))
+  pub passes_here : (b : Bounds) (limiter : LimiterView) (start : ℕ) (lines : List ScriptLine) (numbers : BatchesId) (ws : List (Worker N)) (vs : List (Worked N))
       → AreDone b limiter start lines numbers ws vs → AllByRecursion (λ (p : PassView). p.limiter ≡ limiter.id) (map (λ v. v.pass) vs)
   passes_here b limiter start lines numbers [] [] h = tt
   passes_here b limiter start lines numbers [] (v ∷ vs) h = absurd h
@@ -124,9 +123,9 @@ module _ {N : Type 0} where
   passes_here b limiter start lines numbers (w ∷ ws) (v ∷ vs) h = (h.0.1.same, passes_here b limiter start lines numbers ws vs h.1)
 
   -- what each worker drew are the lines of its journal
-  pub drawn_lines : (b : Bounds) (limiter : LimiterView) (start : ℕ) (lines : List ScriptLine) (numbers : TableId × ℕ) (ws : List (Worker N)) (vs : List (Worked N)) (n : ℕ)
+  pub drawn_lines : (b : Bounds) (limiter : LimiterView) (start : ℕ) (lines : List ScriptLine) (numbers : BatchesId) (ws : List (Worker N)) (vs : List (Worked N)) (n : ℕ)
       → AreDone b limiter start lines numbers ws vs
-      → total (λ (d : Drawer). times n (drawn d)) (map (λ v. v.drawer) vs) ≡ total (on_line (n + 1)) (joined (map (λ v. v.journal) vs))
+      → total (λ (d : BatchDrawer). times n (given d)) (map (λ v. v.drawer) vs) ≡ total (on_line (n + 1)) (joined (map (λ v. v.journal) vs))
   drawn_lines b limiter start lines numbers [] [] n h = refl
   drawn_lines b limiter start lines numbers [] (v ∷ vs) n h = absurd h
   drawn_lines b limiter start lines numbers (w ∷ ws) [] n h = absurd h
@@ -134,10 +133,10 @@ module _ {N : Type 0} where
       let r = drawn_lines b limiter start lines numbers ws vs n h.1 in
       let a = total_append (on_line (n + 1)) v.journal (joined (map (λ v. v.journal) vs)) in
       let s = shifted n v.journal (length lines) (within b limiter start w.number lines w.pass v.journal v.pass h.0.1.journal) in
-      let t : times n (drawn v.drawer) ≡ times n (map (λ (x : Record). x.line - 1) v.journal) = ap (times n) h.0.1.drawn in
+      let t : times n (given v.drawer) ≡ times n (map (λ (x : Record). x.line - 1) v.journal) = ap (times n) h.0.1.drawn in
       omega arith
 
-  pub all_within : (b : Bounds) (limiter : LimiterView) (start : ℕ) (lines : List ScriptLine) (numbers : TableId × ℕ) (ws : List (Worker N)) (vs : List (Worked N))
+  pub all_within : (b : Bounds) (limiter : LimiterView) (start : ℕ) (lines : List ScriptLine) (numbers : BatchesId) (ws : List (Worker N)) (vs : List (Worked N))
       → AreDone b limiter start lines numbers ws vs → AllByRecursion (λ r. (1 ≤ r.line) × (r.line ≤ length lines)) (joined (map (λ v. v.journal) vs))
   all_within b limiter start lines numbers [] [] h = tt
   all_within b limiter start lines numbers [] (v ∷ vs) h = absurd h
@@ -147,7 +146,7 @@ module _ {N : Type 0} where
       (within b limiter start w.number lines w.pass v.journal v.pass h.0.1.journal) (all_within b limiter start lines numbers ws vs h.1)
 
   -- each worker's journal
-  pub journal_at : (b : Bounds) (limiter : LimiterView) (start : ℕ) (lines : List ScriptLine) (id : LimiterId) (numbers : TableId × ℕ) (n : ℕ) (ws : List (Worker N))
+  pub journal_at : (b : Bounds) (limiter : LimiterView) (start : ℕ) (lines : List ScriptLine) (id : LimiterId) (numbers : BatchesId) (n : ℕ) (ws : List (Worker N))
       (vs : List (Worked N)) → AreWorkers id numbers n ws → AreDone b limiter start lines numbers ws vs → (i : ℕ) (p : PassView) (rs : List Record) (q : PassView)
       → get_elem? (map (λ w. w.pass) ws) i ≡ some p → get_elem? (map (λ v. v.journal) vs) i ≡ some rs → get_elem? (map (λ v. v.pass) vs) i ≡ some q
       → Journal b limiter start (n + i) lines p rs q
@@ -165,8 +164,8 @@ module _ {N : Type 0} where
       (journal_at b limiter start lines id numbers (suc n) ws vs a.2 h.1 i p rs q e f k)
 
   -- each line was run once
-  pub lines_once : (b : Bounds) (limiter : LimiterView) (start : ℕ) (lines : List ScriptLine) (numbers : TableId × ℕ) (ws : List (Worker N)) (vs : List (Worked N)) (count : ℕ)
-      → AreDone b limiter start lines numbers ws vs → count ≡ length lines → ((n : ℕ) → IsDrawnOnce count n (total (λ (d : Drawer). times n (drawn d)) (map (λ v. v.drawer) vs)))
+  pub lines_once : (b : Bounds) (limiter : LimiterView) (start : ℕ) (lines : List ScriptLine) (numbers : BatchesId) (ws : List (Worker N)) (vs : List (Worked N)) (count : ℕ)
+      → AreDone b limiter start lines numbers ws vs → count ≡ length lines → ((n : ℕ) → IsDrawnOnce count n (total (λ (d : BatchDrawer). times n (given d)) (map (λ v. v.drawer) vs)))
       → EachLineOnce (length lines) (joined (map (λ v. v.journal) vs))
   lines_once b limiter start lines numbers ws vs count h is once = record {
     once = λ n low high.
@@ -177,14 +176,7 @@ module _ {N : Type 0} where
     within = all_within b limiter start lines numbers ws vs h;
   }
 
-  -- the first of them was told that there are no more lines
-  pub told_all : (b : Bounds) (limiter : LimiterView) (start : ℕ) (lines : List ScriptLine) (numbers : TableId × ℕ) (ws : List (Worker N)) (vs : List (Worked N)) (count most : ℕ)
-      → AreDone b limiter start lines numbers ws vs → 1 ≤ length ws → All (λ d. is_told d ≡ true → count ≡ most) (map (λ v. v.drawer) vs) → count ≡ most
-  told_all b limiter start lines numbers [] vs count most h few each = absurd (omega arith)
-  told_all b limiter start lines numbers (w ∷ ws) [] count most h few each = absurd h
-  told_all b limiter start lines numbers (w ∷ ws) (v ∷ vs) count most h few each = each 0 v.drawer (omega arith) h.0.1.told
-
-  in_order : (b : Bounds) (limiter : LimiterView) (start : ℕ) (lines : List ScriptLine) (numbers : TableId × ℕ) (ws : List (Worker N)) (vs : List (Worked N))
+  in_order : (b : Bounds) (limiter : LimiterView) (start : ℕ) (lines : List ScriptLine) (numbers : BatchesId) (ws : List (Worker N)) (vs : List (Worked N))
       → AreDone b limiter start lines numbers ws vs → (i : ℕ) (rs : List Record) → get_elem? (map (λ v. v.journal) vs) i ≡ some rs → IsRising (map (λ (r : Record). r.line - 1) rs)
   in_order b limiter start lines numbers [] [] h i rs e = absurd (some-ne-none rs (sym e))
   in_order b limiter start lines numbers [] (v ∷ vs) h i rs e = absurd h
@@ -193,7 +185,7 @@ module _ {N : Type 0} where
       subst (λ (x : List Record). IsRising (map (λ (r : Record). r.line - 1) x)) (some-injective _ _ e) (subst IsRising h.0.1.drawn v.drawer.rises)
   in_order b limiter start lines numbers (w ∷ ws) (v ∷ vs) h (suc i) rs e = in_order b limiter start lines numbers ws vs h.1 i rs e
 
-  pub have_run : (b : Bounds) (limiter : LimiterView) (start : ℕ) (lines : List ScriptLine) (numbers : TableId × ℕ) (ws : List (Worker N)) (vs : List (Worked N))
+  pub have_run : (b : Bounds) (limiter : LimiterView) (start : ℕ) (lines : List ScriptLine) (numbers : BatchesId) (ws : List (Worker N)) (vs : List (Worked N))
       (records : List Record) → AreWorkers limiter.id numbers 0 ws → AreDone b limiter start lines numbers ws vs → Merges (length lines) (map (λ v. v.journal) vs) records
       → HaveRun b limiter start lines (map (λ w. w.pass) ws) (map (λ v. v.pass) vs) records
   have_run b limiter start lines numbers ws vs records a h m = record {

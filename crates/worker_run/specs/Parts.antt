@@ -1,8 +1,7 @@
 -- Inside: the parts of a run.
 use Rattle.std.specs.Prelude.{◌≡◌, ℕ, suc, List, [], ◌∷◌}
-use Rattle.atomic_table.specs.Seated.{TableId}
 use Rattle.counter_directory.specs.Acquired.{Bounds}
-use Rattle.line_numbers.specs.Drawers.{numbers_of, IsFresh}
+use Rattle.line_numbers.specs.Batches.{BatchesId, batches_of, IsNew}
 use Rattle.rate_limiter.specs.Passes.{LimiterId, LimiterView}
 use Rattle.script_run.specs.ScriptLine.{ScriptLine}
 use Rattle.worker_run.specs.Journal.{HasWorked}
@@ -11,23 +10,23 @@ use Rattle.worker_run.specs.declared.working.Worked.{Worked}
 
 module _ {N : Type 0} where
   -- a worker of the limiter, which draws these numbers and has drawn none
-  pub record IsReady (limiter : LimiterId) (numbers : TableId × ℕ) (worker : Worker N) : Type 0 where
+  pub record IsReady (limiter : LimiterId) (numbers : BatchesId) (worker : Worker N) : Type 0 where
     pub pass : worker.pass.limiter ≡ limiter
-    pub drawer : numbers_of worker.drawer ≡ numbers
-    pub fresh : IsFresh worker.drawer
+    pub drawer : batches_of worker.drawer ≡ numbers
+    pub fresh : IsNew worker.drawer
 
   -- workers with the numbers from this one on
-  abbrev pub AreWorkers : LimiterId → TableId × ℕ → ℕ → List (Worker N) → Type 0
+  abbrev pub AreWorkers : LimiterId → BatchesId → ℕ → List (Worker N) → Type 0
   AreWorkers limiter numbers n [] = Unit {0}
   AreWorkers limiter numbers n (w ∷ ws) = (w.number ≡ n) × IsReady limiter numbers w × AreWorkers limiter numbers (suc n) ws
 
   -- what a worker left when it was done
-  abbrev pub IsDone : Bounds → LimiterView → ℕ → List ScriptLine → TableId × ℕ → Worker N → Worked N → Type 0
+  abbrev pub IsDone : Bounds → LimiterView → ℕ → List ScriptLine → BatchesId → Worker N → Worked N → Type 0
   IsDone b limiter start lines numbers w v =
-      (numbers_of v.drawer ≡ numbers) × HasWorked b limiter start w.number lines w.pass v.journal v.pass v.drawer
+      (batches_of v.drawer ≡ numbers) × HasWorked b limiter start w.number lines w.pass v.journal v.pass v.drawer
 
   -- each worker is done
-  abbrev pub AreDone : Bounds → LimiterView → ℕ → List ScriptLine → TableId × ℕ → List (Worker N) → List (Worked N) → Type 0
+  abbrev pub AreDone : Bounds → LimiterView → ℕ → List ScriptLine → BatchesId → List (Worker N) → List (Worked N) → Type 0
   AreDone b limiter start lines numbers [] [] = Unit {0}
   AreDone b limiter start lines numbers (w ∷ ws) (v ∷ vs) = IsDone b limiter start lines numbers w v
       × AreDone b limiter start lines numbers ws vs

@@ -2,7 +2,7 @@
 ghost use Rattle.std.specs.Prelude.{◌≡◌, ◌≤◌, ◌<◌, ◌+◌, ℕ, All, IfOk, Ok, OnOk, length, map, vec_len, vec_capacity, slice_index_or};
 ghost use Rattle.rate_types.specs.declared.limits.TheConstants.{MOST_LINES, MOST_WORKERS};
 ghost use Rattle.rate_limiter.specs.Passes.{bounds_of};
-ghost use Rattle.line_numbers.specs.Drawers.{numbers_id, numbers_of, lines_of, drawers_of, IsFresh};
+ghost use Rattle.line_numbers.specs.Batches.{batches_id, batches_of, lines_in, drawers_in, IsNew};
 ghost use Rattle.worker_run.specs.Work.{HaveRun};
 ghost use Rattle.worker_run.specs.Clauses.{AreInOrder};
 ghost use Rattle.std.specs.List.{AllByRecursion};
@@ -12,7 +12,7 @@ use crate::gate::Gate;
 use crate::script_lines::ScriptLines;
 use crate::working::{Shared, Worked, Worker, work};
 use counter_cells::CellNaming;
-use line_numbers::{Drawer, LineNumbers};
+use line_numbers::{BatchDrawer, Batches};
 use rate_limiter::{Limiter, Pass};
 use rate_types::{OutOfMemory, Seconds};
 use reply_text::Records;
@@ -25,16 +25,16 @@ use std::thread::{Threads, map_vec};
 fn workers_of<N: CellNaming>(
     alloc: Global,
     limiter: &Limiter<N>,
-    numbers: &LineNumbers,
+    numbers: &Batches,
     passes: Vec<Pass<N>>,
-    mut drawers: Vec<Drawer>,
+    mut drawers: Vec<BatchDrawer>,
 ) -> Result<Vec<Worker<N>>, OutOfMemory>
     requires few { vec_len passes ≤ MOST_WORKERS }
     requires passes { AllByRecursion (λ p. p.limiter ≡ limiter.now.id) passes.items }
-    requires drawers { All (λ d. (numbers_of d ≡ numbers_id numbers.now) × IsFresh d) drawers.items }
+    requires drawers { All (λ d. (batches_of d ≡ batches_id numbers.now) × IsNew d) drawers.items }
     requires as_many { vec_len drawers ≡ vec_len passes }
     ensures passes { IfOk result (λ v. map (λ w. w.pass) v.items ≡ passes.items) }
-    ensures workers { IfOk result (λ v. AreWorkers limiter.now.id (numbers_id numbers.now) 0 v.items) }
+    ensures workers { IfOk result (λ v. AreWorkers limiter.now.id (batches_id numbers.now) 0 v.items) }
 {
     let _ = limiter;
     let _ = numbers;
@@ -61,22 +61,22 @@ fn work_each<N: CellNaming + Send + Sync, L: ScriptLines, G: Gate, R: Threads + 
     run: &Shared<'_, N, L, G>,
     workers: Vec<Worker<N>>,
 ) -> Result<Vec<Result<Worked<N>, OutOfMemory>>, AllocError>
-    requires lines { (length (L.lines run.now.lines.now) ≤ MOST_LINES) × (lines_of run.now.numbers.now ≡ length (L.lines run.now.lines.now)) }
-    requires ready { All (λ w. IsReady run.now.limiter.now.id (numbers_id run.now.numbers.now) w) workers.items }
+    requires lines { (length (L.lines run.now.lines.now) ≤ MOST_LINES) × (lines_in run.now.numbers.now ≡ length (L.lines run.now.lines.now)) }
+    requires ready { All (λ w. IsReady run.now.limiter.now.id (batches_id run.now.numbers.now) w) workers.items }
     ensures len { IfOk result (λ v. vec_len v ≡ vec_len workers) }
     ensures each { IfOk result (λ v. (i : ℕ) (d : _) (e : _) → i < vec_len workers → IfOk (slice_index_or v.items i d)
         (λ w. IsDone (bounds_of N.setup.cells run.now.limiter.now) run.now.limiter.now run.now.start (L.lines run.now.lines.now)
-        (numbers_id run.now.numbers.now) (slice_index_or workers.items i e) w)) }
+        (batches_id run.now.numbers.now) (slice_index_or workers.items i e) w)) }
 {
     map_vec(
         rt,
         workers,
         &|worker: Worker<N>| -> Result<Worked<N>, OutOfMemory>
-            requires { (length (L.lines run.now.lines.now) ≤ MOST_LINES) × (lines_of run.now.numbers.now ≡ length (L.lines run.now.lines.now))
-                × IsReady run.now.limiter.now.id (numbers_id run.now.numbers.now) worker }
+            requires { (length (L.lines run.now.lines.now) ≤ MOST_LINES) × (lines_in run.now.numbers.now ≡ length (L.lines run.now.lines.now))
+                × IsReady run.now.limiter.now.id (batches_id run.now.numbers.now) worker }
             ensures { IfOk result (λ w. IsDone (bounds_of N.setup.cells run.entry.now.limiter.now) run.entry.now.limiter.now
                 run.entry.now.start
-                (L.lines run.entry.now.lines.now) (numbers_id run.entry.now.numbers.now) worker w) }
+                (L.lines run.entry.now.lines.now) (batches_id run.entry.now.numbers.now) worker w) }
         { work(rt, alloc, run, worker) },
     )
 }
@@ -103,10 +103,10 @@ fn work_all<N: CellNaming + Send + Sync, L: ScriptLines, G: Gate, R: Threads + W
     run: &Shared<'_, N, L, G>,
     workers: Vec<Worker<N>>,
 ) -> Result<Vec<Worked<N>>, OutOfMemory>
-    requires lines { (length (L.lines run.now.lines.now) ≤ MOST_LINES) × (lines_of run.now.numbers.now ≡ length (L.lines run.now.lines.now)) }
-    requires ready { AllByRecursion (λ w. IsReady run.now.limiter.now.id (numbers_id run.now.numbers.now) w) workers.items }
+    requires lines { (length (L.lines run.now.lines.now) ≤ MOST_LINES) × (lines_in run.now.numbers.now ≡ length (L.lines run.now.lines.now)) }
+    requires ready { AllByRecursion (λ w. IsReady run.now.limiter.now.id (batches_id run.now.numbers.now) w) workers.items }
     ensures done { IfOk result (λ v. AreDone (bounds_of N.setup.cells run.now.limiter.now) run.now.limiter.now run.now.start
-        (L.lines run.now.lines.now) (numbers_id run.now.numbers.now) workers.items v.items) }
+        (L.lines run.now.lines.now) (batches_id run.now.numbers.now) workers.items v.items) }
 {
     let done = work_each(rt, alloc, run, workers)?;
     let workers = done_all(alloc, done)?;
@@ -117,7 +117,7 @@ fn work_all<N: CellNaming + Send + Sync, L: ScriptLines, G: Gate, R: Threads + W
 #[derive(Drop)]
 struct Parts<N: CellNaming> {
     passes: Vec<Pass<N>>,
-    drawers: Vec<Drawer>,
+    drawers: Vec<BatchDrawer>,
     journals: Vec<Records>,
 }
 
@@ -168,7 +168,8 @@ pub fn run_lines<N: CellNaming + Send + Sync, L: ScriptLines, G: Gate, R: Thread
 {
     let count = lines.count();
     let room = count as usize / passes.len();
-    let (numbers, drawers) = LineNumbers::make(alloc, u64::from(count), passes.len() as u32)?;
+    let batch = lines.batch();
+    let (numbers, drawers) = Batches::make(alloc, u64::from(count), batch, passes.len() as u32)?;
     let workers = workers_of(alloc, limiter, &numbers, passes, drawers)?;
     let run = Shared {
         limiter,
@@ -192,7 +193,7 @@ pub fn run_lines<N: CellNaming + Send + Sync, L: ScriptLines, G: Gate, R: Thread
         drawers,
         journals,
     } = parts_of(alloc, done?)?;
-    numbers.close(drawers);
+    numbers.close(alloc, drawers)?;
     let records = merge(count, journals);
     Ok((records, passes))
 }

@@ -3,7 +3,7 @@ use rate_types::OutOfMemory;
 use script_run::Line;
 use std::alloc::Global;
 
-/// The lines of a script. A worker reads a line when it has drawn it, so that none is held before it is run or after.
+/// The lines of a script. A worker reads a line when it runs it, so that none is held before or after.
 pub trait ScriptLines: Sync {
     ghost use Rattle.std.specs.Prelude.{◌≡◌, ◌<◌, ◌≤◌, List, length, slice_get, Some, IfOk};
     ghost use Rattle.rate_types.specs.declared.limits.TheConstants.{MOST_LINES};
@@ -17,6 +17,10 @@ pub trait ScriptLines: Sync {
     fn count(&self) -> u32
         ensures all { result ≡ length (lines self.now) }
         ensures few { result ≤ MOST_LINES };
+
+    /// How many lines a worker draws at a time, at least 1. Its lines are then run in order.
+    fn batch(&self) -> u64
+        ensures { 1 ≤ result };
 
     /// Reads the line with this index, counted from 0. The scratch is the worker's own, which it keeps from line to line.
     fn read(&self, alloc: Global, scratch: &mut Scratch, index: usize) -> Result<Line, OutOfMemory>

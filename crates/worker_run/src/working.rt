@@ -3,7 +3,7 @@ ghost use Rattle.std.specs.Prelude.{◌≡◌, ◌≤◌, ◌<◌, ◌+◌, ℕ,
 ghost use Rattle.rate_types.specs.declared.limits.TheConstants.{MOST_LINES};
 ghost use Rattle.descriptor_tree.specs.Trees.{DomainTree};
 ghost use Rattle.rate_limiter.specs.Passes.{bounds_of};
-ghost use Rattle.line_numbers.specs.Drawers.{numbers_id, numbers_of, lines_of, IsFresh};
+ghost use Rattle.line_numbers.specs.Batches.{batches_id, batches_of, lines_in, IsNew};
 ghost use Rattle.worker_run.specs.LineSteps.{IsRecordStep};
 ghost use Rattle.worker_run.specs.Journal.{HasWorked};
 
@@ -12,7 +12,7 @@ use crate::lines::run_line;
 use crate::script_lines::ScriptLines;
 use counter_cells::CellNaming;
 use json::Scratch;
-use line_numbers::{Drawer, LineNumbers};
+use line_numbers::{BatchDrawer, Batches};
 use rate_limiter::{Limiter, Pass};
 use rate_types::{OutOfMemory, Seconds};
 use reply_text::{Record, Records};
@@ -25,21 +25,21 @@ use std::sync::Wait;
 pub struct Worker<N: CellNaming> {
     pub number: u32,
     pub pass: Pass<N>,
-    pub drawer: Drawer,
+    pub drawer: BatchDrawer,
 }
 
 /// A worker that is done: its pass, its drawer, and the records of the lines that it drew, in order.
 #[derive(Drop)]
 pub struct Worked<N: CellNaming> {
     pub pass: Pass<N>,
-    pub drawer: Drawer,
+    pub drawer: BatchDrawer,
     pub journal: Records,
 }
 
 /// What all workers of a run share.
 pub struct Shared<'a, N: CellNaming, L: ScriptLines, G: Gate> {
     pub limiter: &'a Limiter<N>,
-    pub numbers: &'a LineNumbers,
+    pub numbers: &'a Batches,
     pub lines: &'a L,
     pub gate: &'a G,
     pub start: Seconds,
@@ -90,9 +90,9 @@ pub fn work<N: CellNaming, L: ScriptLines, G: Gate, R: Wait>(
     worker: Worker<N>,
 ) -> Result<Worked<N>, OutOfMemory>
     requires pass { worker.pass.limiter ≡ run.now.limiter.now.id }
-    requires drawer { (numbers_of worker.drawer ≡ numbers_id run.now.numbers.now) × IsFresh worker.drawer }
-    requires lines { (length (L.lines run.now.lines.now) ≤ MOST_LINES) × (lines_of run.now.numbers.now ≡ length (L.lines run.now.lines.now)) }
-    ensures drawer { IfOk result (λ w. numbers_of w.drawer ≡ numbers_id run.now.numbers.now) }
+    requires drawer { (batches_of worker.drawer ≡ batches_id run.now.numbers.now) × IsNew worker.drawer }
+    requires lines { (length (L.lines run.now.lines.now) ≤ MOST_LINES) × (lines_in run.now.numbers.now ≡ length (L.lines run.now.lines.now)) }
+    ensures drawer { IfOk result (λ w. batches_of w.drawer ≡ batches_id run.now.numbers.now) }
     ensures worked { IfOk result (λ w. HasWorked (bounds_of N.setup.cells run.now.limiter.now) run.now.limiter.now run.now.start
         worker.number
         (L.lines run.now.lines.now) worker.pass w.journal w.pass w.drawer) }

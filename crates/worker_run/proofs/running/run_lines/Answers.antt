@@ -1,28 +1,34 @@
-use Rattle.std.proofs.Common.{◌≡◌, ◌≤◌, ℕ, List, All, true, map, length, sym, subst, ap, arith}
+use Rattle.std.proofs.Common.{◌≡◌, ◌≤◌, ℕ, List, true, map, length, sym, subst, ap, arith}
 use Rattle.std.proofs.lemmas.List.{length-map}
 use Rattle.std.specs.List.{AllByRecursion}
 use Rattle.rate_types.specs.Sums.{total, times}
-use Rattle.line_numbers.specs.Drawers.{numbers_id, numbers_of, lines_of, drawn, is_told}
+use Rattle.line_numbers.specs.Batches.{batches_id, batches_of, lines_in, given, is_done}
 use Rattle.line_numbers.specs.Rising.{IsDrawnOnce}
-use Rattle.line_numbers.specs.declared.drawer.Drawer.{Drawer}
+use Rattle.line_numbers.specs.declared.batch_drawer.BatchDrawer.{BatchDrawer}
 use Rattle.rate_limiter.specs.Passes.{bounds_of, PassView}
 use Rattle.reply_text.specs.declared.record.Record.{Record}
 use Rattle.script_run.specs.Merged.{joined, EachLineOnce, Merges}
 use Rattle.worker_run.specs.Work.{HaveRun}
 use Rattle.worker_run.specs.Clauses.{AreInOrder}
 use Rattle.worker_run.proofs.Clauses.{ordered}
-use Rattle.worker_run.proofs.Gathering.{all_ready, all_index, index_all, as_many, drawers_here, passes_here, told_all, lines_once, have_run}
+use Rattle.worker_run.proofs.Gathering.{all_ready, all_index, index_all, as_many, drawers_here, passes_here, lines_once, have_run}
 use Rattle.worker_run.proofs.running.run_lines.Goals as goal
 
 pub work_all-done-requires-clause-ready : goal.work_all-done-requires-clause-ready
 work_all-done-requires-clause-ready g c κs within =
-    all_ready c.args.limiter.now.id (numbers_id c.in_ok-numbers.numbers) 0 c.in_ok-workers.workers.items c.in_ok-workers.ensures.workers
+    all_ready c.args.limiter.now.id (batches_id c.in_ok-numbers.numbers) 0 c.in_ok-workers.workers.items c.in_ok-workers.ensures.workers
 
 pub close-requires-clause-drawers : goal.close-requires-clause-drawers
-close-requires-clause-drawers g c =
+close-requires-clause-drawers g c k d lt =
     let done = drawers_here _ _ _ _ _ c.in_ok-workers.workers.items c.in_ok-done.field-0.items c.in_ok-done.ensures.done in
-    λ k d lt. (all_index (λ (d : Drawer). (numbers_of d ≡ numbers_id c.in_ok-numbers.numbers) × (is_told d ≡ true)) c.in_ok-passes.field-0.drawers.items
-    (subst (λ l. AllByRecursion (λ (d : Drawer). (numbers_of d ≡ numbers_id c.in_ok-numbers.numbers) × (is_told d ≡ true)) l) (sym c.in_ok-passes.ensures.drawers) done) k d lt).0
+    (all_index (λ (d : BatchDrawer). (batches_of d ≡ batches_id c.in_ok-numbers.numbers) × (is_done d ≡ true)) c.in_ok-passes.field-0.drawers.items
+    (subst (λ l. AllByRecursion (λ (d : BatchDrawer). (batches_of d ≡ batches_id c.in_ok-numbers.numbers) × (is_done d ≡ true)) l) (sym c.in_ok-passes.ensures.drawers) done) k d lt).0
+
+pub close-requires-clause-done : goal.close-requires-clause-done
+close-requires-clause-done g c k d lt =
+    let done = drawers_here _ _ _ _ _ c.in_ok-workers.workers.items c.in_ok-done.field-0.items c.in_ok-done.ensures.done in
+    (all_index (λ (d : BatchDrawer). (batches_of d ≡ batches_id c.in_ok-numbers.numbers) × (is_done d ≡ true)) c.in_ok-passes.field-0.drawers.items
+    (subst (λ l. AllByRecursion (λ (d : BatchDrawer). (batches_of d ≡ batches_id c.in_ok-numbers.numbers) × (is_done d ≡ true)) l) (sym c.in_ok-passes.ensures.drawers) done) k d lt).1
 
 pub close-requires-clause-every : goal.close-requires-clause-every
 close-requires-clause-every g c =
@@ -33,7 +39,7 @@ close-requires-clause-every g c =
     let e = ap length c.in_ok-workers.ensures.passes in
     let f = length-map c.in_ok-workers.workers.items (λ w. w.pass) in
     let p = c.args.passes.ok.0 in
-    let n = c.in_ok-numbers.ensures.numbers in
+    let n = c.in_ok-numbers.ensures.batches in
     omega arith
 
 pub merge-records-requires : goal.merge-records-requires
@@ -42,19 +48,11 @@ merge-records-requires g c =
     let vs = c.in_ok-done.field-0.items in
     let done = c.in_ok-done.ensures.done in
     let drawers = c.in_ok-passes.ensures.drawers in
-    let some_worker : 1 ≤ length ws =
-    let e = ap length c.in_ok-workers.ensures.passes in
-    let f = length-map ws (λ w. w.pass) in
-    let p = c.args.passes.ok.0 in
-    let w = c.requires.workers.0 in
-    omega arith in
-    let told = told_all _ _ _ _ _ ws vs c.close.result (lines_of c.in_ok-numbers.numbers) done some_worker
-    (subst (λ l. All (λ (d : Drawer). is_told d ≡ true → c.close.result ≡ lines_of c.in_ok-numbers.numbers) l) drawers c.close.ensures.whole) in
-    let made = c.in_ok-numbers.ensures.numbers.0 in
+    let made = c.in_ok-numbers.ensures.batches.0 in
     let from = c.from.ensures in
-    let count : c.close.result ≡ length (g.L.ScriptLines.lines c.args.lines.now) = omega (arith, c.count-count.ensures.all) in
-    let once = lines_once _ _ _ (g.L.ScriptLines.lines c.args.lines.now) _ ws vs c.close.result done count
-    (λ n. subst (λ (l : List Drawer). IsDrawnOnce c.close.result n (total (λ (d : Drawer). times n (drawn d)) l)) drawers (c.close.ensures.once n)) in
+    let count : lines_in c.in_ok-numbers.numbers ≡ length (g.L.ScriptLines.lines c.args.lines.now) = omega (arith, c.count-count.ensures.all) in
+    let once = lines_once _ _ _ (g.L.ScriptLines.lines c.args.lines.now) _ ws vs (lines_in c.in_ok-numbers.numbers) done count
+    (λ n. subst (λ (l : List BatchDrawer). IsDrawnOnce (lines_in c.in_ok-numbers.numbers) n (total (λ (d : BatchDrawer). times n (given d)) l)) drawers (c.in_ok-close.ensures.once n)) in
     record {
       once = subst (λ (l : List (List Record)). EachLineOnce c.count-count.result (joined l)) (sym c.in_ok-passes.ensures.journals)
           (subst (λ (n : ℕ). EachLineOnce n (joined (map (λ v. v.journal) vs))) (sym c.count-count.ensures.all) once);
@@ -71,7 +69,7 @@ returns-clause-run g c =
     let ls = g.L.ScriptLines.lines c.args.lines.now in
     subst (λ (l : List PassView). HaveRun b c.args.limiter.now c.args.start ls c.args.passes.items l c.merge-records.result) (sym c.in_ok-passes.ensures.passes)
     (subst (λ (l : List PassView). HaveRun b c.args.limiter.now c.args.start ls l (map (λ v. v.pass) vs) c.merge-records.result) c.in_ok-workers.ensures.passes
-    (have_run b c.args.limiter.now c.args.start ls (numbers_id c.in_ok-numbers.numbers) ws vs c.merge-records.result c.in_ok-workers.ensures.workers c.in_ok-done.ensures.done
+    (have_run b c.args.limiter.now c.args.start ls (batches_id c.in_ok-numbers.numbers) ws vs c.merge-records.result c.in_ok-workers.ensures.workers c.in_ok-done.ensures.done
     merged))
 
 pub returns-clause-records : goal.returns-clause-records

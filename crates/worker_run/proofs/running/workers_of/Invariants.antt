@@ -1,7 +1,7 @@
 use Rattle.std.proofs.Common.{◌≡◌, ◌≤◌, ◌+◌, ◌++◌, All, map, length, vec_len}
 use Rattle.std.specs.Prelude.{vec_capacity}
 use Rattle.std.specs.List.{AllByRecursion}
-use Rattle.line_numbers.specs.Drawers.{numbers_id, numbers_of, IsFresh}
+use Rattle.line_numbers.specs.Batches.{batches_id, batches_of, IsNew}
 use Rattle.worker_run.specs.Parts.{AreWorkers}
 use Rattle.worker_run.proofs.running.workers_of.Given as goal
 
@@ -13,6 +13,6 @@ invariant-loop-pass g l = record {
   few : vec_len l.workers + length l.pass-iterator.rest.items ≤ 64;
   room : vec_len l.workers + length l.pass-iterator.rest.items ≤ vec_capacity l.workers;
   passes : AllByRecursion (λ p. p.limiter ≡ l.limiter.id) l.pass-iterator.rest.items;
-  drawers : All (λ d. (numbers_of d ≡ numbers_id l.numbers) × IsFresh d) l.drawers.items;
-  workers : AreWorkers l.limiter.id (numbers_id l.numbers) 0 l.workers.items;
+  drawers : All (λ d. (batches_of d ≡ batches_id l.numbers) × IsNew d) l.drawers.items;
+  workers : AreWorkers l.limiter.id (batches_id l.numbers) 0 l.workers.items;
 }

@@ -1,5 +1,5 @@
 use Rattle.std.proofs.Common.{◌≡◌, ◌-◌, ◌+◌, ◌<◌, ◌∷◌, [], ◌++◌, All, ap, ◌∙◌, sym, arith, subst, map, length, length-append}
-use Rattle.line_numbers.specs.Drawers.{drawn}
+use Rattle.line_numbers.specs.Batches.{given}
 use Rattle.rate_limiter.specs.Passes.{bounds_of}
 use Rattle.worker_run.specs.Journal.{Journal}
 use Rattle.worker_run.proofs.Journals.{journal_push, last_of, rising_length, map_push, one_before}
@@ -8,17 +8,17 @@ use Rattle.worker_run.proofs.working.work.Goals as goal
 pub run_drawn-requires-clause-number : goal.run_drawn-requires-clause-number
 run_drawn-requires-clause-number g c κs within =
     let e = c.in-Some.ensures in
-    let below : All (λ x. x < length (g.L.ScriptLines.lines c.args.run.now.lines.now)) (drawn c.draw.new.drawer) = subst (λ n. All (λ x. x < n) (drawn c.draw.new.drawer)) c.requires.lines.1 e.below in
-    last_of (λ x. x < length (g.L.ScriptLines.lines c.args.run.now.lines.now)) (drawn c.lines.drawer) c.in-Some.number
+    let below : All (λ x. x < length (g.L.ScriptLines.lines c.args.run.now.lines.now)) (given c.draw.new.drawer) = subst (λ n. All (λ x. x < n) (given c.draw.new.drawer)) c.requires.lines.1 e.below in
+    last_of (λ x. x < length (g.L.ScriptLines.lines c.args.run.now.lines.now)) (given c.lines.drawer) c.in-Some.number
     (subst (All (λ x. x < length (g.L.ScriptLines.lines c.args.run.now.lines.now))) e.drawn below)
 
 pub lines-smaller : goal.lines-smaller
 lines-smaller g c =
     let e = c.draw.ensures in
-    let below : All (λ x. x < length (g.L.ScriptLines.lines c.args.run.now.lines.now)) (drawn c.draw.new.drawer) = subst (λ n. All (λ x. x < n) (drawn c.draw.new.drawer)) c.requires.lines.1 e.below in
-    let few = rising_length (drawn c.draw.new.drawer) (length (g.L.ScriptLines.lines c.args.run.now.lines.now)) e.rising below in
+    let below : All (λ x. x < length (g.L.ScriptLines.lines c.args.run.now.lines.now)) (given c.draw.new.drawer) = subst (λ n. All (λ x. x < n) (given c.draw.new.drawer)) c.requires.lines.1 e.below in
+    let few = rising_length (given c.draw.new.drawer) (length (g.L.ScriptLines.lines c.args.run.now.lines.now)) e.rising below in
     let more = ap length c.in-Some.ensures.drawn in
-    omega (arith, length-append (drawn c.lines.drawer) (c.in-Some.number ∷ []))
+    omega (arith, length-append (given c.lines.drawer) (c.in-Some.number ∷ []))
 
 pub lines-preserved : goal.lines-preserved
 lines-preserved g c =

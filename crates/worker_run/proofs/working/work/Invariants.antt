@@ -1,16 +1,16 @@
 use Rattle.std.proofs.Common.{◌≡◌, ◌-◌, map, length}
-use Rattle.line_numbers.specs.Drawers.{drawn, numbers_of}
+use Rattle.line_numbers.specs.Batches.{given, batches_of}
 use Rattle.rate_limiter.specs.Passes.{bounds_of}
 use Rattle.worker_run.specs.Journal.{Journal}
 use Rattle.worker_run.proofs.working.work.Given as goal
 
 abbrev pub decreases-lines : goal.decreases-lines
-decreases-lines g l = length (g.L.ScriptLines.lines l.run.lines.now) - length (drawn l.drawer)
+decreases-lines g l = length (g.L.ScriptLines.lines l.run.lines.now) - length (given l.drawer)
 
 abbrev pub invariant-lines : goal.invariant-lines
 invariant-lines g l = record {
-  here : numbers_of l.drawer ≡ numbers_of l.initial.drawer;
+  here : batches_of l.drawer ≡ batches_of l.initial.drawer;
   same : l.pass.limiter ≡ l.run.limiter.now.id;
   journal : Journal (bounds_of g.N.CellNaming.setup.cells l.run.limiter.now) l.run.limiter.now l.run.start l.worker (g.L.ScriptLines.lines l.run.lines.now) l.initial.pass l.journal l.pass;
-  drawn : drawn l.drawer ≡ map (λ r. r.line - 1) l.journal;
+  drawn : given l.drawer ≡ map (λ r. r.line - 1) l.journal;
 }
