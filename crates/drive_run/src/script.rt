@@ -1,7 +1,7 @@
 ghost use Rattle.std.specs.Prelude.{◌≡◌, ◌<◌, ◌≤◌, ℕ, length, map, drop, IfOk, Err};
 ghost use Rattle.rate_types.specs.declared.limits.TheConstants.{MOST_LINES};
 ghost use Rattle.text_lines.specs.Lines.{cut};
-ghost use Rattle.drive_run.specs.LineStarts.{AreLineStarts};
+ghost use Rattle.drive_run.specs.LineStarts.{AreLineStarts, EndsAt};
 ghost use Rattle.drive_run.specs.declared.script.ScriptFault.TheVariants.{TooManyLines};
 
 use crate::reading::read_line;
@@ -39,6 +39,7 @@ fn next_start(bytes: &[u8], start: usize) -> usize
     requires { start < length bytes.now }
     ensures later { (start < result) × (result ≤ length bytes.now) }
     ensures cut { cut (drop result bytes.now) ≡ drop 1 (cut (drop start bytes.now)) }
+    ensures ends { EndsAt bytes.now start result }
 {
     match line_feed(&bytes[start..]) {
         Some(at) => start + at + 1,
@@ -76,12 +77,16 @@ impl<'a> Script<'a> {
         Ok(Script { bytes, starts })
     }
 
-    // The line at an index, counted from 0.
+    // The line at an index, counted from 0. The end of one that has another behind it isn't looked for again.
     fn line(&self, index: usize) -> &[u8]
         requires { index < length self.now.starts.items }
         ensures { (d : List ℕ) → slice_index_or (cut self.now.bytes.now) index d ≡ result.now }
     {
-        let (line, _) = cut_line(&self.bytes[self.starts[index]..]);
+        let start = self.starts[index];
+        if index + 1 < self.starts.len() {
+            return &self.bytes[start..self.starts[index + 1] - 1];
+        }
+        let (line, _) = cut_line(&self.bytes[start..]);
         line
     }
 

@@ -2,8 +2,8 @@ use Rattle.std.proofs.Common.{◌≡◌, ◌+◌, ◌<◌, ◌++◌, ◌∷◌, 
 use Rattle.std.specs.Prelude.{slice_index}
 use Rattle.std.proofs.lemmas.List.{length_push}
 use Rattle.text_lines.specs.Lines.{cut}
-use Rattle.drive_run.specs.LineStarts.{BeginsAt}
-use Rattle.drive_run.proofs.LineStarts.{left_behind, one_left, one_more, all_found}
+use Rattle.drive_run.specs.LineStarts.{BeginsAt, EndsAt}
+use Rattle.drive_run.proofs.LineStarts.{left_behind, one_left, one_more, ends_more, last_more, all_found}
 use Rattle.drive_run.proofs.script.Script.read.Goals as goal
 
 pub lines-preserved : goal.lines-preserved
@@ -21,11 +21,16 @@ lines-preserved c =
           (left_behind bytes c.lines.start (length starts) c.next_start-start.result c.lines.invariant.left c.next_start-start.ensures.cut);
       each = subst (λ (l : List ℕ). (i : ℕ) → i < length l → BeginsAt bytes i (slice_index l i)) (sym pushed)
           (one_more bytes starts c.lines.start c.lines-test.true c.lines.invariant.left c.lines.invariant.each);
+      ends = subst (λ (l : List ℕ). (i : ℕ) → i + 1 < length l → EndsAt bytes (slice_index l i) (slice_index l (i + 1))) (sym pushed)
+          (ends_more bytes starts c.lines.start c.lines.invariant.ends c.lines.invariant.last);
+      last = subst (λ (l : List ℕ). (i : ℕ) → i + 1 ≡ length l → EndsAt bytes (slice_index l i) c.next_start-start.result) (sym pushed)
+          (last_more bytes starts c.lines.start c.next_start-start.result c.next_start-start.ensures.ends);
     }
 
 pub invariant_of-result-clause-lines : goal.invariant_of-result-clause-lines
 invariant_of-result-clause-lines c =
     all_found c.args.bytes.now c.lines.starts.items c.lines.start (omega (arith, c.lines-test.false)) c.lines.invariant.within c.lines.invariant.left c.lines.invariant.each
+    c.lines.invariant.ends
 
 pub returns-then-len-clause-more : goal.returns-then-len-clause-more
 returns-then-len-clause-more c = λ n is.
