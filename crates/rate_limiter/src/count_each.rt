@@ -14,6 +14,7 @@ ghost use Rattle.rate_limiter.specs.Sought.{SameKnown, IsSeenAt};
 ghost use Rattle.rate_limiter.specs.Planned.{DoneEach, IsReady, AreBoundAt, AreValues};
 
 use crate::count_one::count_one;
+use crate::emptied::empty;
 use crate::known_counters::KnownCounters;
 use crate::planned::Planned;
 use crate::sought::seen_of;
@@ -110,7 +111,7 @@ pub(crate) fn count_each<N: CellNaming>(
     ensures spots { SameSpots known.old known.new }
     ensures looks { looks.new ≡ looks_counted pass.new }
 {
-    statuses.clear();
+    empty(statuses);
     let mut seen = seen;
     'plan: for place in 0..plan.len() {
         let descriptor = &descriptors[place];

@@ -23,6 +23,7 @@ mod check_open;
 mod close;
 mod count_each;
 mod count_one;
+mod emptied;
 mod hold;
 mod known;
 mod known_counters;

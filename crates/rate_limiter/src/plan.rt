@@ -3,6 +3,7 @@ ghost use Rattle.std.specs.Prelude.{◌≡◌, ◌≤◌, length};
 ghost use Rattle.rate_types.specs.declared.limits.TheConstants.{MOST_DESCRIPTORS};
 ghost use Rattle.rate_limiter.specs.Planned.{spot_for, spots_after, planned_for, planned_each};
 
+use crate::emptied::empty;
 use crate::planned::Planned;
 use arrayvec::ArrayVec;
 use counter_cells::Spot;
@@ -37,7 +38,7 @@ pub(crate) fn write_plan(
     requires rules { length rules.now ≡ length descriptors.now }
     ensures { plan.new.items ≡ planned_each request.now descriptors.now rules.now spots.now }
 {
-    plan.clear();
+    empty(plan);
     let mut left = spots;
     'descriptors: for place in 0..descriptors.len() {
         let found = rules[place];

@@ -7,6 +7,7 @@ ghost use Rattle.rate_limiter.specs.Sought.{AreSeenAt};
 ghost use Rattle.rate_limiter.specs.SeenOver.{is_seen_over, AreSeenOver, count_shown, HaveShownOver};
 
 use crate::Limiter;
+use crate::emptied::empty;
 use crate::known_counters::KnownCounters;
 use crate::over::finish_reply;
 use arrayvec::ArrayVec;
@@ -58,7 +59,7 @@ fn write_shown<N: CellNaming>(
 {
     let _ = claims;
     let _ = known;
-    statuses.clear();
+    empty(statuses);
     'descriptors: for place in 0..descriptors.len() {
         let hits = descriptors[place].hits.unwrap_or(request.hits());
         let found = rules[place];

@@ -15,6 +15,7 @@ ghost use Rattle.rate_limiter.specs.SeenOver.{are_seen_over, AreSeenOver, AreKno
 ghost use Rattle.rate_limiter.specs.declared.hold.Hold.TheVariants.{SeenOver};
 ghost use Rattle.rate_limiter.specs.Sought.{IsUnknownAt, IsFirstUnknown, HasMissedAt, HasMissedFirst, HasMissCause, KnowsUnder};
 
+use crate::emptied::empty;
 use crate::hold::Hold;
 use crate::known_counters::KnownCounters;
 use crate::missed::Missed;
@@ -132,8 +133,8 @@ fn find_known<N: CellNaming>(
     ensures unknown { IfErr result
         (λ place. IsFirstUnknown request.now cell_pass.now.moment known.old descriptors.now rules.now place) }
 {
-    spots.clear();
-    seen.clear();
+    empty(spots);
+    empty(seen);
     let mut is_over = true;
     'descriptors: for place in 0..descriptors.len() {
         let descriptor = &descriptors[place];
@@ -218,7 +219,7 @@ fn pin_found<N: CellNaming>(
     ensures missed { IfErr result (λ m. HasMissedFirst found.now m cell_pass.old cell_pass.new) }
     ensures pins { PinsGrow cell_pass.old.pairs cell_pass.new.pairs }
 {
-    spots.clear();
+    empty(spots);
     'descriptors: for place in 0..descriptors.len() {
         let pinned = pin_next(
             cells,

@@ -21,12 +21,12 @@ pub descriptors-init : goal.descriptors-init
 descriptors-init g c = record {
   known = c.requires.known;
   same = λ key. refl;
-  count = ap length c.clear.ensures;
+  count = ap length c.empty.ensures;
   own = search rules;
   spots = search rules;
-  values = ap length c.clear-2.ensures;
+  values = ap length c.empty-2.ensures;
   seen = search rules;
-  over = sym (ap (are_seen_over c.args.request.now c.args.descriptors.now c.args.rules.now) c.clear-2.ensures ∙ over_none c.args.request.now c.args.descriptors.now c.args.rules.now);
+  over = sym (ap (are_seen_over c.args.request.now c.args.descriptors.now c.args.rules.now) c.empty-2.ensures ∙ over_none c.args.request.now c.args.descriptors.now c.args.rules.now);
 }
 
 pub descriptors-preserved : goal.descriptors-preserved
