@@ -21,9 +21,9 @@ pub struct CheckCounts {
     pub denied: u32,
 }
 
-fn count_checks(records: &RunJournals) -> CheckCounts
-    requires { length records.now ≤ MOST_LINES }
-    ensures { result ≡ spec.counted records.now }
+fn count_checks(records: RunJournals) -> CheckCounts
+    requires { length records ≤ MOST_LINES }
+    ensures { result ≡ spec.counted records }
 {
     let AnswerCounts { admitted, denied } = count_answers(records);
     CheckCounts {
@@ -56,11 +56,11 @@ fn counts_line(alloc: Global, counts: CheckCounts) -> Result<String, OutOfMemory
 }
 
 /// What came of the checks of a run, by its records: how many were answered, how many of them admitted and how many denied. Each lawful
-/// run of a made-up load has the summary of that load.
-pub fn summary(alloc: Global, records: &RunJournals) -> Result<String, OutOfMemory>
-    requires { length records.now ≤ MOST_LINES }
-    ensures counted { IfOk result (λ t. string_bytes t ≡ spec.counts_line (spec.counted records.now)) }
-    ensures same { IfOk result (λ t. spec.IsSameForEachRun records.now (string_bytes t)) }
+/// run of a made-up load has the summary of that load. The records are dropped.
+pub fn summary(alloc: Global, records: RunJournals) -> Result<String, OutOfMemory>
+    requires { length records ≤ MOST_LINES }
+    ensures counted { IfOk result (λ t. string_bytes t ≡ spec.counts_line (spec.counted records)) }
+    ensures same { IfOk result (λ t. spec.IsSameForEachRun records (string_bytes t)) }
 {
     let counts = count_checks(records);
     let text = counts_line(alloc, counts)?;

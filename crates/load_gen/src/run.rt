@@ -41,6 +41,6 @@ pub fn run_load<G: Gate, R: Threads + Wait + Sync>(
         seed,
     };
     let driven = drive_script(rt, alloc, &load, config, setup, gate)?;
-    let text = summary(alloc, &driven.records)?;
+    let text = summary(alloc, driven.records)?;
     Ok(text)
 }

@@ -32,15 +32,14 @@ fn is_denied(outcome: &Outcome) -> bool
     }
 }
 
-// Those of one journal.
-fn count_journal(journal: &[Record]) -> AnswerCounts
-    ensures admitted { result.admitted ≡ admitted_among journal.now }
-    ensures denied { result.denied ≡ denied_among journal.now }
+// Those of one journal, whose records are read once: each is dropped where it is counted.
+fn count_journal(journal: Vec<Record>) -> AnswerCounts
+    ensures admitted { result.admitted ≡ admitted_among journal.items }
+    ensures denied { result.denied ≡ denied_among journal.items }
 {
     let mut admitted = 0;
     let mut denied = 0;
-    'records: for index in 0..journal.len() {
-        let rec = &journal[index];
+    for rec in journal {
         if is_admitted(&rec.outcome) {
             admitted += 1;
         }
@@ -51,19 +50,18 @@ fn count_journal(journal: &[Record]) -> AnswerCounts
     AnswerCounts { admitted, denied }
 }
 
-/// How many checks of a run were answered. The records are counted where they lie, whatever their order.
-pub fn count_answers(records: &RunJournals) -> AnswerCounts
-    ensures admitted { result.admitted ≡ admitted_among records.now }
-    ensures denied { result.denied ≡ denied_among records.now }
-    ensures few { (result.admitted ≤ length records.now) × (result.denied ≤ length records.now) }
+/// How many checks of a run were answered. The records are counted where they lie, whatever their order, and dropped.
+pub fn count_answers(records: RunJournals) -> AnswerCounts
+    ensures admitted { result.admitted ≡ admitted_among records }
+    ensures denied { result.denied ≡ denied_among records }
+    ensures few { (result.admitted ≤ length records) × (result.denied ≤ length records) }
 {
     // There are fewer records than a usize can count, and so are those of each kind.
     let _most = records.len();
-    let journals = records.journals();
     let mut admitted = 0;
     let mut denied = 0;
-    'journals: for number in 0..journals.len() {
-        let counts = count_journal(journals[number].items());
+    for journal in records.into_journals() {
+        let counts = count_journal(journal.into_items());
         admitted += counts.admitted;
         denied += counts.denied;
     }

@@ -51,10 +51,10 @@ pub fn merge(lines: u32, journals: Vec<Records>) -> RunJournals
 impl RunJournals {
     /// The journals in which the records lie. What is summed over them is what is summed over the records, so whoever needs no order
     /// reads the journals, each from its start to its end.
-    pub fn journals(&self) -> &[Records]
-        ensures { (f : RecordValue → ℕ) → total f self.now ≡ total (total f) result.now }
+    pub(crate) fn into_journals(self) -> Vec<Records>
+        ensures { (f : RecordValue → ℕ) → total f self ≡ total (total f) result.items }
     {
-        &self.journals
+        self.journals
     }
 
     /// How many records there are.

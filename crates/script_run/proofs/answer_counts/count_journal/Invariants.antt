@@ -1,12 +1,9 @@
-use Rattle.std.proofs.Common.{◌≡◌, ◌≤◌, take}
-use Rattle.std.specs.Prelude.{count_by}
-use Rattle.script_run.specs.Answers.{is_admitted, is_denied}
+use Rattle.std.proofs.Common.{◌≡◌, ◌+◌}
+use Rattle.script_run.specs.Answers.{admitted_among, denied_among}
 use Rattle.script_run.proofs.answer_counts.count_journal.Given as goal
 
-abbrev pub invariant-records : goal.invariant-records
-invariant-records l = record {
-  admitted : l.admitted ≡ count_by (λ r. is_admitted r.outcome) (take l.index l.journal);
-  denied : l.denied ≡ count_by (λ r. is_denied r.outcome) (take l.index l.journal);
-  few_admitted : l.admitted ≤ l.index;
-  few_denied : l.denied ≤ l.index;
+abbrev pub invariant-loop-rec : goal.invariant-loop-rec
+invariant-loop-rec l = record {
+  admitted : l.admitted + admitted_among l.rec-iterator.rest.items ≡ admitted_among l.fn.journal.items;
+  denied : l.denied + denied_among l.rec-iterator.rest.items ≡ denied_among l.fn.journal.items;
 }
