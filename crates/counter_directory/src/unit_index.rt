@@ -3,6 +3,7 @@ ghost use Rattle.std.specs.Prelude.{◌≡◌, ◌<◌, IfOk, OnOk, vec_len};
 ghost use Rattle.counter_directory.specs.Index.{IsNew, AreNew, Turns, TurnEach, FindTheSame, HaveRoom};
 
 use counter_cells::Spot;
+use keyed_hash::KeyedState;
 use rate_types::{CounterName, OutOfMemory, Seconds, Unit};
 use std::alloc::Global;
 use std::collections::HashMap;
@@ -14,18 +15,18 @@ use std::hash::RandomState;
 pub(crate) struct UnitIndex {
     pub unit: Unit,
     pub end: u64,
-    pub spots: HashMap<CounterName, Spot, RandomState>,
+    pub spots: HashMap<CounterName, Spot, KeyedState>,
 }
 
 impl UnitIndex {
     // No counter, in the unit's first window.
-    fn new(alloc: Global, unit: Unit, seed: RandomState) -> UnitIndex
+    fn new(alloc: Global, unit: Unit, hashes: KeyedState) -> UnitIndex
         ensures { (result.unit ≡ unit) × IsNew result }
     {
         UnitIndex {
             unit,
             end: unit.seconds(),
-            spots: HashMap::with_hasher(alloc, seed),
+            spots: HashMap::with_hasher(alloc, hashes),
         }
     }
 
@@ -44,11 +45,12 @@ impl UnitIndex {
 pub(crate) fn unit_indexes(alloc: Global, seed: RandomState) -> Result<Vec<UnitIndex>, OutOfMemory>
     ensures { IfOk result (λ v. (vec_len v ≡ 4) × AreNew v.items) }
 {
+    let hashes = KeyedState::of(&seed);
     let mut units = Vec::with_capacity(alloc, 4)?;
-    units.push_reserved(UnitIndex::new(alloc, Unit::Second, seed));
-    units.push_reserved(UnitIndex::new(alloc, Unit::Minute, seed));
-    units.push_reserved(UnitIndex::new(alloc, Unit::Hour, seed));
-    units.push_reserved(UnitIndex::new(alloc, Unit::Day, seed));
+    units.push_reserved(UnitIndex::new(alloc, Unit::Second, hashes));
+    units.push_reserved(UnitIndex::new(alloc, Unit::Minute, hashes));
+    units.push_reserved(UnitIndex::new(alloc, Unit::Hour, hashes));
+    units.push_reserved(UnitIndex::new(alloc, Unit::Day, hashes));
     Ok(units)
 }
 

@@ -6,6 +6,8 @@ mod cells;
 #[cfg(test)]
 mod directory;
 #[cfg(test)]
+mod hashes;
+#[cfg(test)]
 mod known;
 #[cfg(test)]
 mod numbers;

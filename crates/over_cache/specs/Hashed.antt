@@ -1,15 +1,13 @@
 -- Inside: what is hashed of a key.
-use Rattle.std.proofs.Common.{◌≡◌, ℕ, ◌-◌, ◌%◌, nat_lt, List, [], ◌∷◌, length, take, drop, if◌then◌else◌, ap}
+use Rattle.std.proofs.Common.{◌≡◌, ℕ, List, [], ◌∷◌, ap}
 use Rattle.std.specs.Bool.{IsTrue}
 use Rattle.std.specs.Hash.{HashWrites}
 use Rattle.std.specs.Cmp.Lexicographic.{bytes_decides, nat_list_eq_equiv}
 use Rattle.over_cache.specs.Entries.{is_key}
 
--- the bytes that fill words of eight, and the last eight; a key of less than eight bytes is hashed as it is
+-- the bytes of a key are hashed as they are
 abbrev pub key_writes : List ℕ → HashWrites
-key_writes key =
-    let len = length key in
-    if nat_lt len 8 then key ∷ [] else take (len - len % 8) key ∷ drop (len - 8) key ∷ []
+key_writes key = key ∷ []
 
 module _ {A B : Type 0} (f : A → List ℕ) (g : B → List ℕ) where
   -- equal bytes make the same writes

@@ -1,17 +1,19 @@
-// Keys in the map: their bytes, which are hashed in words of eight, since std hashes what doesn't fill one byte by byte.
+// Keys in the map: their bytes.
 ghost use Rattle.std.specs.Prelude.{◌≡◌, IfOk};
-ghost use Rattle.std.specs.List.{fold};
-ghost use Rattle.over_cache.specs.Hashed.{key_writes};
 
 use rate_types::OutOfMemory;
+use smallvec::SmallVec;
 use std::alloc::Global;
 use std::collections::hash_map::Equivalent;
 use std::hash::{Hash, Hasher};
 
-/// The bytes of a key that is known.
+// The most bytes of a key that stand in the value itself.
+const SHORT: usize = 64;
+
+/// The bytes of a key that is known. Those of a short one stand inline, so that they take no memory of their own.
 #[derive(Drop)]
 pub(crate) struct KeyBytes {
-    bytes: Vec<u8>,
+    bytes: SmallVec<u8, SHORT>,
 }
 
 impl KeyBytes {
@@ -19,24 +21,14 @@ impl KeyBytes {
     pub(crate) fn of(alloc: Global, bytes: &[u8]) -> Result<KeyBytes, OutOfMemory>
         ensures { IfOk result (λ k. k.bytes.items ≡ bytes.now) }
     {
-        let bytes = bytes.to_vec(alloc)?;
+        let bytes = SmallVec::from_slice(alloc, bytes)?;
         Ok(KeyBytes { bytes })
     }
-}
 
-/// Hashes the bytes of a key: those that fill words of eight, and the last eight, some of which may have stood before.
-fn hash_key<H: Hasher>(key: &[u8], state: &mut H)
-    ensures { state.new ≡ fold H.write state.old (key_writes key.now) }
-{
-    let len = key.len();
-    if len < 8 {
-        state.write(key);
-        return;
+    /// Whether the last byte isn't that of these bytes, so that they are another key.
+    pub(crate) fn ends_otherwise(&self, bytes: &[u8]) -> bool {
+        self.bytes.as_slice().last() != bytes.last()
     }
-    let (whole, _) = key.split_at(len - len % 8);
-    let (_, last) = key.split_at(len - 8);
-    state.write(whole);
-    state.write(last);
 }
 
 impl PartialEq for KeyBytes {
@@ -49,7 +41,7 @@ impl PartialEq for KeyBytes {
     ghost laws = { on_per (λ k. k.bytes.items) (partial_equiv_from_equiv nat_list_eq_equiv) };
 
     fn eq(&self, other: &KeyBytes) -> bool {
-        self.bytes == other.bytes
+        self.bytes.as_slice() == other.bytes.as_slice()
     }
 }
 
@@ -68,7 +60,7 @@ impl Hash for KeyBytes {
     ghost respects_eq = { same_writes (λ k. k.bytes.items) (λ k. k.bytes.items) };
 
     fn hash<H: Hasher>(&self, state: &mut H) {
-        hash_key(&self.bytes, state);
+        state.write(self.bytes.as_slice());
     }
 }
 
@@ -107,7 +99,7 @@ impl Hash for SoughtBytes<'_> {
     ghost respects_eq = { same_writes (λ k. k.bytes.now) (λ k. k.bytes.now) };
 
     fn hash<H: Hasher>(&self, state: &mut H) {
-        hash_key(self.bytes, state);
+        state.write(self.bytes);
     }
 }
 

@@ -7,6 +7,7 @@ ghost use Rattle.over_cache.specs.Uses.{Use, Asked, Noted, Remembers};
 use crate::Known;
 use crate::key_bytes::{KeyBytes, SoughtBytes};
 use counter_cells::Spot;
+use keyed_hash::KeyedState;
 use lru::LruCache;
 use rate_types::OutOfMemory;
 use std::alloc::Global;
@@ -23,7 +24,7 @@ pub const MOST_KNOWN: usize = 1_024;
 #[derive(Drop)]
 pub struct OverCache {
     alloc: Global,
-    keys: LruCache<KeyBytes, Known, RandomState>,
+    keys: LruCache<KeyBytes, Known, KeyedState>,
 }
 
 impl Model for OverCache {
@@ -45,7 +46,7 @@ impl OverCache {
         ensures remembers { IfOk result (λ c. Remembers [] c) }
     {
         let most = NonZeroUsize::new(MOST_KNOWN).unwrap();
-        let keys = LruCache::with_hasher(alloc, most, seed)?;
+        let keys = LruCache::with_hasher(alloc, most, KeyedState::of(&seed))?;
         Ok(OverCache { alloc, keys })
     }
 
@@ -69,12 +70,16 @@ impl OverCache {
         self.keys.get(SoughtBytes { bytes: key }).copied()
     }
 
-    // What is known of the key, where it is the one used last: it is compared, and needs no hash.
+    // What is known of the key, where it is the one used last: it is compared, and needs no hash. Keys begin alike and differ at their ends, so
+    // most that differ cost a look at one byte.
     fn used_last(&self, key: &[u8]) -> Option<Known>
         ensures known { IfSome result (λ known. known_of key.now self.now ≡ Some known) }
         ensures order { IsSome result → asked key.now self.now ≡ self.now }
     {
         let (last, known) = self.keys.peek_mru()?;
+        if last.ends_otherwise(key) {
+            return None;
+        }
         if (SoughtBytes { bytes: key }).equivalent(last) {
             Some(*known)
         } else {
