@@ -1,5 +1,5 @@
 // Numbers and texts behind what a text holds. After want of memory a first part may stand there.
-ghost use Rattle.std.specs.Prelude.{◌≡◌, ◌++◌, ◌+◌, ◌≤◌, ◌<◌, length, OnErr, string_len, string_capacity, decimal, true, OnOk, string_bytes};
+ghost use Rattle.std.specs.Prelude.{◌≡◌, ◌++◌, ◌+◌, ◌≤◌, ◌<◌, length, OnErr, string_len, string_capacity, decimal, true, IfSome, OnOk, string_bytes};
 ghost use Rattle.json.specs.Print.{quoted};
 ghost use Rattle.serde_json.specs.Written.{comma_if, members_text};
 ghost use Rattle.reply_text.specs.Texts as texts;
@@ -9,7 +9,44 @@ use rate_types::OutOfMemory;
 use serde_json::Value;
 use std::alloc::Global;
 
-/// A literal, and then a number.
+// The text of a number of one digit.
+fn digit(number: u64) -> Option<&'static str>
+    ensures text { IfSome result (λ text. text.now ≡ decimal number) }
+    ensures one { IfSome result (λ text. length text.now ≡ 1) }
+{
+    match number {
+        0 => Some("0"),
+        1 => Some("1"),
+        2 => Some("2"),
+        3 => Some("3"),
+        4 => Some("4"),
+        5 => Some("5"),
+        6 => Some("6"),
+        7 => Some("7"),
+        8 => Some("8"),
+        9 => Some("9"),
+        _ => None,
+    }
+}
+
+// A number. Most have one digit, which is pushed without a call.
+fn put_digits(out: &mut String, number: u64) -> Result<(), OutOfMemory>
+    ensures text { OnOk result (string_bytes out.new ≡ string_bytes out.old ++ decimal number) }
+    ensures full { OnErr result (string_capacity out.old < string_len out.old + 20) }
+    ensures grown { OnOk result (string_len out.new ≤ string_len out.old + 20) }
+    ensures capacity { string_capacity out.old ≤ string_capacity out.new }
+{
+    if let Some(digit) = digit(number) {
+        out.push_str(digit)?;
+        return Ok(());
+    }
+    let mut buffer = Buffer::new();
+    out.push_str(buffer.format(number))?;
+    Ok(())
+}
+
+/// A literal, and then a number. It is part of its callers, so that the literal is copied without a call.
+#[inline(always)]
 pub fn put_number(out: &mut String, before: &str, number: u64) -> Result<(), OutOfMemory>
     ensures text { OnOk result (string_bytes out.new ≡ string_bytes out.old ++ (before.now ++ decimal number)) }
     ensures full { OnErr result (string_capacity out.old < string_len out.old + (length before.now + 20)) }
@@ -17,9 +54,7 @@ pub fn put_number(out: &mut String, before: &str, number: u64) -> Result<(), Out
     ensures capacity { string_capacity out.old ≤ string_capacity out.new }
 {
     out.push_str(before)?;
-    let mut buffer = Buffer::new();
-    out.push_str(buffer.format(number))?;
-    Ok(())
+    put_digits(out, number)
 }
 
 /// A text as a JSON string.
