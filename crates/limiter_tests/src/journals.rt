@@ -2,8 +2,8 @@
 ghost use Rattle.std.specs.Prelude.{◌≡◌};
 
 use rate_types::{OutOfMemory, Seconds};
-use reply_text::{Outcome, Record, Records};
-use script_run::{RunRecords, merge};
+use reply_text::{Outcome, Record};
+use script_run::{Journal, RunRecords, merge};
 use std::alloc::Global;
 use std::test::Fail;
 
@@ -23,13 +23,13 @@ fn record(line: u32, worker: u32) -> Record
 fn merge_two(alloc: Global, first: Record, second: Record) -> Result<RunRecords, OutOfMemory>
     requires { (first.line ≡ 1) × (second.line ≡ 2) }
 {
-    let mut one = Vec::with_capacity(alloc, 1)?;
-    one.push_reserved(second);
-    let mut two = Vec::with_capacity(alloc, 1)?;
-    two.push_reserved(first);
+    let mut one = Journal::with_room(alloc, 1)?;
+    one.push(second)?;
+    let mut two = Journal::with_room(alloc, 1)?;
+    two.push(first)?;
     let mut journals = Vec::with_capacity(alloc, 2)?;
-    journals.push_reserved(Records::of(one));
-    journals.push_reserved(Records::of(two));
+    journals.push_reserved(one);
+    journals.push_reserved(two);
     merge(2, journals).in_order(alloc)
 }
 

@@ -1,6 +1,10 @@
 -- Lines that are woven together are those of the records and totals, one after the other.
 use Rattle.std.proofs.Common.{◌≡◌, ℕ, zero, suc, ◌+◌, ◌≤◌, ◌<◌, List, [], ◌∷◌, ◌++◌, map, drop, length, get_or, slice_index_or, Bool, true, false, refl, sym, ap, arith}
+use Rattle.reply_text.specs.Short.{IsShort}
 use Rattle.reply_text.specs.declared.record.Record.{Record}
+use Rattle.reply_text.specs.declared.record.Outcome.{Outcome}
+use Rattle.reply_text.specs.declared.record.Outcome.TheVariants.{Checked, Ticked, Installed, Bad, Full, Spent, VersionsFull}
+use Rattle.script_run.specs.Journals.{AreShort}
 use Rattle.run_lines.specs.RunLines.{record_line, is_short, unless_short, other_lines, woven_line, woven}
 
 pub woven_all : (rs : List Record) (ts : List (List ℕ)) → woven rs (other_lines rs ++ ts) ≡ map record_line rs ++ ts
@@ -56,6 +60,20 @@ module _ (rs : List Record) (ms : List (List ℕ)) (p n : ℕ) where
   -- none is left
   pub total_none : length rs ≤ p → length ms ≤ n → woven (drop p rs) (drop n ms) ≡ []
   total_none h high = rw (none_from rs p h, none_from ms n high) refl
+
+-- there is no line of a record that isn't short where all are
+pub others_none : (rs : List Record) → AreShort rs → other_lines rs ≡ []
+others_none [] all = refl
+others_none (r ∷ rs) all = by (others_none rs all.1) r.outcome all.0
+  where
+    by : other_lines rs ≡ [] → (o : Outcome) → IsShort o → unless_short (is_short o) (record_line r) (other_lines rs) ≡ []
+    by none (Checked answer) short = none
+    by none (Ticked moment) short = none
+    by none Installed short = none
+    by none (Bad refused) short = absurd short
+    by none (Full live held wanted) short = absurd short
+    by none (Spent claims wanted) short = absurd short
+    by none (VersionsFull versions) short = absurd short
 
 -- one record less whose line may be made
 pub others_more : (rs : List Record) (p : ℕ) (d : Record) → p < length rs → d ≡ slice_index_or rs p d

@@ -14,6 +14,7 @@ pub mod Totals
 pub mod Run
 pub mod Merged
 pub mod Lone
+pub mod Journals
 pub mod Places
 pub mod RunRecords
 pub mod Answers

@@ -2,12 +2,13 @@
 ghost use Rattle.std.specs.Prelude.{◌≡◌, ◌≤◌, IfOk, true, replicate, vec_len};
 ghost use Rattle.std.specs.List.{AllByRecursion};
 ghost use Rattle.script_run.specs.Merged.{EachLineOnce, joined};
-ghost use Rattle.script_run.specs.Lone.{AreInOrder, IsLone};
+ghost use Rattle.script_run.specs.Lone.{IsLone};
 ghost use Rattle.script_run.specs.RunRecords.{all_put, places_of};
 
+use crate::Journal;
 use crate::run_records::RecordPlace;
 use rate_types::OutOfMemory;
-use reply_text::{Record, Records};
+use reply_text::Record;
 use std::alloc::Global;
 
 // A place for each line, which isn't that of its record yet.
@@ -40,28 +41,12 @@ fn put(places: &mut Vec<RecordPlace>, number: usize, journal: &[Record])
     }
 }
 
-// Whether these are so many records in the order of their lines.
-fn are_in_order(lines: u32, records: &[Record]) -> bool
-    ensures { result ≡ true → AreInOrder lines records.now }
-{
-    if records.len() != lines as usize {
-        return false;
-    }
-    'records: for index in 0..records.len() {
-        let rec = &records[index];
-        if rec.line as usize != index + 1 {
-            return false;
-        }
-    }
-    true
-}
-
 /// Whether there is one journal, whose records are in the order of their lines.
-pub(crate) fn is_lone(lines: u32, journals: &[Records]) -> bool
+pub(crate) fn is_lone(lines: u32, journals: &[Journal]) -> bool
     ensures { result ≡ true → IsLone lines journals.now }
 {
     match journals {
-        [journal] => are_in_order(lines, journal.items()),
+        [journal] => journal.is_in_order(lines),
         _ => false,
     }
 }
@@ -70,7 +55,7 @@ pub(crate) fn is_lone(lines: u32, journals: &[Records]) -> bool
 pub(crate) fn places_in(
     alloc: Global,
     lines: u32,
-    journals: &[Records],
+    journals: &[Journal],
 ) -> Result<Vec<RecordPlace>, OutOfMemory>
     requires once { EachLineOnce lines (joined journals.now) }
     ensures { IfOk result (λ v. v.items ≡ places_of lines journals.now) }

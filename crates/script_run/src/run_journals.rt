@@ -4,10 +4,10 @@ ghost use Rattle.rate_types.specs.Sums.{total};
 ghost use Rattle.reply_text.specs.declared.record.Record.{Record as RecordValue};
 ghost use Rattle.script_run.specs.Merged.{EachLineOnce, Merges, joined};
 
+use crate::Journal;
 use crate::merging::{is_lone, places_in};
 use crate::run_records::RunRecords;
 use rate_types::OutOfMemory;
-use reply_text::Records;
 use std::alloc::Global;
 use std::marker::Model;
 
@@ -16,7 +16,7 @@ use std::marker::Model;
 #[derive(Drop)]
 pub struct RunJournals {
     lines: u32,
-    journals: Vec<Records>,
+    journals: Vec<Journal>,
     // There is one journal, and its records are in the order of their lines.
     is_lone: bool,
 }
@@ -36,7 +36,7 @@ impl Model for RunJournals {
 }
 
 /// The records of these journals in the order of their lines, where each of so many lines has one record in one of them.
-pub fn merge(lines: u32, journals: Vec<Records>) -> RunJournals
+pub fn merge(lines: u32, journals: Vec<Journal>) -> RunJournals
     requires once { EachLineOnce lines (joined journals.items) }
     ensures merged { Merges lines journals.items result }
 {
@@ -51,7 +51,7 @@ pub fn merge(lines: u32, journals: Vec<Records>) -> RunJournals
 impl RunJournals {
     /// The journals in which the records lie. What is summed over them is what is summed over the records, so whoever needs no order
     /// reads the journals, each from its start to its end.
-    pub(crate) fn into_journals(self) -> Vec<Records>
+    pub(crate) fn into_journals(self) -> Vec<Journal>
         ensures { (f : RecordValue → ℕ) → total f self ≡ total (total f) result.items }
     {
         self.journals

@@ -1,8 +1,11 @@
 // The records of a run in the order of its lines.
-ghost use Rattle.std.specs.Prelude.{◌≡◌, ◌≤◌, ◌<◌, ◌^◌, MatchOption, length, option_map, slice_index_or};
+ghost use Rattle.std.specs.Prelude.{◌≡◌, ◌≤◌, ◌<◌, ◌^◌, true, MatchOption, length, option_map, slice_index_or};
+ghost use Rattle.std.specs.List.{AllByRecursion};
+ghost use Rattle.script_run.specs.Journals.{AreShort};
 ghost use Rattle.script_run.specs.RunRecords.{ordered, IsOrder};
 
-use reply_text::{Record, Records};
+use crate::Journal;
+use reply_text::Record;
 use std::marker::Model;
 
 /// Where a record lies: in the journal of this number, at this index. Both are counted from 0.
@@ -16,7 +19,7 @@ pub(crate) struct RecordPlace {
 /// Contracts see the list of the records.
 #[derive(Drop)]
 pub struct RunRecords {
-    journals: Vec<Records>,
+    journals: Vec<Journal>,
     // Where the record of each line lies. None where the first journal has them in their order.
     places: Option<Vec<RecordPlace>>,
 }
@@ -33,9 +36,21 @@ impl Model for RunRecords {
     ghost invariant = { λ r. IsOrder r.journals.items (option_map (λ p. p.items) r.places) };
 }
 
+// Whether each record of these journals is known to be short.
+fn all_short(journals: &[Journal]) -> bool
+    ensures { result ≡ true → AllByRecursion AreShort journals.now }
+{
+    'journals: for index in 0..journals.len() {
+        if !journals[index].is_short() {
+            return false;
+        }
+    }
+    true
+}
+
 impl RunRecords {
     /// The records of these journals, in the order of these places, or those of the first where there are none.
-    pub(crate) fn of(journals: Vec<Records>, places: Option<Vec<RecordPlace>>) -> RunRecords
+    pub(crate) fn of(journals: Vec<Journal>, places: Option<Vec<RecordPlace>>) -> RunRecords
         requires { IsOrder journals.items (option_map (λ p. p.items) places) }
         ensures { result ≡ ordered journals.items (option_map (λ p. p.items) places) }
     {
@@ -50,6 +65,13 @@ impl RunRecords {
             None => self.journals[0].items().len(),
             Some(places) => places.len(),
         }
+    }
+
+    /// Whether each record is known to be short.
+    pub fn are_short(&self) -> bool
+        ensures { result ≡ true → AreShort self.now }
+    {
+        all_short(&self.journals)
     }
 
     /// The record at an index, counted from 0.

@@ -10,8 +10,7 @@ use Rattle.rate_types.proofs.seconds.Seconds.TheSendSync as seconds
 use Rattle.counter_cells.specs.declared.naming.CellNaming.{Ghosts}
 use Rattle.rate_limiter.proofs.Sent.{pass_send, limiter_sync}
 use Rattle.line_numbers.proofs.batch_drawer.BatchDrawer.TheSendSync as drawer
-use Rattle.reply_text.proofs.record.Record.TheSendSync as one_record
-use Rattle.rate_types.proofs.items.Items.TheSendSync as items
+use Rattle.script_run.proofs.journal.Journal.TheSendSync as journal
 use Rattle.line_numbers.proofs.batches.Batches.TheSendSync as numbers
 use Rattle.worker_run.specs.contracts.working.Shared as shared
 use Rattle.worker_run.specs.contracts.working.Worker as worker
@@ -23,7 +22,7 @@ worker_send N naming = declared_send (worker.the_type N naming) (search sendable
 
 -- and come back
 pub worked_send : (N : RattleType) (naming : Ghosts N.Denot) → IsSend (worked.the_row N naming)
-worked_send N naming = declared_send (worked.the_type N naming) (pass_send N naming, (drawer.the_send, (items.the_send _ one_record.the_send, tt)))
+worked_send N naming = declared_send (worked.the_type N naming) (pass_send N naming, (drawer.the_send, (journal.the_send, tt)))
 
 -- threads may share what a run shares
 pub shared_sync : (l : NamedLft) (N L G : RattleType) (naming : Ghosts N.Denot) → IsSync L → IsSync G → IsSync (shared.the_row l N L G naming)

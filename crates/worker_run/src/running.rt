@@ -15,8 +15,7 @@ use counter_cells::CellNaming;
 use line_numbers::{BatchDrawer, Batches};
 use rate_limiter::{Limiter, Pass};
 use rate_types::{OutOfMemory, Seconds};
-use reply_text::Records;
-use script_run::{RunJournals, merge};
+use script_run::{Journal, RunJournals, merge};
 use std::alloc::{AllocError, Global};
 use std::sync::Wait;
 use std::thread::{Threads, map_vec};
@@ -118,7 +117,7 @@ fn work_all<N: CellNaming + Send + Sync, L: ScriptLines, G: Gate, R: Threads + W
 struct Parts<N: CellNaming> {
     passes: Vec<Pass<N>>,
     drawers: Vec<BatchDrawer>,
-    journals: Vec<Records>,
+    journals: Vec<Journal>,
 }
 
 fn parts_of<N: CellNaming>(alloc: Global, workers: Vec<Worked<N>>) -> Result<Parts<N>, OutOfMemory>

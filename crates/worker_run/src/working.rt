@@ -15,8 +15,9 @@ use json::Scratch;
 use line_numbers::{BatchDrawer, Batches};
 use rate_limiter::{Limiter, Pass};
 use rate_types::{OutOfMemory, Seconds};
-use reply_text::{Record, Records};
+use reply_text::Record;
 use rls_core::Reply;
+use script_run::Journal;
 use std::alloc::Global;
 use std::sync::Wait;
 
@@ -33,7 +34,7 @@ pub struct Worker<N: CellNaming> {
 pub struct Worked<N: CellNaming> {
     pub pass: Pass<N>,
     pub drawer: BatchDrawer,
-    pub journal: Records,
+    pub journal: Journal,
 }
 
 /// What all workers of a run share.
@@ -104,7 +105,7 @@ pub fn work<N: CellNaming, L: ScriptLines, G: Gate, R: Wait>(
     } = worker;
     let mut scratch = Scratch::new(alloc);
     let mut reply = Reply::new();
-    let mut journal = Records::of(Vec::with_capacity(alloc, run.room)?);
+    let mut journal = Journal::with_room(alloc, run.room)?;
     'lines: while let Some(number) = run.numbers.draw(&mut drawer) {
         let record = run_drawn(
             rt,
