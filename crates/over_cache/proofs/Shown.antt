@@ -1,7 +1,7 @@
 -- Entries whose keys are shown as their bytes.
-use Rattle.std.proofs.Common.{◌≡◌, ℕ, ◌+◌, ◌≤◌, Bool, true, false, cond, List, [], ◌∷◌, length, take, map, slice_get, Option, Some, None, option_map, refl, sym, ◌∙◌, ap, subst, arith}
+use Rattle.std.proofs.Common.{◌≡◌, ℕ, ◌+◌, ◌≤◌, ◌==◌, max, Bool, true, false, cond, List, [], ◌∷◌, length, take, map, slice_get, Option, Some, None, option_map, refl, sym, ◌∙◌, ap, subst, arith}
 use Rattle.std.specs.List.{AllByRecursion, IsDistinct}
-use Rattle.std.specs.Option.{option_map_or}
+use Rattle.std.specs.Option.{option_map_or, UnwrapsOrElse}
 use Rattle.std.specs.Map.{keys_of, lookup, lookup_entry, remove_entry, set_value}
 use Rattle.std.specs.Cmp.Lexicographic.{bytes_decides}
 use Rattle.std.proofs.lemmas.List.{take-map, take_all, length-map}
@@ -119,6 +119,14 @@ module _ {A : Type 0} (items : A → List ℕ) (key : List ℕ) (spot : Spot) (s
       ∙ (λ i. ((sym ((bytes_decides key (items b.0.0)).0 f.1)) i, known_then (sym (lookup-shown items (is_key key) es ∙ h) i) spot seen) ∷ sym (take_all 1023 rest short) i)
       ∙ (λ i. (key, known_then (known_of key (map (shown items) es)) spot seen) ∷ take 1023 (sym (remove_entry-shown items (is_key key) es) i))
 
+  -- a note where the key is known or not: what is known of it then, or the new pair, is noted over
+  noted_new : noted_over (record { spot = spot; seen = seen }) spot seen ≡ record { spot = spot; seen = seen }
+  noted_new = by (spot.claim == spot.claim)
+    where
+      by : (same : Bool) → ◌≡◌ {A = Known} (record { spot = spot; seen = cond same (max seen seen) seen }) (record { spot = spot; seen = seen })
+      by true = let n : max seen seen ≡ seen = omega arith in ap (λ (k : ℕ). record { spot = spot; seen = k }) n
+      by false = refl
+
   -- a note of a key that wasn't known
   pub new_noted : (es : List (A × Known)) (k : A) → items k ≡ key → lookup is_it es ≡ None
       → map (shown items) ((k, record { spot = spot; seen = seen }) ∷ take 1023 es) ≡ noted key spot seen (map (shown items) es)
@@ -126,6 +134,36 @@ module _ {A : Type 0} (items : A → List ℕ) (key : List ℕ) (spot : Spot) (s
       let n = none_is is_it es h in
       (λ i. (is i, known_then (sym (lookup-shown items (is_key key) es ∙ h) i) spot seen) ∷ sym (take-map (shown items) 1023 es) i)
       ∙ (λ i. (key, known_then (known_of key (map (shown items) es)) spot seen) ∷ take 1023 (sym (remove_entry-shown items (is_key key) es ∙ ap (map (shown items)) n.1) i))
+
+module _ {A : Type 0} (items : A → List ℕ) (spot : Spot) (seen : ℕ) (es : List (A × Known)) (few : length es ≤ 1024) (k : A) where
+  -- what is known of the key, or the new pair
+  abbrev pub IsOver : Known → Type 0
+  IsOver v = UnwrapsOrElse (lookup (is_it items (items k) spot seen) es) (λ x. x ≡ record { spot = spot; seen = seen }) v
+
+  -- a note of a key, known or not: it is written over what is known of it, or over the new pair
+  pub over_noted : (v w : Known) → IsOver v → w ≡ noted_over v spot seen
+      → map (shown items) (option_map_or (λ e. (e.0, w) ∷ remove_entry (is_it items (items k) spot seen) es) (lookup_entry (is_it items (items k) spot seen) es) ((k, w) ∷ take 1023 es))
+      ≡ noted (items k) spot seen (map (shown items) es)
+  over_noted v w over is = pick (lookup test es) refl over
+    where
+      test : A → Bool
+      test = is_it items (items k) spot seen
+
+      pick : (o : Option Known) → lookup test es ≡ o → UnwrapsOrElse o (λ x. x ≡ record { spot = spot; seen = seen }) v
+          → map (shown items) (option_map_or (λ e. (e.0, w) ∷ remove_entry test es) (lookup_entry test es) ((k, w) ∷ take 1023 es))
+          ≡ noted (items k) spot seen (map (shown items) es)
+      pick None none fresh =
+          let value : w ≡ record { spot = spot; seen = seen } = is ∙ ap (λ x. noted_over x spot seen) fresh ∙ noted_new items (items k) spot seen in
+          ap (λ o. map (shown items) (option_map_or (λ (e : A × Known). (e.0, w) ∷ remove_entry test es) o ((k, w) ∷ take 1023 es))) (none_is test es none).0
+          ∙ ap (λ (x : Known). map (shown items) ((k, x) ∷ take 1023 es)) value
+          ∙ new_noted items (items k) spot seen es k refl none
+      pick (Some old) found known =
+          let b = by_value test es old found in
+          let value : w ≡ noted_over old spot seen = is ∙ ap (λ x. noted_over x spot seen) known in
+          ap (λ o. map (shown items) (option_map_or (λ (e : A × Known). (e.0, w) ∷ remove_entry test es) o ((k, w) ∷ take 1023 es))) b.1
+          ∙ ap (map (shown items)) (sym (set_promoted test es b.0 w b.1))
+          ∙ ap (λ x. map (shown items) (set_value test (promoted test es) x)) value
+          ∙ known_noted items (items k) spot seen es old found few
 
 module _ {A V : Type 0} (items : A → List ℕ) where
   pub distinct-shown : (es : List (A × V)) → IsDistinct (λ a b. is_key (items a) (items b)) (keys_of es) → IsDistinct is_key (keys_of (map (shown items) es))

@@ -1,5 +1,6 @@
 // Keys in the map: their bytes.
-ghost use Rattle.std.specs.Prelude.{◌≡◌, IfOk};
+ghost use Rattle.std.specs.Prelude.{◌≡◌, ◌≤◌, length, IfOk, IsOk};
+ghost use Rattle.over_cache.specs.declared.key_bytes.TheConstants.{SHORT};
 
 use rate_types::OutOfMemory;
 use smallvec::SmallVec;
@@ -7,8 +8,8 @@ use std::alloc::Global;
 use std::collections::hash_map::Equivalent;
 use std::hash::{Hash, Hasher};
 
-// The most bytes of a key that stand in the value itself.
-const SHORT: usize = 64;
+/// The most bytes of a key that stand in the value itself.
+pub(crate) const SHORT: usize = 64;
 
 /// The bytes of a key that is known. Those of a short one stand inline, so that they take no memory of their own.
 #[derive(Drop)]
@@ -19,7 +20,8 @@ pub(crate) struct KeyBytes {
 impl KeyBytes {
     /// A copy of these bytes.
     pub(crate) fn of(alloc: Global, bytes: &[u8]) -> Result<KeyBytes, OutOfMemory>
-        ensures { IfOk result (λ k. k.bytes.items ≡ bytes.now) }
+        ensures same { IfOk result (λ k. k.bytes.items ≡ bytes.now) }
+        ensures short { length bytes.now ≤ SHORT → IsOk result }
     {
         let bytes = SmallVec::from_slice(alloc, bytes)?;
         Ok(KeyBytes { bytes })

@@ -5,7 +5,7 @@ ghost use Rattle.over_cache.specs.declared.known.Known.{Known as KnownValue};
 ghost use Rattle.over_cache.specs.Uses.{Use, Asked, Noted, Remembers};
 
 use crate::Known;
-use crate::key_bytes::{KeyBytes, SoughtBytes};
+use crate::key_bytes::{KeyBytes, SHORT, SoughtBytes};
 use counter_cells::Spot;
 use keyed_hash::KeyedState;
 use lru::LruCache;
@@ -118,11 +118,19 @@ impl OverCache {
         ensures refused { OnErr result (self.new ≡ self.old) }
         ensures known { IsSome (known_of key.now self.old) → IsOk result }
     {
-        if self.note_known(key, spot, seen) {
+        // The bytes of a long key take memory of their own, which a known key must not.
+        if key.len() > SHORT && self.note_known(key, spot, seen) {
             return Ok(());
         }
+        let _number = self.keys.len();
         let key = KeyBytes::of(self.alloc, key)?;
-        self.keys.put(key, Known { spot, seen })?;
+        let noted = self.keys.get_or_insert_mut(
+            key,
+            || -> Known
+                ensures { result ≡ record { spot = spot; seen = seen } }
+            { Known { spot, seen } },
+        )?;
+        *noted = noted.noted_over(spot, seen);
         Ok(())
     }
 }
