@@ -1,5 +1,5 @@
 -- What hashing a text, an entry, entries, a counter's name or a counter writes; equal values write the same.
-use Rattle.std.specs.Prelude.{ℕ, ◌-◌, ◌/◌, ◌%◌, ◌++◌, List, [], ◌∷◌, length, take, drop, nat_lt, slice_index_or, if◌then◌else◌}
+use Rattle.std.specs.Prelude.{ℕ, ◌+◌, ◌-◌, ◌%◌, ◌++◌, List, [], ◌∷◌, length, take, nat_lt, slice_index_or, if◌then◌else◌}
 use Rattle.std.specs.Int.{from_le_bytes, w64}
 use Rattle.std.specs.Cmp.Lexicographic.{bytes_decides}
 use Rattle.std.specs.Hash.{HashWrites, Alike, same_Alike, on_Alike, and-Alike, items_Alike}
@@ -10,26 +10,27 @@ use Rattle.rate_types.specs.Counters.{same_text, same_entry, same_entries, same_
 use Rattle.rate_types.specs.declared.entries.Entry.{Entry}
 use Rattle.rate_types.specs.declared.counter_name.CounterName.{CounterName}
 use Rattle.rate_types.specs.declared.counter_key.CounterKey.{CounterKey}
-use Rattle.rate_types.specs.declared.text_words.TheConstants.{IN_FIRST_WORD}
+use Rattle.rate_types.specs.declared.text_words.TheConstants.{IN_WORD}
 
--- a text's length in two bytes and its first six bytes, with zeros behind its end
-abbrev pub first_word : List ℕ → ℕ
-first_word text = from_le_bytes w64 (length text % 256 ∷ length text / 256 % 256 ∷ slice_index_or text 0 0 ∷ slice_index_or text 1 0
-    ∷ slice_index_or text 2 0 ∷ slice_index_or text 3 0 ∷ slice_index_or text 4 0 ∷ slice_index_or text 5 0 ∷ [])
+-- a text of less than eight bytes: their number, and these bytes with zeros behind them
+abbrev pub short_word : List ℕ → ℕ
+short_word text = from_le_bytes w64 (length text ∷ slice_index_or text 0 0 ∷ slice_index_or text 1 0 ∷ slice_index_or text 2 0
+    ∷ slice_index_or text 3 0 ∷ slice_index_or text 4 0 ∷ slice_index_or text 5 0 ∷ slice_index_or text 6 0 ∷ [])
 
--- less than eight bytes, with zeros behind them
-abbrev pub last_word : List ℕ → ℕ
-last_word bytes = from_le_bytes w64 (slice_index_or bytes 0 0 ∷ slice_index_or bytes 1 0 ∷ slice_index_or bytes 2 0 ∷ slice_index_or bytes 3 0
-    ∷ slice_index_or bytes 4 0 ∷ slice_index_or bytes 5 0 ∷ slice_index_or bytes 6 0 ∷ 0 ∷ [])
+-- the eight bytes from an index on as one number, the lowest first
+abbrev pub word_at : List ℕ → ℕ → ℕ
+word_at text at = from_le_bytes w64 (slice_index_or text at 0 ∷ slice_index_or text (at + 1) 0 ∷ slice_index_or text (at + 2) 0
+    ∷ slice_index_or text (at + 3) 0 ∷ slice_index_or text (at + 4) 0 ∷ slice_index_or text (at + 5) 0 ∷ slice_index_or text (at + 6) 0
+    ∷ slice_index_or text (at + 7) 0 ∷ [])
 
--- bytes in whole words, and the word of those that are left
-abbrev pub rest_writes : List ℕ → HashWrites
-rest_writes bytes =
-    let whole = length bytes - length bytes % 8 in take whole bytes ∷ written.u64 (last_word (drop whole bytes))
+-- a text of eight bytes or more: their number, as many of them as whole words have, and the last eight
+abbrev pub long_writes : List ℕ → HashWrites
+long_writes text =
+    let len = length text in written.u64 len ++ (take (len - len % IN_WORD) text ∷ written.u64 (word_at text (len - IN_WORD)))
 
--- a text: its first word, and what is behind it
+-- a text: one word where it has less than eight bytes, else its number of bytes and its words
 abbrev pub text_writes : List ℕ → HashWrites
-text_writes text = written.u64 (first_word text) ++ (if nat_lt IN_FIRST_WORD (length text) then rest_writes (drop IN_FIRST_WORD text) else [])
+text_writes text = if nat_lt (length text) IN_WORD then written.u64 (short_word text) else long_writes text
 
 abbrev pub entry_writes : Entry → HashWrites
 entry_writes e = text_writes e.key ++ text_writes e.value

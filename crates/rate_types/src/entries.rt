@@ -1,19 +1,20 @@
 ghost use Rattle.std.proofs.Common.{rules};
-ghost use Rattle.std.specs.Prelude.{◌≡◌, ◌<◌, ◌≤◌, ◌==◌, Ok, IfOk, IfSome, position, length};
+ghost use Rattle.std.specs.Prelude.{◌≡◌, ◌<◌, ◌≤◌, ◌==◌, [], ◌∷◌, Ok, IfOk, IfSome, position, length};
 ghost use Rattle.std.specs.Cmp.{partial_order_from_own_ties};
 ghost use Rattle.std.specs.Cmp.Lexicographic.{lists_ties};
 ghost use Rattle.std.specs.Cmp.Rules.{comparing};
 ghost use Rattle.std.specs.Ordering.{as_partial_cmp};
 ghost use Rattle.rate_types.specs.Counters.{entry_cmp, same_entry, entries_cmp, same_entries};
-ghost use Rattle.rate_types.specs.Entries.{entries_of};
+ghost use Rattle.rate_types.specs.Entries.{held_entries, entries_of};
 ghost use Rattle.rate_types.specs.Hashes.{entry_writes, entry_alike, entries_writes, entries_alike};
 
 use crate::limits::MOST_ENTRIES;
 use crate::{OutOfMemory, Text};
-use std::alloc::Global;
+use std::alloc::{AllocError, Global};
 use std::cmp::Ordering;
 use std::hash::{Hash, Hasher};
 use std::marker::Model;
+use std::slice;
 use thiserror::Error;
 
 /// A key with its value: one entry of a descriptor.
@@ -72,22 +73,29 @@ impl PartialOrd for Entry {
     }
 }
 
+/// Where the entries of a list lie: one entry in the value itself, so that it takes no memory of its own, or several apart.
+#[derive(Drop)]
+enum HeldEntries {
+    One(Entry),
+    Several(Vec<Entry>),
+}
+
 /// The entries of a descriptor: 1 to 32, in order, each with a key that isn't empty.
-#[derive(Clone, Drop)]
+#[derive(Drop)]
 pub struct Entries {
-    items: Vec<Entry>,
+    held: HeldEntries,
 }
 
 impl Model for Entries {
     ghost use Rattle.std.specs.Prelude.{◌≡◌, ℕ, ◌≤◌, List, Ok, length};
     ghost use Rattle.rate_types.specs.declared.entries.Entry.{Entry};
-    ghost use Rattle.rate_types.specs.Entries.{entries_of};
+    ghost use Rattle.rate_types.specs.Entries.{held_entries, entries_of};
 
     ghost Value = { List Entry };
 
-    ghost view = { λ e. e.items.items };
+    ghost view = { λ e. held_entries e.held };
 
-    ghost invariant = { λ e. entries_of e.items.items ≡ Ok e.items.items };
+    ghost invariant = { λ e. entries_of (held_entries e.held) ≡ Ok (held_entries e.held) };
 }
 
 /// Why a list isn't the entries of a descriptor. They are tried in this order.
@@ -122,8 +130,23 @@ impl Entries {
             Some(index) => Err(EntriesFault::EmptyKey {
                 index: index as u32,
             }),
-            None => Ok(Entries { items }),
+            None => Ok(Entries {
+                held: held_of(items),
+            }),
         }
+    }
+
+    /// The entries of a list of this one. It takes no memory.
+    #[tactic(auto, unfolding(crate::specs::Entries::entries_of))]
+    pub fn one(entry: Entry) -> Result<Entries, EntriesFault>
+        ensures { result ≡ entries_of (entry ∷ []) }
+    {
+        if entry.key.as_str().is_empty() {
+            return Err(EntriesFault::EmptyKey { index: 0 });
+        }
+        Ok(Entries {
+            held: HeldEntries::One(entry),
+        })
     }
 
     /// Equal entries.
@@ -140,7 +163,22 @@ impl Entries {
         ensures bounds { (1 ≤ length result.now) × (length result.now ≤ MOST_ENTRIES) }
         ensures lawful { entries_of result.now ≡ Ok result.now }
     {
-        &self.items
+        match &self.held {
+            HeldEntries::One(entry) => slice::from_ref(entry),
+            HeldEntries::Several(items) => items,
+        }
+    }
+}
+
+fn held_of(mut items: Vec<Entry>) -> HeldEntries
+    ensures { held_entries result ≡ items.items }
+{
+    if items.len() != 1 {
+        return HeldEntries::Several(items);
+    }
+    match items.pop() {
+        Some(entry) => HeldEntries::One(entry),
+        None => HeldEntries::Several(items),
     }
 }
 
@@ -151,13 +189,25 @@ fn first_empty_key(items: &[Entry]) -> Option<usize>
     items.iter().position(|entry| entry.key.as_str().is_empty())
 }
 
+impl Clone for Entries {
+    ghost is_clone = { λ entries copy. copy ≡ entries };
+
+    fn clone(&self) -> Result<Entries, AllocError> {
+        let held = match &self.held {
+            HeldEntries::One(entry) => HeldEntries::One(entry.clone()?),
+            HeldEntries::Several(items) => HeldEntries::Several(items.clone()?),
+        };
+        Ok(Entries { held })
+    }
+}
+
 impl PartialEq for Entries {
     ghost eq = { same_entries };
 
     ghost laws = { Prim.search (comparing, lists_ties, rules) depth 20 };
 
     fn eq(&self, other: &Entries) -> bool {
-        self.items.as_slice() == other.items.as_slice()
+        self.items() == other.items()
     }
 }
 
@@ -175,7 +225,7 @@ impl Ord for Entries {
     ghost matches_eq = { Prim.search (comparing, lists_ties, rules) depth 20 };
 
     fn cmp(&self, other: &Entries) -> Ordering {
-        self.items.as_slice().cmp(other.items.as_slice())
+        self.items().cmp(other.items())
     }
 }
 
@@ -208,6 +258,6 @@ impl Hash for Entries {
     ghost respects_eq = { entries_alike.fed };
 
     fn hash<H: Hasher>(&self, state: &mut H) {
-        self.items.as_slice().hash(state);
+        self.items().hash(state);
     }
 }

@@ -1,12 +1,12 @@
 // How a text is hashed: in words of eight bytes, since std hashes what doesn't fill one byte by byte.
-ghost use Rattle.std.specs.Prelude.{◌≡◌, slice_index_or};
+ghost use Rattle.std.specs.Prelude.{◌≡◌, ◌+◌, ◌≤◌, ◌<◌, length, slice_index_or};
 ghost use Rattle.std.specs.List.{fold};
-ghost use Rattle.rate_types.specs.Hashes.{first_word, last_word, rest_writes, text_writes};
+ghost use Rattle.rate_types.specs.Hashes.{short_word, word_at, long_writes, text_writes};
 
 use std::hash::Hasher;
 
-/// How many bytes of a text stand in its first word.
-const IN_FIRST_WORD: usize = 6;
+/// How many bytes a word has.
+const IN_WORD: usize = 8;
 
 /// A byte of a text, or 0 behind its end.
 fn byte_at(bytes: &[u8], index: usize) -> u8
@@ -18,28 +18,13 @@ fn byte_at(bytes: &[u8], index: usize) -> u8
     }
 }
 
-/// The length of a text in two bytes, and its first six.
-fn first_word(bytes: &[u8]) -> u64
-    ensures { result ≡ first_word bytes.now }
-{
-    let len = bytes.len();
-    u64::from_le_bytes([
-        (len % 256) as u8,
-        (len / 256 % 256) as u8,
-        byte_at(bytes, 0),
-        byte_at(bytes, 1),
-        byte_at(bytes, 2),
-        byte_at(bytes, 3),
-        byte_at(bytes, 4),
-        byte_at(bytes, 5),
-    ])
-}
-
-/// Less than eight bytes, and zeros behind them.
-fn last_word(bytes: &[u8]) -> u64
-    ensures { result ≡ last_word bytes.now }
+/// The number of a text's bytes, less than eight, and these bytes.
+fn short_word(bytes: &[u8]) -> u64
+    requires { length bytes.now < IN_WORD }
+    ensures { result ≡ short_word bytes.now }
 {
     u64::from_le_bytes([
+        bytes.len() as u8,
         byte_at(bytes, 0),
         byte_at(bytes, 1),
         byte_at(bytes, 2),
@@ -47,17 +32,36 @@ fn last_word(bytes: &[u8]) -> u64
         byte_at(bytes, 4),
         byte_at(bytes, 5),
         byte_at(bytes, 6),
-        0,
     ])
 }
 
-/// Hashes the bytes of a text behind its first word.
-fn hash_rest<H: Hasher>(bytes: &[u8], state: &mut H)
-    ensures { state.new ≡ fold H.write state.old (rest_writes bytes.now) }
+/// The eight bytes from an index on, the lowest first.
+fn word_at(bytes: &[u8], at: usize) -> u64
+    requires { at + IN_WORD ≤ length bytes.now }
+    ensures { result ≡ word_at bytes.now at }
 {
-    let (whole, last) = bytes.split_at(bytes.len() - bytes.len() % 8);
+    u64::from_le_bytes([
+        bytes[at],
+        bytes[at + 1],
+        bytes[at + 2],
+        bytes[at + 3],
+        bytes[at + 4],
+        bytes[at + 5],
+        bytes[at + 6],
+        bytes[at + 7],
+    ])
+}
+
+/// Hashes a text of eight bytes or more. Its last eight bytes are a word, some of which may stand in the word before as well.
+fn hash_long<H: Hasher>(bytes: &[u8], state: &mut H)
+    requires { IN_WORD ≤ length bytes.now }
+    ensures { state.new ≡ fold H.write state.old (long_writes bytes.now) }
+{
+    let len = bytes.len();
+    state.write_u64(len as u64);
+    let (whole, _) = bytes.split_at(len - len % IN_WORD);
     state.write(whole);
-    state.write_u64(last_word(last));
+    state.write_u64(word_at(bytes, len - IN_WORD));
 }
 
 /// Hashes the bytes of a text. Their number comes first, so that texts behind one another aren't hashed as others of the
@@ -65,8 +69,9 @@ fn hash_rest<H: Hasher>(bytes: &[u8], state: &mut H)
 pub(crate) fn hash_bytes<H: Hasher>(bytes: &[u8], state: &mut H)
     ensures { state.new ≡ fold H.write state.old (text_writes bytes.now) }
 {
-    state.write_u64(first_word(bytes));
-    if bytes.len() > IN_FIRST_WORD {
-        hash_rest(&bytes[IN_FIRST_WORD..], state);
+    if bytes.len() < IN_WORD {
+        state.write_u64(short_word(bytes));
+    } else {
+        hash_long(bytes, state);
     }
 }
