@@ -1,9 +1,16 @@
 -- What a request is made of, and when it is refused.
-use Rattle.std.specs.Prelude.{ℕ, max, ◌==◌, List, length, nat_lt, if◌then◌else◌, Result, Ok, Err}
+use Rattle.std.specs.Prelude.{ℕ, max, ◌==◌, List, [], ◌∷◌, length, nat_lt, if◌then◌else◌, Result, Ok, Err}
 use Rattle.rate_types.specs.declared.limits.TheConstants.{MOST_DESCRIPTORS}
 use Rattle.rate_types.specs.declared.request.Descriptor.{Descriptor}
+use Rattle.rate_types.specs.declared.request.HeldDescriptors.{HeldDescriptors}
+use Rattle.rate_types.specs.declared.request.HeldDescriptors.TheVariants.{One, Several}
 use Rattle.rate_types.specs.declared.request.RequestFault.{RequestFault}
 use Rattle.rate_types.specs.declared.request.RequestFault.TheVariants.{EmptyDomain, NoDescriptors, TooMany}
+
+-- Inside: the descriptors of a request, wherever they lie
+abbrev pub held_descriptors : HeldDescriptors → List Descriptor
+held_descriptors (One descriptor) = descriptor ∷ []
+held_descriptors (Several descriptors) = descriptors.items
 
 -- a domain, the descriptors in order, and the hits of those that have none of their own
 pub record RequestParts : Type 0 where

@@ -1,9 +1,10 @@
-ghost use Rattle.std.specs.Prelude.{◌≡◌, ◌≤◌, IfOk, length};
-ghost use Rattle.rate_types.specs.Requests.{request_of};
+ghost use Rattle.std.specs.Prelude.{◌≡◌, ◌≤◌, [], ◌∷◌, IfOk, length};
+ghost use Rattle.rate_types.specs.Requests.{held_descriptors, request_of};
 
 use crate::limits::MOST_DESCRIPTORS;
 use crate::{Entries, OutOfMemory, Text, Unit};
 use std::marker::Model;
+use std::slice;
 use thiserror::Error;
 
 /// A limit: so many hits in each window of a unit. A descriptor may carry one of its own (Envoy's
@@ -38,29 +39,36 @@ pub enum RequestFault {
     TooMany { count: u64 },
 }
 
+/// Where the descriptors of a request lie: one descriptor in the value itself, so that it takes no memory of its own, or several
+/// apart.
+#[derive(Drop)]
+enum HeldDescriptors {
+    One(Descriptor),
+    Several(Vec<Descriptor>),
+}
+
 /// A request (Envoy's `RateLimitRequest`): a domain that isn't empty, 1 to 32 descriptors, and hits of at least 1.
 #[derive(Drop)]
 pub struct Request {
     domain: Text,
-    descriptors: Vec<Descriptor>,
+    held: HeldDescriptors,
     hits: u32,
 }
 
 impl Model for Request {
     ghost use Rattle.std.specs.Prelude.{◌≡◌, Ok};
-    ghost use Rattle.rate_types.specs.Requests.{RequestParts, request_of};
+    ghost use Rattle.rate_types.specs.Requests.{RequestParts, held_descriptors, request_of};
 
     ghost Value = { RequestParts };
 
-    ghost view = { λ r. record { domain = r.domain; descriptors = r.descriptors.items; hits = r.hits } };
+    ghost view = { λ r. record { domain = r.domain; descriptors = held_descriptors r.held; hits = r.hits } };
 
-    ghost invariant = { λ r. request_of r.domain r.descriptors.items r.hits
-        ≡ Ok (record { domain = r.domain; descriptors = r.descriptors.items; hits = r.hits }) };
+    ghost invariant = { λ r. request_of r.domain (held_descriptors r.held) r.hits
+        ≡ Ok (record { domain = r.domain; descriptors = held_descriptors r.held; hits = r.hits }) };
 }
 
 impl Request {
     /// The request of these parts; hits of 0 count as 1. It takes no memory.
-    #[tactic(auto, unfolding(crate::specs::Requests::request_of))]
     pub fn build(
         domain: Text,
         descriptors: Vec<Descriptor>,
@@ -68,22 +76,14 @@ impl Request {
     ) -> Result<Request, RequestFault>
         ensures { result ≡ request_of domain descriptors.items hits }
     {
-        if domain.as_str().is_empty() {
-            return Err(RequestFault::EmptyDomain);
-        }
-        if descriptors.is_empty() {
-            return Err(RequestFault::NoDescriptors);
-        }
-        if descriptors.len() > MOST_DESCRIPTORS {
-            return Err(RequestFault::TooMany {
-                count: descriptors.len() as u64,
-            });
-        }
-        Ok(Request {
-            domain,
-            descriptors,
-            hits: hits.max(1),
-        })
+        of_held(domain, held_of(descriptors), hits)
+    }
+
+    /// The request of one descriptor; hits of 0 count as 1. It takes no memory.
+    pub fn one(domain: Text, descriptor: Descriptor, hits: u32) -> Result<Request, RequestFault>
+        ensures { result ≡ request_of domain (descriptor ∷ []) hits }
+    {
+        of_held(domain, HeldDescriptors::One(descriptor), hits)
     }
 
     /// The domain, which isn't empty.
@@ -101,7 +101,7 @@ impl Request {
         ensures all { result.now ≡ self.now.descriptors }
         ensures bounds { (1 ≤ length result.now) × (length result.now ≤ MOST_DESCRIPTORS) }
     {
-        &self.descriptors
+        items_of(&self.held)
     }
 
     /// The hits of each descriptor that has none of its own, at least 1.
@@ -111,5 +111,49 @@ impl Request {
         ensures bounds { 1 ≤ result }
     {
         self.hits
+    }
+}
+
+fn items_of(held: &HeldDescriptors) -> &[Descriptor]
+    ensures { result.now ≡ held_descriptors held.now }
+{
+    match held {
+        HeldDescriptors::One(descriptor) => slice::from_ref(descriptor),
+        HeldDescriptors::Several(descriptors) => descriptors,
+    }
+}
+
+#[tactic(auto, unfolding(crate::specs::Requests::request_of))]
+fn of_held(domain: Text, held: HeldDescriptors, hits: u32) -> Result<Request, RequestFault>
+    ensures { result ≡ request_of domain (held_descriptors held) hits }
+{
+    let count = items_of(&held).len();
+    if domain.as_str().is_empty() {
+        return Err(RequestFault::EmptyDomain);
+    }
+    if count == 0 {
+        return Err(RequestFault::NoDescriptors);
+    }
+    if count > MOST_DESCRIPTORS {
+        return Err(RequestFault::TooMany {
+            count: count as u64,
+        });
+    }
+    Ok(Request {
+        domain,
+        held,
+        hits: hits.max(1),
+    })
+}
+
+fn held_of(mut descriptors: Vec<Descriptor>) -> HeldDescriptors
+    ensures { held_descriptors result ≡ descriptors.items }
+{
+    if descriptors.len() != 1 {
+        return HeldDescriptors::Several(descriptors);
+    }
+    match descriptors.pop() {
+        Some(descriptor) => HeldDescriptors::One(descriptor),
+        None => HeldDescriptors::Several(descriptors),
     }
 }
