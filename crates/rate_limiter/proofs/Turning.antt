@@ -21,7 +21,7 @@ use Rattle.counter_directory.specs.declared.acquired.AcquireFault.{AcquireFault}
 use Rattle.counter_directory.specs.declared.acquired.AcquireFault.TheVariants.{OutOfMemory, ClaimsSpent, CountersFull}
 use Rattle.counter_directory.specs.Claims.{claims_of}
 use Rattle.counter_directory.specs.Keys.{keys_at, key_count}
-use Rattle.counter_directory.specs.Spots.{Bound, pinned_on, LeavesAllButPins}
+use Rattle.counter_directory.specs.Spots.{Bound, pinned_on}
 use Rattle.counter_directory.specs.Answered.{answered}
 use Rattle.counter_directory.specs.Acquired.{Bounds, ClaimTableView, HasTicked, PinsAfterMisses, HasBound, IsWanted, AreHeld}
 use Rattle.counter_directory.specs.Turns.{Turned}
@@ -30,7 +30,7 @@ use Rattle.rate_limiter.specs.PassStep.{HasClaimed}
 use Rattle.rate_limiter.specs.Pinned.{HasWaited, HasPins, HasNoPins}
 use Rattle.window_keys.proofs.Counters.{is_same}
 use Rattle.rate_limiter.proofs.Meeting.{never_ticked}
-use Rattle.rate_limiter.proofs.Knowing.{grow_self, grow_then, claimed_prefix}
+use Rattle.rate_limiter.proofs.Knowing.{grow_self, grow_then}
 use Rattle.rate_limiter.proofs.Readying.{all_cons}
 use Rattle.rate_limiter.proofs.Claiming.{lawful_once}
 use Rattle.rate_limiter.proofs.Lists.{total_at, total_more, prefix_self, parts}
@@ -300,30 +300,3 @@ turned_others b names (Ok a) v w t u h =
 turned_others b names (Err OutOfMemory) v w t u h = ticked_others v w h.did.0
 turned_others b names (Err (ClaimsSpent claims wanted)) v w t u h = ticked_others v w h.did.0
 turned_others b names (Err (CountersFull moment live held wanted)) v w t u h = ticked_others v w h.did.0
-
--- ---- notes that found no memory
-
--- the pins of a turn were given back
-no_pins_noted : (b : Bounds) (names : List CounterName) (spots : List Spot) (v w x : CellView) (t u : KnownClaims) → HasPins names spots v w t u
-    → LeavesAllButPins w x → x.good ≡ [] → HasNoPins b names OutOfMemory v x t u
-no_pins_noted b names spots v w x t u h rest bare =
-    let moment : x.moment ≡ w.moment = ap (λ (y : CellView). y.moment) rest in
-    record {
-      waited = waited_stands v w x h.waited (record {
-        number = ap number_of rest;
-        looks = ap (λ (y : CellView). y.looks) rest;
-        charges = ap (λ (y : CellView). y.charges) rest;
-        ticks = ap (λ (y : CellView). y.ticks) rest;
-        moment = moment;
-      });
-      bare = bare;
-      knew = claimed_prefix (keys_at w.moment names) w.moment t u h.claimed;
-      own = subst (λ n. HasClaimed (keys_at n names) n t u) (sym moment) h.claimed;
-      cause = tt;
-    }
-
-pub refused_noting : (b : Bounds) (names : List CounterName) (spots : List Spot) (v w x : CellView) (t u : KnownClaims) (r : Result (Unit {0}) AcquireFault)
-    → HasPins names spots v w t u → LeavesAllButPins w x → OnErr r (x.good ≡ []) → IfErr r (λ fault. fault ≡ OutOfMemory) → IfErr r (λ fault. HasNoPins b names fault v x t u)
-refused_noting b names spots v w x t u (Ok y) h rest bare is = tt
-refused_noting b names spots v w x t u (Err fault) h rest bare is =
-    subst (λ (f : AcquireFault). HasNoPins b names f v x t u) (sym is) (no_pins_noted b names spots v w x t u h rest bare)

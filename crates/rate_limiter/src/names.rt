@@ -1,5 +1,5 @@
 // The names of the counters that a request asks for.
-ghost use Rattle.std.specs.Prelude.{◌≡◌, ◌≤◌, ◌++◌, length, IfOk, OnOk};
+ghost use Rattle.std.specs.Prelude.{◌≡◌, ◌≤◌, ◌++◌, [], ◌∷◌, length, IfOk, OnOk, IfSome};
 ghost use Rattle.rate_limiter.specs.Planned.{name_under, names_under};
 
 use counter_directory::SoughtName;
@@ -41,4 +41,22 @@ pub(crate) fn names_of<'a>(
         add_name(&mut names, request, &descriptors[place], rules[place])?;
     }
     Ok(names)
+}
+
+/// The name of the counter of a request with one descriptor, where that has a limit. Its parts are those of the request.
+pub(crate) fn one_name<'a>(
+    request: &'a Request,
+    descriptors: &'a [Descriptor],
+    rules: &[Found],
+) -> Option<SoughtName<'a>>
+    ensures names { IfSome result (λ name. name ∷ [] ≡ names_under request.now descriptors.now rules.now) }
+{
+    match (descriptors, rules) {
+        ([descriptor], [Found::Limited { unit, .. }]) => Some(SoughtName::new(
+            request.domain(),
+            &descriptor.entries,
+            *unit,
+        )),
+        _ => None,
+    }
 }

@@ -6,7 +6,7 @@ use crate::Limiter;
 use crate::hold::Hold;
 use crate::known::note_pinned;
 use crate::known_counters::KnownCounters;
-use crate::names::names_of;
+use crate::names::{names_of, one_name};
 use crate::sought::pin_known;
 use arrayvec::ArrayVec;
 use counter_cells::{CellNaming, CellPass, Spot};
@@ -26,7 +26,7 @@ impl<N: CellNaming> Limiter<N> {
     ghost use Rattle.counter_directory.specs.Spots.{spots_on};
     ghost use Rattle.rate_limiter.specs.Passes.{bounds_of};
     ghost use Rattle.rate_limiter.specs.Known.{AreBoundEntries, AreSeenEntries, AreClaimedOnce, PinsGrow, pins_under};
-    ghost use Rattle.rate_limiter.specs.Sought.{AreSeenAt, KnowsUnder};
+    ghost use Rattle.rate_limiter.specs.Sought.{AreNoted, AreSeenAt, KnowsUnder};
     ghost use Rattle.rate_limiter.specs.Planned.{names_under};
     ghost use Rattle.rate_limiter.specs.Pinned.{HasPins, HasNoPins};
     ghost use Rattle.rate_limiter.specs.SeenOver.{AreSeenOver, AreKnownOver, WhenPinned, WhenOver};
@@ -63,6 +63,95 @@ impl<N: CellNaming> Limiter<N> {
             self.directory
                 .acquire(rt, claims, &self.cells, cell_pass, names, acquired)
         }
+    }
+
+    // Pins the counters of the names and notes them, so that the pass knows each then.
+    fn pin_and_note<R: Wait>(
+        &self,
+        rt: &R,
+        claims: &mut DirectoryPass<N>,
+        cell_pass: &mut CellPass<N>,
+        known: &mut KnownCounters,
+        names: &[SoughtName<'_>],
+        acquired: &mut Acquired,
+    ) -> Result<(), AcquireFault>
+        requires pass { list_of claims.old ≡ self.now.id.claims }
+        requires bare { cell_pass.old.good ≡ [] }
+        requires few { length names.now ≤ MOST_PINS }
+        requires known { AreBoundEntries N.setup.cells (knows claims.old).known cell_pass.old.pairs known.old }
+        requires seen { AreSeenEntries cell_pass.old known.old }
+        requires once { AreClaimedOnce (knows claims.old).known }
+        ensures pass { list_of claims.new ≡ self.now.id.claims }
+        ensures known { AreBoundEntries N.setup.cells (knows claims.new).known cell_pass.new.pairs known.new }
+        ensures seen { AreSeenEntries cell_pass.new known.new }
+        ensures once { AreClaimedOnce (knows claims.new).known }
+        ensures looks { cell_pass.new.looks ≡ cell_pass.old.looks }
+        ensures others { length cell_pass.old.others ≤ length cell_pass.new.others }
+        ensures noted { OnOk result (AreNoted names.now cell_pass.new.moment known.new) }
+        ensures within { OnOk result (All (λ s. s.cell < N.setup.cells) acquired.new.spots.items) }
+        ensures pins { OnOk result ((cell : ℕ) → good_on cell cell_pass.new ≡ spots_on cell acquired.new.spots.items) }
+        ensures pinned { OnOk result
+            (HasPins names.now acquired.new.spots.items cell_pass.old cell_pass.new (knows claims.old) (knows claims.new)) }
+        ensures refused { IfErr result (λ f. HasNoPins (bounds_of N.setup.cells self.now) names.now f cell_pass.old cell_pass.new
+            (knows claims.old) (knows claims.new)) }
+    {
+        match self.pin_names(rt, claims, cell_pass, names, acquired) {
+            Err(fault) => Err(fault),
+            Ok(()) => note_pinned(
+                &self.cells,
+                claims,
+                known,
+                names,
+                acquired.spots.as_slice(),
+                cell_pass,
+            ),
+        }
+    }
+
+    // Pins the counters of the descriptors that have a limit by the directory, and notes them. The name of a counter that is alone needs
+    // no memory.
+    fn pin_asked<R: Wait>(
+        &self,
+        rt: &R,
+        alloc: Global,
+        claims: &mut DirectoryPass<N>,
+        cell_pass: &mut CellPass<N>,
+        known: &mut KnownCounters,
+        request: &Request,
+        descriptors: &[Descriptor],
+        rules: &[Found],
+        acquired: &mut Acquired,
+    ) -> Result<(), AcquireFault>
+        requires pass { list_of claims.old ≡ self.now.id.claims }
+        requires bare { cell_pass.old.good ≡ [] }
+        requires few { length descriptors.now ≤ MOST_DESCRIPTORS }
+        requires rules { length rules.now ≡ length descriptors.now }
+        requires known { AreBoundEntries N.setup.cells (knows claims.old).known cell_pass.old.pairs known.old }
+        requires seen { AreSeenEntries cell_pass.old known.old }
+        requires once { AreClaimedOnce (knows claims.old).known }
+        ensures pass { list_of claims.new ≡ self.now.id.claims }
+        ensures known { AreBoundEntries N.setup.cells (knows claims.new).known cell_pass.new.pairs known.new }
+        ensures seen { AreSeenEntries cell_pass.new known.new }
+        ensures once { AreClaimedOnce (knows claims.new).known }
+        ensures looks { cell_pass.new.looks ≡ cell_pass.old.looks }
+        ensures others { length cell_pass.old.others ≤ length cell_pass.new.others }
+        ensures noted { OnOk result
+            (AreNoted (names_under request.now descriptors.now rules.now) cell_pass.new.moment known.new) }
+        ensures within { OnOk result (All (λ s. s.cell < N.setup.cells) acquired.new.spots.items) }
+        ensures pins { OnOk result ((cell : ℕ) → good_on cell cell_pass.new ≡ spots_on cell acquired.new.spots.items) }
+        ensures pinned { OnOk result (HasPins (names_under request.now descriptors.now rules.now) acquired.new.spots.items
+            cell_pass.old cell_pass.new (knows claims.old) (knows claims.new)) }
+        ensures refused { IfErr result (λ f. HasNoPins (bounds_of N.setup.cells self.now)
+            (names_under request.now descriptors.now rules.now) f cell_pass.old cell_pass.new (knows claims.old) (knows claims.new)) }
+    {
+        if let Some(name) = one_name(request, descriptors, rules) {
+            let names = [name];
+            return self.pin_and_note(rt, claims, cell_pass, known, &names, acquired);
+        }
+        let Ok(names) = names_of(alloc, request, descriptors, rules) else {
+            return Err(AcquireFault::OutOfMemory);
+        };
+        self.pin_and_note(rt, claims, cell_pass, known, names.as_slice(), acquired)
     }
 
     // Pins the counters of the descriptors that have a limit on the spots of `acquired`: without a turn at the directory where the pass
@@ -128,22 +217,19 @@ impl<N: CellNaming> Limiter<N> {
             return Ok(hold);
         }
         seen.clear();
-        let Ok(names) = names_of(alloc, request, descriptors, rules) else {
-            return Err(AcquireFault::OutOfMemory);
-        };
-        match self.pin_names(rt, claims, cell_pass, names.as_slice(), acquired) {
+        match self.pin_asked(
+            rt,
+            alloc,
+            claims,
+            cell_pass,
+            known,
+            request,
+            descriptors,
+            rules,
+            acquired,
+        ) {
             Err(fault) => Err(fault),
-            Ok(()) => {
-                note_pinned(
-                    &self.cells,
-                    claims,
-                    known,
-                    names.as_slice(),
-                    acquired.spots.as_slice(),
-                    cell_pass,
-                )?;
-                Ok(Hold::Pinned)
-            }
+            Ok(()) => Ok(Hold::Pinned),
         }
     }
 }
