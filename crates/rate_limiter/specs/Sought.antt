@@ -1,5 +1,5 @@
 -- Inside: what a pass knows of the counters of a request, before they are pinned.
-use Rattle.std.specs.Prelude.{◌≡◌, ℕ, ◌≤◌, ◌<◌, List, length, Option, Some, None, IsSome}
+use Rattle.std.specs.Prelude.{◌≡◌, ℕ, ◌≤◌, ◌<◌, List, [], ◌∷◌, length, Option, Some, None, IsSome}
 use Rattle.std.specs.List.{AllByRecursion}
 use mathlib.Core.Option.{some}
 use lib.ListN.{get_elem?}
@@ -75,6 +75,11 @@ KnowsUnder n request moment entries ds fs = (i : ℕ) (d : Descriptor) (f : Foun
 -- the counters of the names are known, at the moment
 abbrev pub AreNoted : List CounterName → ℕ → Entries → Type 0
 AreNoted names moment entries = (i : ℕ) (name : CounterName) → get_elem? names i ≡ some name → IsSome (spot_of (key_at moment name) entries)
+
+-- where there is one name, the value is the one that is known of its counter
+abbrev pub IsSeenAlone : List Claim → List CounterName → ℕ → Entries → ℕ → Type 0
+IsSeenAlone claims names moment entries seen =
+    (name : CounterName) → names ≡ name ∷ [] → IsSeenOf claims entries (key_at moment name) seen
 
 -- the counter of the descriptor isn't known
 pub record IsUnknownAt (request : RequestParts) (moment : ℕ) (entries : Entries) (d : Descriptor) (found : Found) : Type 0 where

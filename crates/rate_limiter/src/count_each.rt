@@ -15,9 +15,8 @@ ghost use Rattle.rate_limiter.specs.Planned.{DoneEach, IsReady, AreBoundAt, AreV
 
 use crate::count_one::count_one;
 use crate::emptied::empty;
-use crate::known_counters::KnownCounters;
+use crate::known_counters::{KnownCounters, seen_of};
 use crate::planned::Planned;
-use crate::sought::seen_of;
 use arrayvec::ArrayVec;
 use counter_cells::{CellNaming, CellPass, Cells, Spot};
 use counter_directory::{DirectoryPass, give_back};

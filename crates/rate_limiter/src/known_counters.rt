@@ -1,6 +1,6 @@
 ghost use Rattle.std.specs.Prelude.{◌≡◌};
 ghost use Rattle.rate_types.specs.declared.counter_key.CounterKey.{CounterKey};
-ghost use Rattle.rate_limiter.specs.Known.{counter_named, key_of};
+ghost use Rattle.rate_limiter.specs.Known.{counter_named, key_of, seen_in};
 
 use counter_cells::Spot;
 use over_cache::{Known, OverCache};
@@ -36,13 +36,23 @@ fn write_counter(domain: &Text, entries: &Entries, unit: Unit, moment: Seconds, 
     write_key(domain, entries, unit, start(unit, moment), key);
 }
 
+/// The value of what is known, or 0.
+pub(crate) fn seen_of(known: Option<Known>) -> u64
+    ensures { result ≡ seen_in known }
+{
+    match known {
+        Some(known) => known.seen,
+        None => 0,
+    }
+}
+
 impl KnownCounters {
     ghost use Rattle.std.specs.Prelude.{◌≡◌, ℕ, List, [], false, Some, is_some, IfOk, OnOk, OnErr};
     ghost use Rattle.std.specs.Bool.{IsTrue};
     ghost use Rattle.rate_types.specs.declared.counter_key.CounterKey.{CounterKey};
     ghost use Rattle.over_cache.specs.Entries.{is_key, known_of, asked, noted};
     ghost use Rattle.over_cache.specs.declared.known.Known.{Known as KnownValue};
-    ghost use Rattle.rate_limiter.specs.Known.{counter_named, key_of};
+    ghost use Rattle.rate_limiter.specs.Known.{counter_named, key_of, seen_in};
 
     /// Nothing is known. The hashes of the keys go by `seed`, so that nobody can choose names that collide.
     pub(crate) fn make(alloc: Global, seed: RandomState) -> Result<KnownCounters, OutOfMemory>
@@ -70,7 +80,8 @@ impl KnownCounters {
         self.counters.known(self.key.as_slice())
     }
 
-    /// Notes the spot of the counter in the window of the moment. What was seen there under an equal claim stays known.
+    /// Notes the spot of the counter in the window of the moment, and answers the value that is known there then. What was seen there
+    /// under an equal claim stays known.
     pub(crate) fn note(
         &mut self,
         domain: &Text,
@@ -78,16 +89,21 @@ impl KnownCounters {
         unit: Unit,
         moment: Seconds,
         spot: Spot,
-    ) -> Result<(), OutOfMemory>
+    ) -> Result<u64, OutOfMemory>
         ensures noted { OnOk result
             (self.new ≡ noted (key_of (counter_named domain.now entries.now unit moment)) spot 0 self.old) }
         ensures refused { OnErr result (self.new ≡ self.old) }
         ensures others { OnOk result ((other : List ℕ) (known : KnownValue)
             → is_key other (key_of (counter_named domain.now entries.now unit moment)) ≡ false
             → known_of other self.new ≡ Some known → known_of other self.old ≡ Some known) }
+        ensures value { IfOk result
+            (λ seen. seen_in (known_of (key_of (counter_named domain.now entries.now unit moment)) self.new) ≡ seen) }
+        ensures alone { (q : CounterKey) → key_of q ≡ key_of (counter_named domain.now entries.now unit moment)
+            → q ≡ counter_named domain.now entries.now unit moment }
     {
         write_counter(domain, entries, unit, moment, &mut self.key);
-        self.counters.note(self.key.as_slice(), spot, 0)
+        self.counters.note(self.key.as_slice(), spot, 0)?;
+        Ok(seen_of(self.counters.known(self.key.as_slice())))
     }
 
     /// Notes a value of the counter in the window of the moment, where the counter is known. Else nothing changes. It takes no

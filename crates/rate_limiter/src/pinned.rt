@@ -1,5 +1,5 @@
 // The counters of a check are pinned.
-ghost use Rattle.std.specs.Prelude.{◌≡◌};
+ghost use Rattle.std.specs.Prelude.{◌≡◌, ◌==◌, [], ◌∷◌, if◌then◌else◌, length};
 ghost use Rattle.rate_limiter.specs.Pinned.{fault_of, refused_after};
 
 use crate::Limiter;
@@ -26,7 +26,7 @@ impl<N: CellNaming> Limiter<N> {
     ghost use Rattle.counter_directory.specs.Spots.{spots_on};
     ghost use Rattle.rate_limiter.specs.Passes.{bounds_of};
     ghost use Rattle.rate_limiter.specs.Known.{AreBoundEntries, AreSeenEntries, AreClaimedOnce, PinsGrow, pins_under};
-    ghost use Rattle.rate_limiter.specs.Sought.{AreNoted, AreSeenAt, KnowsUnder};
+    ghost use Rattle.rate_limiter.specs.Sought.{AreNoted, AreSeenAt, IsSeenAlone, KnowsUnder};
     ghost use Rattle.rate_limiter.specs.Planned.{names_under};
     ghost use Rattle.rate_limiter.specs.Pinned.{HasPins, HasNoPins};
     ghost use Rattle.rate_limiter.specs.SeenOver.{AreSeenOver, AreKnownOver, WhenPinned, WhenOver};
@@ -65,7 +65,7 @@ impl<N: CellNaming> Limiter<N> {
         }
     }
 
-    // Pins the counters of the names and notes them, so that the pass knows each then.
+    // Pins the counters of the names and notes them, so that the pass knows each then. It answers the value that is known of the last.
     fn pin_and_note<R: Wait>(
         &self,
         rt: &R,
@@ -74,7 +74,7 @@ impl<N: CellNaming> Limiter<N> {
         known: &mut KnownCounters,
         names: &[SoughtName<'_>],
         acquired: &mut Acquired,
-    ) -> Result<(), AcquireFault>
+    ) -> Result<u64, AcquireFault>
         requires pass { list_of claims.old ≡ self.now.id.claims }
         requires bare { cell_pass.old.good ≡ [] }
         requires few { length names.now ≤ MOST_PINS }
@@ -88,6 +88,8 @@ impl<N: CellNaming> Limiter<N> {
         ensures looks { cell_pass.new.looks ≡ cell_pass.old.looks }
         ensures others { length cell_pass.old.others ≤ length cell_pass.new.others }
         ensures noted { OnOk result (AreNoted names.now cell_pass.new.moment known.new) }
+        ensures alone { IfOk result
+            (λ seen. IsSeenAlone (knows claims.new).known names.now cell_pass.new.moment known.new seen) }
         ensures within { OnOk result (All (λ s. s.cell < N.setup.cells) acquired.new.spots.items) }
         ensures pins { OnOk result ((cell : ℕ) → good_on cell cell_pass.new ≡ spots_on cell acquired.new.spots.items) }
         ensures pinned { OnOk result
@@ -109,7 +111,7 @@ impl<N: CellNaming> Limiter<N> {
     }
 
     // Pins the counters of the descriptors that have a limit by the directory, and notes them. The name of a counter that is alone needs
-    // no memory.
+    // no memory. It answers the value that is known of the last counter.
     fn pin_asked<R: Wait>(
         &self,
         rt: &R,
@@ -121,7 +123,7 @@ impl<N: CellNaming> Limiter<N> {
         descriptors: &[Descriptor],
         rules: &[Found],
         acquired: &mut Acquired,
-    ) -> Result<(), AcquireFault>
+    ) -> Result<u64, AcquireFault>
         requires pass { list_of claims.old ≡ self.now.id.claims }
         requires bare { cell_pass.old.good ≡ [] }
         requires few { length descriptors.now ≤ MOST_DESCRIPTORS }
@@ -137,6 +139,8 @@ impl<N: CellNaming> Limiter<N> {
         ensures others { length cell_pass.old.others ≤ length cell_pass.new.others }
         ensures noted { OnOk result
             (AreNoted (names_under request.now descriptors.now rules.now) cell_pass.new.moment known.new) }
+        ensures alone { IfOk result (λ seen. IsSeenAlone (knows claims.new).known
+            (names_under request.now descriptors.now rules.now) cell_pass.new.moment known.new seen) }
         ensures within { OnOk result (All (λ s. s.cell < N.setup.cells) acquired.new.spots.items) }
         ensures pins { OnOk result ((cell : ℕ) → good_on cell cell_pass.new ≡ spots_on cell acquired.new.spots.items) }
         ensures pinned { OnOk result (HasPins (names_under request.now descriptors.now rules.now) acquired.new.spots.items
@@ -155,8 +159,9 @@ impl<N: CellNaming> Limiter<N> {
     }
 
     // Pins the counters of the descriptors that have a limit on the spots of `acquired`: without a turn at the directory where the pass
-    // knows each and its cell is the counter's still. Then `seen` is the greatest value that the pass has seen of each; else it is
-    // empty, and the pass knows each now. Nothing is pinned where what the pass has seen leaves nothing to count.
+    // knows each and its cell is the counter's still. Then `seen` is the greatest value that the pass has seen of each; else the pass
+    // knows each now, and `seen` is the value that is known of a descriptor that is alone, or empty. Nothing is pinned where what the
+    // pass has seen leaves nothing to count.
     pub(crate) fn pin_counters<R: Wait>(
         &self,
         rt: &R,
@@ -216,7 +221,6 @@ impl<N: CellNaming> Limiter<N> {
         ) {
             return Ok(hold);
         }
-        seen.clear();
         match self.pin_asked(
             rt,
             alloc,
@@ -229,8 +233,21 @@ impl<N: CellNaming> Limiter<N> {
             acquired,
         ) {
             Err(fault) => Err(fault),
-            Ok(()) => Ok(Hold::Pinned),
+            Ok(value) => {
+                keep_alone(descriptors, value, seen);
+                Ok(Hold::Pinned)
+            }
         }
+    }
+}
+
+// Keeps the value of a descriptor that is alone, and no value of several.
+fn keep_alone(descriptors: &[Descriptor], value: u64, seen: &mut ArrayVec<u64, MOST_DESCRIPTORS>)
+    ensures { seen.new.items ≡ (if length descriptors.now == 1 then value ∷ [] else []) }
+{
+    seen.clear();
+    if descriptors.len() == 1 {
+        seen.push(value);
     }
 }
 

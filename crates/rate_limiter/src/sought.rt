@@ -17,7 +17,7 @@ ghost use Rattle.rate_limiter.specs.Sought.{IsUnknownAt, IsFirstUnknown, HasMiss
 
 use crate::emptied::empty;
 use crate::hold::Hold;
-use crate::known_counters::KnownCounters;
+use crate::known_counters::{KnownCounters, seen_of};
 use crate::missed::Missed;
 use crate::seen_over::is_seen_over;
 use arrayvec::ArrayVec;
@@ -91,16 +91,6 @@ fn spot_of(known: Option<Known>) -> Option<Spot>
     match known {
         Some(known) => Some(known.spot),
         None => None,
-    }
-}
-
-/// The value of what is known, or 0.
-pub(crate) fn seen_of(known: Option<Known>) -> u64
-    ensures { result ≡ seen_in known }
-{
-    match known {
-        Some(known) => known.seen,
-        None => 0,
     }
 }
 

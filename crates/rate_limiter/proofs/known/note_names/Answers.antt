@@ -6,10 +6,11 @@ use Rattle.rate_types.specs.declared.counter_name.CounterName.{CounterName}
 use Rattle.counter_directory.specs.Keys.{key_at, keys_at}
 use Rattle.counter_directory.specs.Spots.{Bound}
 use Rattle.rate_limiter.specs.Known.{key_of}
-use Rattle.rate_limiter.proofs.Knowing.{note_bound, note_seen, map_at, no_spot}
+use Rattle.rate_limiter.proofs.Knowing.{note_bound, note_seen, map_at, no_spot, entry_bound}
 use Rattle.over_cache.specs.Entries.{noted}
-use Rattle.rate_limiter.specs.Known.{AreSeenEntries}
-use Rattle.rate_limiter.proofs.Noting.{within_next, noted_all_names}
+use Rattle.rate_limiter.specs.Known.{AreBoundEntries, AreSeenEntries}
+use Rattle.rate_limiter.specs.Sought.{IsSeenOf}
+use Rattle.rate_limiter.proofs.Noting.{within_next, noted_all_names, seen_next}
 use Rattle.rate_limiter.proofs.Totalling.{item_at}
 use Rattle.rate_limiter.proofs.known.note_names.Goals as goal
 
@@ -34,22 +35,36 @@ names-preserved g c =
     let at : get_elem? (keys_at m names) i ≡ some q
     = map_at (key_at m) names i found within ∙ ap (λ (n : CounterName). some (key_at m n)) (sym c.index-names-place.is ∙ sym is) in
     let s = get_or spots i no_spot in
+    let new = c.note.new.self in
+    let known : AreBoundEntries cells claims v.pairs new
+    = note_bound cells claims v.pairs q s (key_of q) c.names.known new c.note.result c.note.ensures.noted c.note.ensures.refused refl (record {
+      there = c.requires.within i no_spot there;
+      bound = subst (λ n. Bound claims (keys_at n names) spots) (sym c.moment-moment.ensures) c.requires.bound i q s at (item_at spots i no_spot there);
+      had = c.requires.had i no_spot there;
+    }) c.names.invariant.known in
+    let here : get_elem? names i ≡ some name = item_at names i found within ∙ ap (λ (n : CounterName). some n) (sym c.index-names-place.is ∙ sym is) in
     record {
-      known = note_bound cells claims v.pairs q s (key_of q) c.names.known c.note.new.self c.note.result c.note.ensures.noted c.note.ensures.refused refl (record {
-        there = c.requires.within i no_spot there;
-        bound = subst (λ n. Bound claims (keys_at n names) spots) (sym c.moment-moment.ensures) c.requires.bound i q s at (item_at spots i no_spot there);
-        had = c.requires.had i no_spot there;
-      }) c.names.invariant.known;
+      known = known;
       seen = λ w h.
           note_seen w (key_of q) s c.names.known c.note.new.self c.note.result c.note.ensures.noted c.note.ensures.refused c.note.ensures.others
           (c.names.invariant.seen w h);
-      noted = within_next names i v.moment name s c.names.known c.note.new.self (item_at names i found within ∙ ap (λ (n : CounterName). some n) (sym c.index-names-place.is ∙ sym is))
+      noted = within_next names i v.moment name s c.names.known c.note.new.self here
           (omega (arith, c.requires.few))
-          (subst (λ k. c.note.new.self ≡ noted (key_of (key_at k name)) s 0 c.names.known) c.moment-moment.ensures c.in_ok-note.ensures.noted) c.names.invariant.noted _ (omega arith);
+          (subst (λ k. c.note.new.self ≡ noted (key_of (key_at k name)) s 0 c.names.known) c.moment-moment.ensures c.in_ok-seen.ensures.noted) c.names.invariant.noted _ (omega arith);
+      alone = λ _. seen_next claims names i v.moment name new c.in_ok-seen.seen here
+          (subst (λ k. IsSeenOf claims new (key_at k name) c.in_ok-seen.seen) c.moment-moment.ensures (record {
+            value = c.in_ok-seen.ensures.value;
+            bound = λ k e. (entry_bound cells claims v.pairs q (key_of q) c.note.ensures.alone new known k e).bound;
+          }));
     }
 
-pub returns-in_err-note-clause-seen : goal.returns-in_err-note-clause-seen
-returns-in_err-note-clause-seen g c = λ w h. subst (AreSeenEntries w) (sym c.in_err-note.ensures.refused) (c.names.invariant.seen w h)
+pub returns-in_err-seen-clause-seen : goal.returns-in_err-seen-clause-seen
+returns-in_err-seen-clause-seen g c = λ w h. subst (AreSeenEntries w) (sym c.in_err-seen.ensures.refused) (c.names.invariant.seen w h)
 
 pub returns-clause-noted : goal.returns-clause-noted
 returns-clause-noted g c = noted_all_names c.args.names.now c.names.place c.args.cell_pass.now.moment c.names.known (omega arith) c.names.invariant.noted
+
+pub returns-clause-alone : goal.returns-clause-alone
+returns-clause-alone g c = λ name one.
+    let many = ap length one in
+    c.names.invariant.alone (omega (arith, many)) name one

@@ -1,7 +1,5 @@
-use Rattle.std.proofs.Common.{◌≡◌, ◌∙◌, ◌<◌, ℕ, [], List, length, refl, sym, subst, ap, arith, rules}
+use Rattle.std.proofs.Common.{◌≡◌, ◌∙◌, ◌<◌, [], length, refl, sym, subst, ap, arith, rules}
 use Rattle.std.specs.Prelude.{Ok}
-use mathlib.Core.Option.{some, some-ne-none}
-use lib.ListN.{get_elem?}
 use Rattle.counter_directory.specs.Passes.{knows}
 use Rattle.counter_cells.specs.declared.view.CellView.{CellView}
 use Rattle.rate_limiter.specs.declared.hold.Hold.TheVariants.{SeenOver}
@@ -10,7 +8,7 @@ use Rattle.rate_limiter.specs.Planned.{names_under}
 use Rattle.rate_limiter.specs.Pinned.{SameButPins}
 use Rattle.rate_limiter.proofs.Knowing.{pinned_known, pins_after, no_pins_after, spots_same}
 use Rattle.rate_limiter.specs.Sought.{IsSeenAt, KnowsUnder}
-use Rattle.rate_limiter.proofs.Noting.{noted_under, knows_still}
+use Rattle.rate_limiter.proofs.Noting.{noted_under, seen_alone, knows_still}
 use Rattle.rate_limiter.proofs.Seeing.{seen_kept, seen_same}
 use Rattle.rate_limiter.proofs.Seeking.{seen_still}
 use Rattle.rate_limiter.proofs.ShowingOver.{when_pinned, when_over, held_same, all_known}
@@ -141,7 +139,9 @@ returns-in-Ok-pin_asked-clause-knows g c =
     noted_under c.args.request.now c.pin_asked.new.cell_pass.moment c.pin_asked.new.known ds c.args.rules.now c.in-Ok-pin_asked.ensures.noted (length ds)
 
 pub returns-in-Ok-pin_asked-clause-values : goal.returns-in-Ok-pin_asked-clause-values
-returns-in-Ok-pin_asked-clause-values g c = λ i d f n a b e. absurd (some-ne-none n (sym (subst (λ (l : List ℕ). get_elem? l i ≡ some n) c.clear.ensures e)))
+returns-in-Ok-pin_asked-clause-values g c =
+    seen_alone (knows c.pin_asked.new.claims).known c.args.request.now c.pin_asked.new.cell_pass.moment c.pin_asked.new.known c.in-Ok-pin_asked.value c.args.descriptors.now
+    c.args.rules.now c.keep_alone.new.seen.items c.keep_alone.ensures c.in-Ok-pin_asked.ensures.alone
 
 pub returns-in-Ok-pin_asked-clause-pinned : goal.returns-in-Ok-pin_asked-clause-pinned
 returns-in-Ok-pin_asked-clause-pinned g c =
