@@ -96,6 +96,48 @@ fn entries_are_refused_in_order(rt: HostRuntime) -> Result<(), Fail> {
 }
 
 #[test]
+fn one_entry_is_as_in_a_list(rt: HostRuntime) -> Result<(), Fail> {
+    let alloc = rt.alloc();
+    for (key, want) in [("k", None), ("", Some(EntriesFault::EmptyKey { index: 0 }))] {
+        let entry = Entry {
+            key: Text::new(alloc, key)?,
+            value: Text::new(alloc, "a")?,
+        };
+        match Entries::one(entry) {
+            Ok(entries) => {
+                assert_eq!(rt; want, None);
+                assert!(rt; entries == single(alloc, key, "a")?);
+                assert!(rt; entries.copy()? == entries);
+            }
+            Err(fault) => assert_eq!(rt; Some(fault), want),
+        }
+    }
+    Ok(())
+}
+
+#[test]
+fn one_descriptor_is_as_in_a_list(rt: HostRuntime) -> Result<(), Fail> {
+    let alloc = rt.alloc();
+    for (domain, want) in [("d", None), ("", Some(RequestFault::EmptyDomain))] {
+        let descriptor = Descriptor {
+            entries: single(alloc, "k", "a")?,
+            own: None,
+            hits: Some(3),
+        };
+        match Request::one(Text::new(alloc, domain)?, descriptor, 0) {
+            Ok(request) => {
+                assert_eq!(rt; want, None);
+                assert_eq!(rt; request.descriptors().len(), 1);
+                assert_eq!(rt; request.descriptors()[0].hits, Some(3));
+                assert_eq!(rt; request.hits(), 1);
+            }
+            Err(fault) => assert_eq!(rt; Some(fault), want),
+        }
+    }
+    Ok(())
+}
+
+#[test]
 fn requests_are_refused_in_order(rt: HostRuntime) -> Result<(), Fail> {
     let alloc = rt.alloc();
     for (domain, count, want) in [
