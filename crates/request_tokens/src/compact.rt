@@ -1,5 +1,5 @@
 // A request of the usual form, from a text with no space between its tokens and no escape.
-ghost use Rattle.std.specs.Prelude.{◌≡◌, ◌≤◌, ◌++◌, codes, length, IfOk, IfSome};
+ghost use Rattle.std.specs.Prelude.{◌≡◌, ◌≤◌, ◌∷◌, ◌++◌, codes, length, IfOk, IfSome};
 ghost use Rattle.json.specs.Print.{quoted};
 ghost use Rattle.std.specs.List.{AllByRecursion};
 ghost use Rattle.rate_types.specs.declared.limits.TheConstants.{LONGEST_TEXT, MOST_ENTRIES, MOST_DESCRIPTORS};
@@ -41,15 +41,21 @@ fn read_entry(alloc: Global, cursor: &mut Cursor<'_>) -> Result<Option<Entry>, O
     Ok(Some(Entry { key, value }))
 }
 
-// Takes entries up to the end of their list, 1 to 32.
-fn read_entries(alloc: Global, cursor: &mut Cursor<'_>) -> Result<Option<Vec<Entry>>, OutOfMemory>
-    ensures text { IfOk result (λ o. IfSome o (λ v. cursor.old ≡ list_text entry_text v.items cursor.new)) }
+// Takes the entries behind the first one and a comma, up to the end of their list of at most 32.
+fn read_more(
+    alloc: Global,
+    cursor: &mut Cursor<'_>,
+    first: Entry,
+) -> Result<Option<Vec<Entry>>, OutOfMemory>
+    requires { IsShort first }
+    ensures text { IfOk result (λ o. IfSome o (λ v. entry_text first (44 ∷ cursor.old) ≡ list_text entry_text v.items cursor.new)) }
     ensures some { IfOk result (λ o. IfSome o (λ v. 1 ≤ length v.items)) }
     ensures few { IfOk result (λ o. IfSome o (λ v. length v.items ≤ MOST_ENTRIES)) }
     ensures short { IfOk result (λ o. IfSome o (λ v. AllByRecursion IsShort v.items)) }
 {
-    let mut list = Vec::with_capacity(alloc, 1)?;
-    'entries: for _ in 0..MOST_ENTRIES {
+    let mut list = Vec::with_capacity(alloc, 2)?;
+    list.push(first)?;
+    'entries: for _ in 1..MOST_ENTRIES {
         let Some(entry) = read_entry(alloc, cursor)? else {
             return Ok(None);
         };
@@ -64,8 +70,30 @@ fn read_entries(alloc: Global, cursor: &mut Cursor<'_>) -> Result<Option<Vec<Ent
     Ok(None)
 }
 
-// Takes a descriptor that has entries alone.
+// Takes entries up to the end of their list, 1 to 32. One entry takes no memory for a list.
 #[tactic(auto, using(crate::proofs::Making::entries_made))]
+fn read_entries(alloc: Global, cursor: &mut Cursor<'_>) -> Result<Option<Entries>, OutOfMemory>
+    ensures text { IfOk result (λ o. IfSome o (λ es. cursor.old ≡ list_text entry_text es cursor.new)) }
+    ensures some { IfOk result (λ o. IfSome o (λ es. 1 ≤ length es)) }
+    ensures few { IfOk result (λ o. IfSome o (λ es. length es ≤ MOST_ENTRIES)) }
+    ensures short { IfOk result (λ o. IfSome o (λ es. AllByRecursion IsShort es)) }
+{
+    let Some(first) = read_entry(alloc, cursor)? else {
+        return Ok(None);
+    };
+    if cursor.takes("]") {
+        return Ok(Entries::one(first).ok());
+    }
+    if !cursor.takes(",") {
+        return Ok(None);
+    }
+    let Some(list) = read_more(alloc, cursor, first)? else {
+        return Ok(None);
+    };
+    Ok(Entries::build(list).ok())
+}
+
+// Takes a descriptor that has entries alone.
 fn read_descriptor(
     alloc: Global,
     cursor: &mut Cursor<'_>,
@@ -76,15 +104,12 @@ fn read_descriptor(
     if !cursor.takes("{\"entries\":[") {
         return Ok(None);
     }
-    let Some(list) = read_entries(alloc, cursor)? else {
+    let Some(entries) = read_entries(alloc, cursor)? else {
         return Ok(None);
     };
     if !cursor.takes("}") {
         return Ok(None);
     }
-    let Ok(entries) = Entries::build(list) else {
-        return Ok(None);
-    };
     Ok(Some(Descriptor {
         entries,
         own: None,

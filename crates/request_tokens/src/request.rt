@@ -69,8 +69,21 @@ fn read_entries(alloc: Global, reader: &mut Reader<'_>) -> Result<Option<Vec<Ent
     Ok(None)
 }
 
-// Takes a descriptor that has entries alone.
+// The entries of a list of some, not too many, each with a key that isn't empty.
 #[tactic(auto, using(crate::proofs::Making::entries_made))]
+fn entries_of(list: Vec<Entry>) -> Option<Entries>
+    requires some { 1 ≤ length list.items }
+    requires few { length list.items ≤ MOST_ENTRIES }
+    requires short { AllByRecursion IsShort list.items }
+    ensures { IfSome result (λ es. es ≡ list.items) }
+{
+    match Entries::build(list) {
+        Ok(entries) => Some(entries),
+        Err(_) => None,
+    }
+}
+
+// Takes a descriptor that has entries alone.
 fn read_descriptor(
     alloc: Global,
     reader: &mut Reader<'_>,
@@ -87,7 +100,7 @@ fn read_descriptor(
     if !closes_object(reader) || list.is_empty() {
         return Ok(None);
     }
-    let Ok(entries) = Entries::build(list) else {
+    let Some(entries) = entries_of(list) else {
         return Ok(None);
     };
     Ok(Some(Descriptor {
