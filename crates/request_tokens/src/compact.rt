@@ -7,7 +7,7 @@ ghost use Rattle.request_tokens.specs.Usual.{IsShort, IsPlain, IsUsual};
 ghost use Rattle.request_tokens.specs.Compact.{list_text, entry_text, descriptor_text, request_text};
 
 use crate::cursor::Cursor;
-use crate::request::{copy_of, request_of};
+use crate::request::{copy_of, request_of, request_of_one};
 use rate_types::limits::{LONGEST_TEXT, MOST_DESCRIPTORS, MOST_ENTRIES};
 use rate_types::{Descriptor, Entries, Entry, OutOfMemory, Request, Text};
 use std::alloc::Global;
@@ -117,18 +117,22 @@ fn read_descriptor(
     }))
 }
 
-// Takes descriptors up to the end of their list, 1 to 32.
-fn read_descriptors(
+// Takes the descriptors behind the first one and a comma, up to the end of their list of at most 32.
+fn read_more_descriptors(
     alloc: Global,
     cursor: &mut Cursor<'_>,
+    first: Descriptor,
 ) -> Result<Option<Vec<Descriptor>>, OutOfMemory>
-    ensures text { IfOk result (λ o. IfSome o (λ v. cursor.old ≡ list_text descriptor_text v.items cursor.new)) }
+    requires { IsPlain first }
+    ensures text { IfOk result (λ o. IfSome o (λ v.
+        descriptor_text first (44 ∷ cursor.old) ≡ list_text descriptor_text v.items cursor.new)) }
     ensures some { IfOk result (λ o. IfSome o (λ v. 1 ≤ length v.items)) }
     ensures few { IfOk result (λ o. IfSome o (λ v. length v.items ≤ MOST_DESCRIPTORS)) }
     ensures plain { IfOk result (λ o. IfSome o (λ v. AllByRecursion IsPlain v.items)) }
 {
-    let mut list = Vec::with_capacity(alloc, 1)?;
-    'descriptors: for _ in 0..MOST_DESCRIPTORS {
+    let mut list = Vec::with_capacity(alloc, 2)?;
+    list.push(first)?;
+    'descriptors: for _ in 1..MOST_DESCRIPTORS {
         let Some(descriptor) = read_descriptor(alloc, cursor)? else {
             return Ok(None);
         };
@@ -164,7 +168,8 @@ fn take_domain(alloc: Global, cursor: &mut Cursor<'_>) -> Result<Option<Text>, O
 }
 
 /// Takes a request of the usual form from the front of a text that spells its tokens with no space between them and no escape. None
-/// where it begins with no such text, which says nothing of what else it may be.
+/// where it begins with no such text, which says nothing of what else it may be. A request of one descriptor with one entry takes no memory
+/// but for texts of more than 16 bytes.
 pub fn read_compact(alloc: Global, cursor: &mut Cursor<'_>) -> Result<Option<Request>, OutOfMemory>
     ensures text { IfOk result (λ o. IfSome o (λ r. cursor.old ≡ request_text r cursor.new)) }
     ensures usual { IfOk result (λ o. IfSome o (λ r. IsUsual r)) }
@@ -172,7 +177,16 @@ pub fn read_compact(alloc: Global, cursor: &mut Cursor<'_>) -> Result<Option<Req
     let Some(domain) = take_domain(alloc, cursor)? else {
         return Ok(None);
     };
-    let Some(descriptors) = read_descriptors(alloc, cursor)? else {
+    let Some(first) = read_descriptor(alloc, cursor)? else {
+        return Ok(None);
+    };
+    if cursor.takes("]}") {
+        return Ok(request_of_one(domain, first));
+    }
+    if !cursor.takes(",") {
+        return Ok(None);
+    }
+    let Some(descriptors) = read_more_descriptors(alloc, cursor, first)? else {
         return Ok(None);
     };
     if !cursor.takes("}") {

@@ -1,5 +1,5 @@
 // A request of the usual form, from the tokens of a reader.
-ghost use Rattle.std.specs.Prelude.{◌≡◌, ◌≤◌, length, IfOk, IfSome};
+ghost use Rattle.std.specs.Prelude.{◌≡◌, ◌≤◌, [], ◌∷◌, length, IfOk, IfSome};
 ghost use Rattle.std.specs.List.{AllByRecursion};
 ghost use Rattle.rate_types.specs.declared.limits.TheConstants.{LONGEST_TEXT, MOST_ENTRIES, MOST_DESCRIPTORS};
 ghost use Rattle.request_tokens.specs.Usual.{IsShort, IsPlain, IsUsual, list_tokens, entry_tokens, descriptor_tokens, request_tokens};
@@ -141,6 +141,18 @@ pub(crate) fn request_of(domain: Text, descriptors: Vec<Descriptor>) -> Option<R
     ensures { IfSome result (λ r. r ≡ record { domain = domain; descriptors = descriptors.items; hits = 1 }) }
 {
     match Request::build(domain, descriptors, 1) {
+        Ok(request) => Some(request),
+        Err(_) => None,
+    }
+}
+
+// The request of a domain and one descriptor, with the hits that a request has that names none.
+#[tactic(auto, using(crate::proofs::Making::request_made))]
+pub(crate) fn request_of_one(domain: Text, descriptor: Descriptor) -> Option<Request>
+    requires { 1 ≤ length domain }
+    ensures { IfSome result (λ r. r ≡ record { domain = domain; descriptors = descriptor ∷ []; hits = 1 }) }
+{
+    match Request::one(domain, descriptor, 1) {
         Ok(request) => Some(request),
         Err(_) => None,
     }
