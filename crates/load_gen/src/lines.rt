@@ -56,9 +56,7 @@ fn descriptor_for(alloc: Global, value: u32) -> Result<Descriptor, OutOfMemory>
     ensures { IfOk result (λ d. d ≡ spec.descriptor_for value) }
 {
     let entry = entry_for(alloc, value)?;
-    let mut entries = Vec::with_capacity(alloc, 1)?;
-    entries.push_reserved(entry);
-    match Entries::build(entries) {
+    match Entries::one(entry) {
         Ok(entries) => Ok(Descriptor {
             entries,
             own: None,
@@ -75,9 +73,7 @@ fn request_for(alloc: Global, value: u32) -> Result<Request, OutOfMemory>
 {
     let domain = short_text(alloc, DOMAIN)?;
     let descriptor = descriptor_for(alloc, value)?;
-    let mut descriptors = Vec::with_capacity(alloc, 1)?;
-    descriptors.push_reserved(descriptor);
-    match Request::build(domain, descriptors, 1) {
+    match Request::one(domain, descriptor, 1) {
         Ok(request) => Ok(request),
         Err(_) => unreachable!(),
     }

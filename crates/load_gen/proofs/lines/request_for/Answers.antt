@@ -1,4 +1,4 @@
-use Rattle.std.proofs.Common.{◌≡◌, ℕ, List, [], ◌∷◌, ◌++◌, Ok, ap, ◌∙◌, codes}
+use Rattle.std.proofs.Common.{◌≡◌, ℕ, List, [], ◌∷◌, Ok, ap, ◌∙◌, codes}
 use Rattle.rate_types.specs.Requests.{request_of}
 use Rattle.rate_types.specs.declared.request.Descriptor.{Descriptor}
 use Rattle.load_gen.specs.Load.{descriptor_for, request_for}
@@ -7,22 +7,16 @@ use Rattle.load_gen.proofs.lines.request_for.Goals as goal
 
 pub unreachable-requires : goal.unreachable-requires
 unreachable-requires c =
-    let items : c.push_reserved.new.self.items ≡ descriptor_for c.args.value ∷ [] =
-    c.push_reserved.ensures.items ∙ ap (λ (l : List Descriptor). l ++ c.in_ok-descriptor.descriptor ∷ []) c.in_ok-descriptors.ensures.items
-    ∙ ap (λ (d : Descriptor). d ∷ []) c.in_ok-descriptor.ensures in
     let domain : c.in_ok-domain.domain ≡ codes "gen" = c.in_ok-domain.ensures in
-    let made : c.build.result ≡ Ok (request_for c.args.value) =
-    c.build.ensures ∙ ap (λ (ds : List Descriptor). request_of c.in_ok-domain.domain ds 1) items
+    let made : c.one.result ≡ Ok (request_for c.args.value) =
+    c.one.ensures ∙ ap (λ (d : Descriptor). request_of c.in_ok-domain.domain (d ∷ []) 1) c.in_ok-descriptor.ensures
     ∙ ap (λ (d : List ℕ). request_of d (descriptor_for c.args.value ∷ []) 1) domain ∙ one_request c.args.value in
     cc
 
 pub returns : goal.returns
 returns c =
-    let items : c.push_reserved.new.self.items ≡ descriptor_for c.args.value ∷ [] =
-    c.push_reserved.ensures.items ∙ ap (λ (l : List Descriptor). l ++ c.in_ok-descriptor.descriptor ∷ []) c.in_ok-descriptors.ensures.items
-    ∙ ap (λ (d : Descriptor). d ∷ []) c.in_ok-descriptor.ensures in
     let domain : c.in_ok-domain.domain ≡ codes "gen" = c.in_ok-domain.ensures in
-    let made : c.build.result ≡ Ok (request_for c.args.value) =
-    c.build.ensures ∙ ap (λ (ds : List Descriptor). request_of c.in_ok-domain.domain ds 1) items
+    let made : c.one.result ≡ Ok (request_for c.args.value) =
+    c.one.ensures ∙ ap (λ (d : Descriptor). request_of c.in_ok-domain.domain (d ∷ []) 1) c.in_ok-descriptor.ensures
     ∙ ap (λ (d : List ℕ). request_of d (descriptor_for c.args.value ∷ []) 1) domain ∙ one_request c.args.value in
     cc
