@@ -1,5 +1,7 @@
 use keyed_hash::KeyedState;
-use std::hash::{BuildHasher, Hasher, RandomState};
+use rate_types::{Entry, Text};
+use std::alloc::Global;
+use std::hash::{BuildHasher, Hash, Hasher, RandomState};
 use std::test::Fail;
 
 fn hash(state: &KeyedState, bytes: &[u8]) -> u64 {
@@ -70,5 +72,29 @@ fn hashes_of_like_keys_spread(rt: HostRuntime) -> Result<(), Fail> {
     for is_met in beginnings {
         assert!(rt; is_met);
     }
+    Ok(())
+}
+
+fn hash_of_entry(state: &KeyedState, alloc: Global, key: &str, value: &str) -> Result<u64, Fail> {
+    let entry = Entry {
+        key: Text::new(alloc, key)?,
+        value: Text::new(alloc, value)?,
+    };
+    let mut hasher = state.build_hasher();
+    entry.hash(&mut hasher);
+    Ok(hasher.finish())
+}
+
+// The words of the two entries would be the same if a long text began with its length alone, as a short one does.
+#[test]
+fn a_long_key_is_no_short_one_and_a_value(rt: HostRuntime) -> Result<(), Fail> {
+    let alloc = rt.alloc();
+    let state = KeyedState::of(&RandomState::new(&rt)?);
+    let zeros = "\0".repeat(alloc, 256)?;
+    let long = format!(in alloc; "\0\u{1}{}", &zeros[..255])?;
+    assert_ne!(rt;
+        hash_of_entry(&state, alloc, &long, "")?,
+        hash_of_entry(&state, alloc, "\u{1}", &zeros)?
+    );
     Ok(())
 }

@@ -1,5 +1,5 @@
 -- What hashing a text, an entry, entries, a counter's name or a counter writes; equal values write the same.
-use Rattle.std.specs.Prelude.{ℕ, ◌+◌, ◌-◌, ◌%◌, ◌++◌, List, [], ◌∷◌, length, take, nat_lt, slice_index_or, if◌then◌else◌}
+use Rattle.std.specs.Prelude.{ℕ, ◌+◌, ◌-◌, ◌/◌, ◌%◌, ◌++◌, List, [], ◌∷◌, length, take, nat_lt, slice_index_or, if◌then◌else◌}
 use Rattle.std.specs.Int.{from_le_bytes, w64}
 use Rattle.std.specs.Cmp.Lexicographic.{bytes_decides}
 use Rattle.std.specs.Hash.{HashWrites, Alike, same_Alike, on_Alike, and-Alike, items_Alike}
@@ -23,10 +23,14 @@ word_at text at = from_le_bytes w64 (slice_index_or text at 0 ∷ slice_index_or
     ∷ slice_index_or text (at + 3) 0 ∷ slice_index_or text (at + 4) 0 ∷ slice_index_or text (at + 5) 0 ∷ slice_index_or text (at + 6) 0
     ∷ slice_index_or text (at + 7) 0 ∷ [])
 
+-- what a text of eight bytes or more begins with: no shorter text has this length, and its own length in two bytes
+abbrev pub long_word : ℕ → ℕ
+long_word len = from_le_bytes w64 (IN_WORD ∷ len % 256 ∷ len / 256 % 256 ∷ 0 ∷ 0 ∷ 0 ∷ 0 ∷ 0 ∷ [])
+
 -- a text of eight bytes or more: their number, as many of them as whole words have, and the last eight
 abbrev pub long_writes : List ℕ → HashWrites
 long_writes text =
-    let len = length text in written.u64 len ++ (take (len - len % IN_WORD) text ∷ written.u64 (word_at text (len - IN_WORD)))
+    let len = length text in written.u64 (long_word len) ++ (take (len - len % IN_WORD) text ∷ written.u64 (word_at text (len - IN_WORD)))
 
 -- a text: one word where it has less than eight bytes, else its number of bytes and its words
 abbrev pub text_writes : List ℕ → HashWrites

@@ -1,7 +1,7 @@
 // How a text is hashed: in words of eight bytes, since std hashes what doesn't fill one byte by byte.
 ghost use Rattle.std.specs.Prelude.{◌≡◌, ◌+◌, ◌≤◌, ◌<◌, length, slice_index_or};
 ghost use Rattle.std.specs.List.{fold};
-ghost use Rattle.rate_types.specs.Hashes.{short_word, word_at, long_writes, text_writes};
+ghost use Rattle.rate_types.specs.Hashes.{short_word, long_word, word_at, long_writes, text_writes};
 
 use std::hash::Hasher;
 
@@ -52,13 +52,29 @@ fn word_at(bytes: &[u8], at: usize) -> u64
     ])
 }
 
+/// What a text of eight bytes or more begins with: a number that is no shorter text's length, and its own length in two bytes.
+fn long_word(len: usize) -> u64
+    ensures { result ≡ long_word len }
+{
+    u64::from_le_bytes([
+        IN_WORD as u8,
+        (len % 256) as u8,
+        (len / 256 % 256) as u8,
+        0,
+        0,
+        0,
+        0,
+        0,
+    ])
+}
+
 /// Hashes a text of eight bytes or more. Its last eight bytes are a word, some of which may stand in the word before as well.
 fn hash_long<H: Hasher>(bytes: &[u8], state: &mut H)
     requires { IN_WORD ≤ length bytes.now }
     ensures { state.new ≡ fold H.write state.old (long_writes bytes.now) }
 {
     let len = bytes.len();
-    state.write_u64(len as u64);
+    state.write_u64(long_word(len));
     let (whole, _) = bytes.split_at(len - len % IN_WORD);
     state.write(whole);
     state.write_u64(word_at(bytes, len - IN_WORD));
