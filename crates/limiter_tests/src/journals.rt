@@ -43,3 +43,27 @@ fn records_come_in_the_order_of_their_lines(rt: HostRuntime) -> Result<(), Fail>
     assert_eq!(rt; (second.line, second.worker), (2, 3));
     Ok(())
 }
+
+// A record that isn't short.
+fn refused(line: u32, worker: u32) -> Record
+    ensures { result.line ≡ line }
+{
+    Record {
+        line,
+        worker,
+        version: 0,
+        moment: Seconds::capped(7),
+        outcome: Outcome::VersionsFull { versions: 1 },
+    }
+}
+
+#[test]
+fn journals_tell_whether_all_records_are_short(rt: HostRuntime) -> Result<(), Fail> {
+    let short = merge_two(rt.alloc(), record(1, 5), record(2, 3))?;
+    assert!(rt; short.are_short());
+    let first = merge_two(rt.alloc(), refused(1, 5), record(2, 3))?;
+    assert!(rt; !first.are_short());
+    let last = merge_two(rt.alloc(), record(1, 5), refused(2, 3))?;
+    assert!(rt; !last.are_short());
+    Ok(())
+}
