@@ -1,6 +1,7 @@
-ghost use Rattle.std.specs.Prelude.{◌≡◌, ◌≤◌, ◌+◌, length};
-ghost use Rattle.keyed_hash.specs.KeyedHash.{folded, word_at, mixed, written, finished};
+ghost use Rattle.std.specs.Prelude.{◌≡◌};
+ghost use Rattle.keyed_hash.specs.KeyedHash.{folded, mixed, written, finished};
 
+use crate::word_at;
 use std::hash::Hasher;
 
 /// Hashes one key.
@@ -16,23 +17,6 @@ fn folded(a: u64, b: u64) -> u64
 {
     let product = a as u128 * b as u128;
     (product & 0xFFFF_FFFF_FFFF_FFFF) as u64 ^ (product >> 64) as u64
-}
-
-// The eight bytes from an index on as one number, the lowest first.
-fn word_at(bytes: &[u8], at: usize) -> u64
-    requires { at + 8 ≤ length bytes.now }
-    ensures { result ≡ word_at bytes.now at }
-{
-    u64::from_le_bytes([
-        bytes[at],
-        bytes[at + 1],
-        bytes[at + 2],
-        bytes[at + 3],
-        bytes[at + 4],
-        bytes[at + 5],
-        bytes[at + 6],
-        bytes[at + 7],
-    ])
 }
 
 impl KeyedHasher {

@@ -13,6 +13,8 @@
 
 mod hasher;
 mod state;
+mod words;
 
 pub use hasher::KeyedHasher;
 pub use state::KeyedState;
+pub use words::word_at;

@@ -1,10 +1,11 @@
 -- What hashing a text, an entry, entries, a counter's name or a counter writes; equal values write the same.
-use Rattle.std.specs.Prelude.{ℕ, ◌+◌, ◌-◌, ◌/◌, ◌%◌, ◌++◌, List, [], ◌∷◌, length, take, nat_lt, slice_index_or, if◌then◌else◌}
+use Rattle.std.specs.Prelude.{ℕ, ◌-◌, ◌/◌, ◌%◌, ◌++◌, List, [], ◌∷◌, length, take, nat_lt, slice_index_or, if◌then◌else◌}
 use Rattle.std.specs.Int.{from_le_bytes, w64}
 use Rattle.std.specs.Cmp.Lexicographic.{bytes_decides}
 use Rattle.std.specs.Hash.{HashWrites, Alike, same_Alike, on_Alike, and-Alike, items_Alike}
 use Rattle.std.specs.Hash as written
 use Rattle.std.specs.Cmp.{unsigned_Decides}
+use Rattle.keyed_hash.specs.KeyedHash.{word_at}
 use Rattle.rate_types.specs.Units.{unit_rank}
 use Rattle.rate_types.specs.Counters.{same_text, same_entry, same_entries, same_name, same_counter}
 use Rattle.rate_types.specs.declared.entries.Entry.{Entry}
@@ -16,12 +17,6 @@ use Rattle.rate_types.specs.declared.text_words.TheConstants.{IN_WORD}
 abbrev pub short_word : List ℕ → ℕ
 short_word text = from_le_bytes w64 (length text ∷ slice_index_or text 0 0 ∷ slice_index_or text 1 0 ∷ slice_index_or text 2 0
     ∷ slice_index_or text 3 0 ∷ slice_index_or text 4 0 ∷ slice_index_or text 5 0 ∷ slice_index_or text 6 0 ∷ [])
-
--- the eight bytes from an index on as one number, the lowest first
-abbrev pub word_at : List ℕ → ℕ → ℕ
-word_at text at = from_le_bytes w64 (slice_index_or text at 0 ∷ slice_index_or text (at + 1) 0 ∷ slice_index_or text (at + 2) 0
-    ∷ slice_index_or text (at + 3) 0 ∷ slice_index_or text (at + 4) 0 ∷ slice_index_or text (at + 5) 0 ∷ slice_index_or text (at + 6) 0
-    ∷ slice_index_or text (at + 7) 0 ∷ [])
 
 -- what a text of eight bytes or more begins with: no shorter text has this length, and its own length in two bytes
 abbrev pub long_word : ℕ → ℕ

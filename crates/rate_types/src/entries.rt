@@ -137,6 +137,7 @@ impl Entries {
     }
 
     /// The entries of a list of this one. It takes no memory.
+    #[inline(always)]
     #[tactic(auto, unfolding(crate::specs::Entries::entries_of))]
     pub fn one(entry: Entry) -> Result<Entries, EntriesFault>
         ensures { result ≡ entries_of (entry ∷ []) }

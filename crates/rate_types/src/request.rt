@@ -80,6 +80,7 @@ impl Request {
     }
 
     /// The request of one descriptor; hits of 0 count as 1. It takes no memory.
+    #[inline(always)]
     pub fn one(domain: Text, descriptor: Descriptor, hits: u32) -> Result<Request, RequestFault>
         ensures { result ≡ request_of domain (descriptor ∷ []) hits }
     {
@@ -123,6 +124,7 @@ fn items_of(held: &HeldDescriptors) -> &[Descriptor]
     }
 }
 
+#[inline(always)]
 #[tactic(auto, unfolding(crate::specs::Requests::request_of))]
 fn of_held(domain: Text, held: HeldDescriptors, hits: u32) -> Result<Request, RequestFault>
     ensures { result ≡ request_of domain (held_descriptors held) hits }

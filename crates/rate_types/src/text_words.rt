@@ -1,8 +1,9 @@
 // How a text is hashed: in words of eight bytes, since std hashes what doesn't fill one byte by byte.
-ghost use Rattle.std.specs.Prelude.{◌≡◌, ◌+◌, ◌≤◌, ◌<◌, length, slice_index_or};
+ghost use Rattle.std.specs.Prelude.{◌≡◌, ◌≤◌, ◌<◌, length, slice_index_or};
 ghost use Rattle.std.specs.List.{fold};
-ghost use Rattle.rate_types.specs.Hashes.{short_word, long_word, word_at, long_writes, text_writes};
+ghost use Rattle.rate_types.specs.Hashes.{short_word, long_word, long_writes, text_writes};
 
+use keyed_hash::word_at;
 use std::hash::Hasher;
 
 /// How many bytes a word has.
@@ -32,23 +33,6 @@ fn short_word(bytes: &[u8]) -> u64
         byte_at(bytes, 4),
         byte_at(bytes, 5),
         byte_at(bytes, 6),
-    ])
-}
-
-/// The eight bytes from an index on, the lowest first.
-fn word_at(bytes: &[u8], at: usize) -> u64
-    requires { at + IN_WORD ≤ length bytes.now }
-    ensures { result ≡ word_at bytes.now at }
-{
-    u64::from_le_bytes([
-        bytes[at],
-        bytes[at + 1],
-        bytes[at + 2],
-        bytes[at + 3],
-        bytes[at + 4],
-        bytes[at + 5],
-        bytes[at + 6],
-        bytes[at + 7],
     ])
 }
 
