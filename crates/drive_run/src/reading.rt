@@ -120,6 +120,7 @@ fn any_line(alloc: Global, bytes: &[u8]) -> Result<Line, OutOfMemory>
 }
 
 /// Reads a line of a script. The scratch is kept from line to line.
+#[inline(always)]
 pub fn read_line(alloc: Global, scratch: &mut Scratch, bytes: &[u8]) -> Result<Line, OutOfMemory>
     ensures { IfOk result (λ l. line_view l ≡ scripts.line_of bytes.now) }
 {

@@ -43,6 +43,7 @@ impl Journal {
     }
 
     /// Writes one more record.
+    #[inline(always)]
     pub fn push(&mut self, rec: Record) -> Result<(), OutOfMemory>
         ensures ok { OnOk result (self.new ≡ self.old ++ rec ∷ []) }
         ensures err { OnErr result (self.new ≡ self.old) }

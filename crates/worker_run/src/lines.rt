@@ -17,6 +17,7 @@ use script_run::Line;
 use std::alloc::Global;
 use std::sync::{Arc, Wait};
 
+#[inline(always)]
 fn check_line<N: CellNaming, R: Wait>(
     rt: &R,
     alloc: Global,
@@ -72,6 +73,7 @@ fn reload_line<N: CellNaming, R: Wait>(
 }
 
 /// Runs one line: checks offer `start`, ticks their number. The reply of a check is written to `reply`.
+#[inline(always)]
 pub(crate) fn run_line<N: CellNaming, R: Wait>(
     rt: &R,
     alloc: Global,

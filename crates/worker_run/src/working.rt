@@ -49,6 +49,7 @@ pub struct Shared<'a, N: CellNaming, L: ScriptLines, G: Gate> {
 }
 
 // Reads the line with this number, counted from 0, runs it, and answers its record.
+#[inline(always)]
 fn run_drawn<N: CellNaming, L: ScriptLines, G: Gate, R: Wait>(
     rt: &R,
     alloc: Global,
