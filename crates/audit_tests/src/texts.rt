@@ -41,7 +41,8 @@ fn a_count_and_its_status_are_read(rt: HostRuntime) -> Result<(), Fail> {
     let Outcome::Checked(answer) = rec.outcome else {
         return Err("an answer".into());
     };
-    let [status] = answer.items() else {
+    let items = answer.items();
+    let [status] = items.as_slice() else {
         return Err("one status".into());
     };
     assert!(rt; answer.over());

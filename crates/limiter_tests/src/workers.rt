@@ -42,7 +42,7 @@ fn bytes_of(alloc: Global, lines: &[&str]) -> Result<String, Fail> {
 // What a record shows: the hits before a check, or a number for each other outcome.
 fn shown(record: &Record) -> u64 {
     match &record.outcome {
-        Outcome::Checked(answer) => match answer.items() {
+        Outcome::Checked(answer) => match answer.items().as_slice() {
             [
                 Status {
                     count: Count::Before(before),

@@ -3,3 +3,4 @@ pub mod Sizes
 pub mod Lawful
 pub mod Keyed
 mod Growing
+mod Quoting

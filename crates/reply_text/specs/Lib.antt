@@ -1,4 +1,6 @@
 pub mod Answer
+pub mod Packed
+pub mod Held
 pub mod Shown
 pub mod Texts
 pub mod Short

@@ -1,9 +1,10 @@
 // Numbers and texts behind what a text holds. After want of memory a first part may stand there.
-ghost use Rattle.std.specs.Prelude.{◌≡◌, ◌++◌, ◌+◌, ◌≤◌, ◌<◌, length, OnErr, string_len, string_capacity, decimal, true, IfSome, OnOk, string_bytes};
+ghost use Rattle.std.specs.Prelude.{◌≡◌, ◌++◌, ◌∷◌, [], ◌+◌, ◌≤◌, ◌<◌, length, OnErr, string_len, string_capacity, decimal, true, IfSome, IfNone, OnOk, string_bytes};
 ghost use Rattle.json.specs.Print.{quoted};
 ghost use Rattle.serde_json.specs.Written.{comma_if, members_text};
 ghost use Rattle.reply_text.specs.Texts as texts;
 
+use crate::plain::any_needs_escape;
 use itoa::Buffer;
 use rate_types::OutOfMemory;
 use serde_json::Value;
@@ -13,6 +14,7 @@ use std::alloc::Global;
 fn digit(number: u64) -> Option<&'static str>
     ensures text { IfSome result (λ text. text.now ≡ decimal number) }
     ensures one { IfSome result (λ text. length text.now ≡ 1) }
+    ensures more { IfNone result (10 ≤ number) }
 {
     match number {
         0 => Some("0"),
@@ -57,14 +59,35 @@ pub fn put_number(out: &mut String, before: &str, number: u64) -> Result<(), Out
     put_digits(out, number)
 }
 
-/// A text as a JSON string.
-pub fn put_quoted(alloc: Global, out: &mut String, text: &str) -> Result<(), OutOfMemory>
+// A text as a JSON string, whatever escapes it needs.
+fn put_escaped(alloc: Global, out: &mut String, text: &str) -> Result<(), OutOfMemory>
     ensures { OnOk result (string_bytes out.new ≡ string_bytes out.old ++ quoted text.now) }
 {
     let value = Value::String(String::from_str(alloc, text)?);
     let quoted = value.to_string(alloc)?;
     out.push_str(&quoted)?;
     Ok(())
+}
+
+// A text between quotes.
+fn put_plain(out: &mut String, text: &str) -> Result<(), OutOfMemory>
+    ensures { OnOk result (string_bytes out.new ≡ string_bytes out.old ++ 34 ∷ (text.now ++ 34 ∷ [])) }
+{
+    out.push_str("\"")?;
+    out.push_str(text)?;
+    out.push_str("\"")?;
+    Ok(())
+}
+
+/// A text as a JSON string. One that needs no escape is copied as it is.
+#[tactic(auto, using(crate::proofs::Quoting::plain_quoted))]
+pub fn put_quoted(alloc: Global, out: &mut String, text: &str) -> Result<(), OutOfMemory>
+    ensures { OnOk result (string_bytes out.new ≡ string_bytes out.old ++ quoted text.now) }
+{
+    if any_needs_escape(text.as_bytes()) {
+        return put_escaped(alloc, out, text);
+    }
+    put_plain(out, text)
 }
 
 /// A comma, where something stands before.

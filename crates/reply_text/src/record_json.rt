@@ -35,7 +35,7 @@ fn put_checked(out: &mut String, head: Head, answer: &Statuses) -> Result<(), Ou
     ensures capacity { string_capacity out.old ≤ string_capacity out.new }
 {
     out.push_str("{\"counts\":")?;
-    put_counts(out, answer.items())?;
+    put_counts(out, answer.items().as_slice())?;
     put_number(out, ",\"line\":", u64::from(head.line))?;
     put_number(out, ",\"moment\":", head.moment)?;
     out.push_str(",\"reply\":")?;

@@ -87,7 +87,7 @@ pub fn put_reply(out: &mut String, answer: &Statuses) -> Result<(), OutOfMemory>
     out.push_str("{\"overallCode\":")?;
     put_code(out, overall_code(answer.over()))?;
     out.push_str(",\"statuses\":")?;
-    put_statuses(out, answer.items())?;
+    put_statuses(out, answer.items().as_slice())?;
     out.push_str("}")?;
     Ok(())
 }

@@ -11,6 +11,9 @@ use rate_types::{CounterKey, Entry, OutOfMemory};
 use rls_core::Total;
 use std::alloc::Global;
 
+// For so many bytes the text of a total has room at first: those of one entry and short texts, and a line feed.
+const USUAL_TOTAL: usize = 160;
+
 #[tactic(auto, unfolding(serde_json::proofs::OnLiterals::serde_json_on_literals, crate::specs::Texts::entry_data))]
 fn put_entry(alloc: Global, out: &mut String, entry: &Entry) -> Result<(), OutOfMemory>
     ensures { OnOk result (string_bytes out.new ≡ string_bytes out.old ++ compact_text (texts.entry_data entry.now)) }
@@ -81,7 +84,7 @@ pub fn put_total(alloc: Global, out: &mut String, total: &Total) -> Result<(), O
 pub fn total_text(alloc: Global, total: &Total) -> Result<String, OutOfMemory>
     ensures { IfOk result (λ t. string_bytes t ≡ texts.total_text_of total.now) }
 {
-    let mut text = String::new(alloc);
+    let mut text = String::with_capacity(alloc, USUAL_TOTAL)?;
     put_total(alloc, &mut text, total)?;
     Ok(text)
 }

@@ -13,6 +13,7 @@ use rate_types::{Descriptor, Entries, Entry, OutOfMemory, Request, Text};
 use std::alloc::Global;
 
 // Takes an entry with a key that isn't empty.
+#[inline(always)]
 fn read_entry(alloc: Global, cursor: &mut Cursor<'_>) -> Result<Option<Entry>, OutOfMemory>
     ensures text { IfOk result (λ o. IfSome o (λ e. cursor.old ≡ entry_text e cursor.new)) }
     ensures short { IfOk result (λ o. IfSome o (λ e. IsShort e)) }
@@ -71,6 +72,7 @@ fn read_more(
 }
 
 // Takes entries up to the end of their list, 1 to 32. One entry takes no memory for a list.
+#[inline(always)]
 #[tactic(auto, using(crate::proofs::Making::entries_made))]
 fn read_entries(alloc: Global, cursor: &mut Cursor<'_>) -> Result<Option<Entries>, OutOfMemory>
     ensures text { IfOk result (λ o. IfSome o (λ es. cursor.old ≡ list_text entry_text es cursor.new)) }
@@ -94,6 +96,7 @@ fn read_entries(alloc: Global, cursor: &mut Cursor<'_>) -> Result<Option<Entries
 }
 
 // Takes a descriptor that has entries alone.
+#[inline(always)]
 fn read_descriptor(
     alloc: Global,
     cursor: &mut Cursor<'_>,
@@ -148,6 +151,7 @@ fn read_more_descriptors(
 }
 
 // Takes what stands before the descriptors: a domain that isn't empty.
+#[inline(always)]
 fn take_domain(alloc: Global, cursor: &mut Cursor<'_>) -> Result<Option<Text>, OutOfMemory>
     ensures text { IfOk result (λ o. IfSome o (λ d.
         cursor.old ≡ codes "{\"domain\":" ++ (quoted d ++ (codes ",\"descriptors\":[" ++ cursor.new)))) }

@@ -4,6 +4,7 @@ ghost use Rattle.std.specs.Bool.{MatchBool};
 ghost use Rattle.json.specs.Print.{quoted};
 ghost use Rattle.json.specs.Run.{is_stop};
 
+use reply_text::needs_escape;
 use std::marker::Model;
 
 /// What is left of a text.
@@ -20,18 +21,11 @@ impl<'a> Model for Cursor<'a> {
     ghost view = { λ c. c.rest.now };
 }
 
-// Whether the plain text of a string stops at a byte.
-fn is_stop(byte: u8) -> bool
-    ensures { result ≡ is_stop byte }
-{
-    (byte == b'"') | (byte == b'\\') | (byte < 0x20)
-}
-
 // The place of the first byte at which the plain text of a string stops.
 fn first_stop(bytes: &[u8]) -> Option<usize>
     ensures { result ≡ position is_stop bytes.now }
 {
-    bytes.iter().position(|byte| is_stop(*byte))
+    bytes.iter().position(|byte| needs_escape(*byte))
 }
 
 impl<'a> Cursor<'a> {

@@ -11,6 +11,7 @@ use rate_types::{Descriptor, Entries, Entry, OutOfMemory, Request, Text};
 use std::alloc::Global;
 
 // A copy of a text that isn't too long.
+#[inline(always)]
 pub(crate) fn copy_of(alloc: Global, text: &str) -> Result<Text, OutOfMemory>
     requires { length text.now ≤ LONGEST_TEXT }
     ensures { IfOk result (λ t. t ≡ text.now) }
@@ -147,6 +148,7 @@ pub(crate) fn request_of(domain: Text, descriptors: Vec<Descriptor>) -> Option<R
 }
 
 // The request of a domain and one descriptor, with the hits that a request has that names none.
+#[inline(always)]
 #[tactic(auto, using(crate::proofs::Making::request_made))]
 pub(crate) fn request_of_one(domain: Text, descriptor: Descriptor) -> Option<Request>
     requires { 1 ≤ length domain }

@@ -56,7 +56,7 @@ fn shown(alloc: Global, record: &Record) -> Result<String, Fail> {
     match &record.outcome {
         Outcome::Checked(answer) => {
             let mut text = String::from_str(alloc, if answer.over() { "over:" } else { "" })?;
-            for status in answer.items() {
+            for status in answer.items().as_slice() {
                 text.push_str(format!(in alloc;
                     "{:?} {:?} {} {};",
                     status.code, status.count, status.remaining, status.reset

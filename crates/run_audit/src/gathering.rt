@@ -101,7 +101,7 @@ fn add_line(
 {
     match (line, outcome) {
         (Line::Check(request), Outcome::Checked(answer)) => {
-            add_reply(charges, kind, request, moment, answer.items())
+            add_reply(charges, kind, request, moment, answer.items().as_slice())
         }
         _ => Ok(()),
     }

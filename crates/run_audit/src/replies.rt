@@ -113,8 +113,8 @@ fn is_reply(
     ensures { IsTrue result ↔ IsReplyOf index.now request.now moment global_shadow answer.now.over
         (with_rules index.now request.now request.now.descriptors answer.now.statuses) }
 {
-    let each = are_statuses(index, request, moment, answer.items());
-    let over = some_is_over(answer.items());
+    let each = are_statuses(index, request, moment, answer.items().as_slice());
+    let over = some_is_over(answer.items().as_slice());
     let overall = is_overall(answer.over(), over, global_shadow);
     let stands = both(each, overall);
     stands

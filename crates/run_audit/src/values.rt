@@ -123,7 +123,7 @@ fn outcome_is_fair(
 {
     match (line, outcome) {
         (Line::Check(request), Outcome::Checked(answer)) => {
-            reply_is_fair(values, worker, request, moment, answer.items())
+            reply_is_fair(values, worker, request, moment, answer.items().as_slice())
         }
         _ => Ok(true),
     }

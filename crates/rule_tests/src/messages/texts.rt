@@ -46,6 +46,25 @@ fn answer(alloc: Global, over: bool, status: Status) -> Result<Statuses, Fail> {
     Ok(Statuses::of_reply(alloc, &reply)?)
 }
 
+// A status in a record takes less memory than in a reply, and is the same.
+#[test]
+fn a_status_is_kept_as_it_is(rt: HostRuntime) -> Result<(), Fail> {
+    let alloc = rt.alloc();
+    for count in [Count::NoCount, Count::Before(u64::MAX), Count::Seen(3)] {
+        for reset in [0, 55, 4_294_967_295, 4_294_967_296, u64::MAX] {
+            for mut kept in [status(Code::OverLimit, u32::MAX, 7, count), free(u32::MAX)] {
+                kept.reset = reset;
+                kept.count = count;
+                let answer = answer(alloc, true, kept)?;
+                assert!(rt; answer.over());
+                let items = answer.items();
+                assert!(rt; items.as_slice() == [kept].as_slice());
+            }
+        }
+    }
+    Ok(())
+}
+
 #[test]
 fn replies_are_printed(rt: HostRuntime) -> Result<(), Fail> {
     let alloc = rt.alloc();
