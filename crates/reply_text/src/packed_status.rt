@@ -1,5 +1,5 @@
 // A status in less memory. Records are many, and nearly each has one status.
-ghost use Rattle.std.specs.Prelude.{◌≡◌, IfSome};
+ghost use Rattle.std.specs.Prelude.{◌≡◌, ◌≤◌, ◌^◌, IfSome, IfNone};
 ghost use Rattle.reply_text.specs.Packed.{count_of, limit_of, unpacked};
 
 use rate_types::{OwnLimit, RuleId, Unit};
@@ -70,7 +70,8 @@ impl PackedStatus {
     /// A status packed. None where its time to reset has more than 32 bits.
     #[inline(always)]
     pub(crate) fn of(status: &Status) -> Option<PackedStatus>
-        ensures { IfSome result (λ p. unpacked p ≡ status.now) }
+        ensures same { IfSome result (λ p. unpacked p ≡ status.now) }
+        ensures wide { IfNone result (2 ^ 32 ≤ status.now.reset) }
     {
         if status.reset > u64::from(u32::MAX) {
             return None;

@@ -1,6 +1,7 @@
-ghost use Rattle.std.specs.Prelude.{◌≡◌, ◌≤◌, IfOk, length};
+ghost use Rattle.std.specs.Prelude.{◌≡◌, ◌≤◌, ◌<◌, ◌^◌, [], ◌∷◌, IfOk, IsOk, length};
 ghost use Rattle.rate_types.specs.declared.limits.TheConstants.{MOST_DESCRIPTORS};
 ghost use Rattle.reply_text.specs.Held.{held_answer};
+ghost use Rattle.rls_core.specs.declared.status.Status.{Status};
 
 use crate::StatusItems;
 use crate::packed_status::PackedStatus;
@@ -38,7 +39,8 @@ impl Model for Statuses {
 // One status where it can be packed, else a copy of the list.
 #[inline(always)]
 fn held_of(alloc: Global, over: bool, statuses: &[Status]) -> Result<HeldStatuses, OutOfMemory>
-    ensures { IfOk result (λ h. held_answer h ≡ record { over = over; statuses = statuses.now }) }
+    ensures same { IfOk result (λ h. held_answer h ≡ record { over = over; statuses = statuses.now }) }
+    ensures one { (s : Status) → statuses.now ≡ s ∷ [] → s.reset < 2 ^ 32 → IsOk result }
 {
     if let [status] = statuses
         && let Some(status) = PackedStatus::of(status)
@@ -57,7 +59,8 @@ impl Statuses {
     /// The statuses of a reply. One status takes no memory, unless its time to reset has more than 32 bits.
     #[inline(always)]
     pub fn of_reply(alloc: Global, reply: &Reply) -> Result<Statuses, OutOfMemory>
-        ensures { IfOk result (λ s. s ≡ record { over = reply.now.over; statuses = reply.now.statuses.items }) }
+        ensures same { IfOk result (λ s. s ≡ record { over = reply.now.over; statuses = reply.now.statuses.items }) }
+        ensures one { (s : Status) → reply.now.statuses.items ≡ s ∷ [] → s.reset < 2 ^ 32 → IsOk result }
     {
         let held = held_of(alloc, reply.over, reply.statuses.as_slice())?;
         Ok(Statuses { held })
