@@ -13,7 +13,7 @@ mod workers;
 
 ghost use Rattle.std.specs.Prelude.{◌≡◌, []};
 
-use rate_io::{FixedClock, Listen, MemFile, MemFiles, MemListen, MemSink, MemSource};
+use rate_io::{Listen, MemFile, MemFiles, MemListen, MemSink, MemSource};
 use rate_types::{Blob, Names, Word};
 use ratelimit_cli::{Exit, ratelimit};
 use std::alloc::Global;
@@ -237,7 +237,6 @@ where
         &mut source,
         &mut sink,
         listen,
-        &FixedClock { seconds: 65 },
         gate,
     );
     exit_and_output(alloc, &exit, sink.bytes())

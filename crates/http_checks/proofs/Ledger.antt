@@ -86,8 +86,8 @@ module _ (size : ℕ) where
   one_made p request now (Err (CountersFull moment live held wanted)) q h = none_made p q h.limiter h.step.0 h.step.0.claims
 
   -- checks one after the other
-  lead_made : (bounds : Option (ℕ × ℕ)) (p : Checker) (asked : List Asked) (q : Checker) → Lead (ChecksBy size) bounds p asked q → Made p q (ledger_of asked) (sights_in asked)
-  lead_made bounds p [] q h = subst (λ (x : Checker). Made p x [] []) (sym h) (record {
+  lead_made : (p : Checker) (asked : List Asked) (q : Checker) → Lead (ChecksBy size) p asked q → Made p q (ledger_of asked) (sights_in asked)
+  lead_made p [] q h = subst (λ (x : Checker). Made p x [] []) (sym h) (record {
     limiter = refl;
     added = [];
     grew = sym (append-nil p.pass.cells.charges);
@@ -98,10 +98,10 @@ module _ (size : ℕ) where
     versions = prefix_self p.pass.version.view.known;
     own = refl;
   })
-  lead_made bounds p (a ∷ asked) q h =
+  lead_made p (a ∷ asked) q h =
       let mid = h.0 in
-      let one = one_made p a.request a.now a.result mid h.2 in
-      let more = lead_made bounds mid asked q h.3 in
+      let one = one_made p a.request a.now a.result mid h.1 in
+      let more = lead_made mid asked q h.2 in
       record {
         limiter = more.limiter ∙ one.limiter;
         added = one.added ++ more.added;
@@ -120,25 +120,25 @@ module _ (size : ℕ) where
       }
 
   -- their replies, where the pass knows one version alone in the end
-  lead_replies : (config : List DomainTree) (bounds : Option (ℕ × ℕ)) (p : Checker) (asked : List Asked) (q : Checker) → Lead (ChecksBy size) bounds p asked q
+  lead_replies : (config : List DomainTree) (p : Checker) (asked : List Asked) (q : Checker) → Lead (ChecksBy size) p asked q
       → IsPrefix q.pass.version.view.known (config ∷ []) → AllByRecursion (λ (a : Asked). IsByConfig config p.limiter.global_shadow a.request a.result) asked
-  lead_replies config bounds p [] q h known = tt
-  lead_replies config bounds p (a ∷ asked) q h known =
+  lead_replies config p [] q h known = tt
+  lead_replies config p (a ∷ asked) q h known =
       let mid = h.0 in
-      let one = one_made p a.request a.now a.result mid h.2 in
-      let more = lead_made bounds mid asked q h.3 in (
-        one_reply size config p a.request a.now a.result mid h.2 (prefix_on mid.pass.version.view.known q.pass.version.view.known (config ∷ []) more.versions known),
+      let one = one_made p a.request a.now a.result mid h.1 in
+      let more = lead_made mid asked q h.2 in (
+        one_reply size config p a.request a.now a.result mid h.1 (prefix_on mid.pass.version.view.known q.pass.version.view.known (config ∷ []) more.versions known),
         subst (λ (l : LimiterView). AllByRecursion (λ (x : Asked). IsByConfig config l.global_shadow x.request x.result) asked) one.limiter
-            (lead_replies config bounds mid asked q h.3 known),
+            (lead_replies config mid asked q h.2 known),
       )
 
-module _ (size : ℕ) (limiter : LimiterView) (bounds : Option (ℕ × ℕ)) where
-  made : (p : PassView) (xs : List Asked) (q : PassView) → Lead (ChecksBy size) bounds (checker limiter p) xs (checker limiter q)
+module _ (size : ℕ) (limiter : LimiterView) where
+  made : (p : PassView) (xs : List Asked) (q : PassView) → Lead (ChecksBy size) (checker limiter p) xs (checker limiter q)
       → Made (checker limiter p) (checker limiter q) (ledger_of xs) (sights_in xs)
-  made p xs q h = lead_made size bounds (checker limiter p) xs (checker limiter q) h
+  made p xs q h = lead_made size (checker limiter p) xs (checker limiter q) h
 
   -- the charges of all passes, one pass after the other
-  all_named : (claims : List Claim) (before : List PassView) (asked : List (List Asked)) (after : List PassView) → LeadEach size limiter bounds before asked after
+  all_named : (claims : List Claim) (before : List PassView) (asked : List (List Asked)) (after : List PassView) → LeadEach size limiter before asked after
       → AllByRecursion (λ (p : PassView). p.cells.charges ≡ []) before → AllByRecursion (λ (q : PassView). IsPrefix q.claims.known claims) after
       → AreNamed claims (cells.ledger_of (cells_of after)) (ledger_of (all_asked asked))
   all_named claims [] [] [] h none known = tt
@@ -154,7 +154,7 @@ module _ (size : ℕ) (limiter : LimiterView) (bounds : Option (ℕ × ℕ)) whe
 
   -- what all passes saw
   all_seen : (claims : List Claim) (P : Sight CounterKey → Type 0) (before : List PassView) (asked : List (List Asked)) (after : List PassView)
-      → LeadEach size limiter bounds before asked after → AllByRecursion (λ (q : PassView). IsPrefix q.claims.known claims) after
+      → LeadEach size limiter before asked after → AllByRecursion (λ (q : PassView). IsPrefix q.claims.known claims) after
       → AllByRecursion (λ (q : PassView). (x : Sight CounterKey) → HasSight claims q.cells x → P x) after → AllByRecursion P (sights_in (all_asked asked))
   all_seen claims P [] [] [] h known lawful = tt
   all_seen claims P (p ∷ ps) (xs ∷ asked) (q ∷ qs) h known lawful =
@@ -166,7 +166,7 @@ module _ (size : ℕ) (limiter : LimiterView) (bounds : Option (ℕ × ℕ)) whe
   all_seen claims P before asked after h known lawful = absurd h
 
   -- no pass has a version of its own
-  none_own : (n : ℕ) (before : List PassView) (asked : List (List Asked)) (after : List PassView) → LeadEach size limiter bounds before asked after
+  none_own : (n : ℕ) (before : List PassView) (asked : List (List Asked)) (after : List PassView) → LeadEach size limiter before asked after
       → AllByRecursion (λ (p : PassView). p.version.view.own ≡ []) before → total (λ (q : PassView). times n q.version.view.own) after ≡ 0
   none_own n [] [] [] h none = refl
   none_own n (p ∷ ps) (xs ∷ asked) (q ∷ qs) h none =
@@ -178,7 +178,7 @@ module _ (size : ℕ) (limiter : LimiterView) (bounds : Option (ℕ × ℕ)) whe
 
   -- the replies of all passes, where there is one version alone
   all_replies : (config : List DomainTree) (versions : List (List DomainTree)) → length versions ≤ 1 → (before : List PassView) (asked : List (List Asked)) (after : List PassView)
-      → LeadEach size limiter bounds before asked after → AllByRecursion (λ (p : PassView). p.version.view.known ≡ config ∷ []) before
+      → LeadEach size limiter before asked after → AllByRecursion (λ (p : PassView). p.version.view.known ≡ config ∷ []) before
       → AllByRecursion (λ (q : PassView). IsPrefix q.version.view.known versions) after
       → AllByRecursion (λ (a : Asked). IsByConfig config limiter.global_shadow a.request a.result) (all_asked asked)
   all_replies config versions few [] [] [] h first known = tt
@@ -187,7 +187,7 @@ module _ (size : ℕ) (limiter : LimiterView) (bounds : Option (ℕ × ℕ)) whe
       let begins = prefix_on (config ∷ []) q.version.view.known versions (subst (λ (l : List (List DomainTree)). IsPrefix l q.version.view.known) first.0 m.versions) known.0 in
       let one = subst (λ (l : List (List DomainTree)). IsPrefix q.version.view.known l) (only_item config versions begins few) known.0 in
       both (λ (a : Asked). IsByConfig config limiter.global_shadow a.request a.result) xs (all_asked asked)
-      (lead_replies size config bounds (checker limiter p) xs (checker limiter q) h.0 one) (all_replies config versions few ps asked qs h.1 first.1 known.1)
+      (lead_replies size config (checker limiter p) xs (checker limiter q) h.0 one) (all_replies config versions few ps asked qs h.1 first.1 known.1)
   all_replies config versions few before asked after h first known = absurd h
 
 -- ---- new passes
@@ -211,17 +211,17 @@ pub has_closed : (size : ℕ) (limiter : LimiterView) (passes : List PassView) (
     → ((n : ℕ) → IsOwnedOnce 1 (length versions) n (total (λ (q : PassView). times n q.version.view.own) passes)) → IsOneLedger claims passes → AreSightsInIt claims passes
     → HasClosed size limiter passes
 has_closed size limiter passes claims versions claims_known versions_known owned ledger sights = record {
-  lawful = λ config start bounds before asked new led.
+  lawful = λ config start before asked new led.
       let fresh = recursion_from_All (IsNew config start) before new in
       let known = recursion_from_All (λ (q : PassView). IsPrefix q.claims.known claims) passes claims_known in
-      let named = all_named size limiter bounds claims before asked passes led (none_charged config start before fresh) known in
-      let few = nobody_owns (length versions) _ (none_own size limiter bounds 1 before asked passes led (none_owned config start before fresh)) (owned 1) in
+      let named = all_named size limiter claims before asked passes led (none_charged config start before fresh) known in
+      let few = nobody_owns (length versions) _ (none_own size limiter 1 before asked passes led (none_owned config start before fresh)) (owned 1) in
       let each = recursion_from_All (λ (q : PassView). (x : Sight CounterKey) → HasSight claims q.cells x → IsLawfulSight same_counter (ledger_of (all_asked asked)) x) passes
       (sights (ledger_of (all_asked asked)) named) in
       record {
-        replies = all_replies size limiter bounds config versions few before asked passes led (one_known config start before fresh)
+        replies = all_replies size limiter config versions few before asked passes led (one_known config start before fresh)
             (recursion_from_All (λ (q : PassView). IsPrefix q.version.view.known versions) passes versions_known);
         ledger = ledger (ledger_of (all_asked asked)) named;
-        sights = all_seen size limiter bounds claims (IsLawfulSight same_counter (ledger_of (all_asked asked))) before asked passes led known each;
+        sights = all_seen size limiter claims (IsLawfulSight same_counter (ledger_of (all_asked asked))) before asked passes led known each;
       };
 }

@@ -49,14 +49,14 @@ all_asked asked = flat_map (λ xs. xs) asked
 
 module _ (cells : ℕ) (limiter : LimiterView) where
   -- pass by pass, these checks led from what it was to what it is
-  abbrev pub LeadEach : Option (ℕ × ℕ) → List PassView → List (List Asked) → List PassView → Type 0
-  LeadEach bounds [] [] [] = Unit {0}
-  LeadEach bounds (p ∷ ps) (xs ∷ asked) (q ∷ qs) =
-      Lead (ChecksBy cells) bounds (checker limiter p) xs (checker limiter q) × LeadEach bounds ps asked qs
-  LeadEach bounds ps asked qs = ⊥
+  abbrev pub LeadEach : List PassView → List (List Asked) → List PassView → Type 0
+  LeadEach [] [] [] = Unit {0}
+  LeadEach (p ∷ ps) (xs ∷ asked) (q ∷ qs) =
+      Lead (ChecksBy cells) (checker limiter p) xs (checker limiter q) × LeadEach ps asked qs
+  LeadEach ps asked qs = ⊥
 
   -- The limiter is closed, with these passes: whatever checks led to them from passes that were new, all of one configuration, are lawful.
   pub record HasClosed (passes : List PassView) : Type 0 where
-    pub lawful : (config : List DomainTree) (start : ℕ) (bounds : Option (ℕ × ℕ)) (before : List PassView) (asked : List (List Asked))
-        → All (λ p. IsNewPass config start p) before → LeadEach bounds before asked passes
+    pub lawful : (config : List DomainTree) (start : ℕ) (before : List PassView) (asked : List (List Asked))
+        → All (λ p. IsNewPass config start p) before → LeadEach before asked passes
         → AreLawfulChecks config limiter.global_shadow (all_asked asked)

@@ -1,6 +1,6 @@
 -- What reads do to a link, one after the other.
 use Rattle.std.specs.Prelude.{Result, Ok, Err}
-use Rattle.std.proofs.Common.{◌≡◌, ℕ, ◌<◌, ◌≤◌, ◌==◌, ◌||◌, Bool, true, false, List, [], ◌∷◌, ◌++◌, length, take, Option, Some, None, nat_lt, refl, sym, ap, ◌∙◌, append-nil}
+use Rattle.std.proofs.Common.{◌≡◌, ℕ, ◌<◌, ◌≤◌, ◌==◌, ◌||◌, Bool, true, false, List, [], ◌∷◌, ◌++◌, length, take, ◌+◌, length-append, Option, Some, None, nat_lt, refl, sym, ap, ◌∙◌, append-nil}
 use Rattle.std.proofs.Common.{append_assoc, arith, le_trans, subst}
 use Rattle.std.proofs.lemmas.Bool.Decides.{nat_tests}
 use Rattle.std.proofs.lemmas.Grind.{flat_map-append}
@@ -10,6 +10,7 @@ use Rattle.rate_io.specs.Causes.{Rose}
 use Rattle.rate_io.specs.Events.{Event, gave, ended, read_failed, bytes_given, is_ended, is_read_failed, is_write_failed, piece_written, given, has_ended, has_failed}
 use Rattle.rate_io.specs.Events.{has_write_failed, pieces_written, read_event}
 use Rattle.rate_io.specs.Links.{LinkState, StaysLink, IsLinkRead}
+use Rattle.http_endpoint.specs.Order.{Waits, ReadsOn, is_read}
 use Rattle.http_endpoint.specs.Steps.{Drew, FoundEnd, FailedToRead}
 
 -- ---- histories
@@ -63,19 +64,27 @@ rose_earlier a b n h r = omega arith
 -- ---- links
 
 pub stays_same : (a : LinkState) → StaysLink a a
-stays_same a = record { can_fail = refl; is_shut = refl; sure = λ sure. refl }
+stays_same a = record { can_fail = refl; is_shut = refl; bounds = refl; sure = λ sure. refl }
 
 pub stays_more : (a b c : LinkState) → StaysLink a b → StaysLink b c → StaysLink a c
 stays_more a b c x y = record {
   can_fail = y.can_fail ∙ x.can_fail;
   is_shut = y.is_shut ∙ x.is_shut;
+  bounds = y.bounds ∙ x.bounds;
   sure = λ sure. y.sure (x.can_fail ∙ sure) ∙ x.sure sure;
 }
 
+-- reads, and then more
+pub reads_more : (bytes : List ℕ) (xs ys : List Event) → ReadsOn bytes xs → ReadsOn (bytes ++ given xs) ys → ReadsOn bytes (xs ++ ys)
+reads_more bytes [] ys x y = subst (λ (bs : List ℕ). ReadsOn bs ys) (append-nil bytes) y
+reads_more bytes (e ∷ xs) ys x y =
+    (x.0, x.1, reads_more (bytes ++ bytes_given e) xs ys x.2 (subst (λ (bs : List ℕ). ReadsOn bs ys) (sym (append_assoc bytes (bytes_given e) (given xs))) y))
+
 -- no read
-pub drew_none : (a : LinkState) → Drew a a []
-drew_none a = record {
+pub drew_none : (bytes : List ℕ) (a : LinkState) → Drew bytes a a []
+drew_none bytes a = record {
   history = sym (append-nil a.history);
+  on = tt;
   quiet = refl;
   unfailed = refl;
   left = consumes_same a.left;
@@ -85,9 +94,11 @@ drew_none a = record {
 }
 
 -- reads, and then more
-pub drew_more : (a b c : LinkState) (xs ys : List Event) → Drew a b xs → Drew b c ys → Drew a c (xs ++ ys)
-drew_more a b c xs ys x y = record {
+pub drew_more : (bytes mid : List ℕ) (a b c : LinkState) (xs ys : List Event) → mid ≡ bytes ++ given xs → Drew bytes a b xs → Drew mid b c ys
+    → Drew bytes a c (xs ++ ys)
+drew_more bytes mid a b c xs ys at x y = record {
   history = y.history ∙ (ap (λ h. h ++ ys) x.history ∙ append_assoc a.history xs ys);
+  on = reads_more bytes xs ys x.on (subst (λ (bs : List ℕ). ReadsOn bs ys) at y.on);
   quiet = pieces-append xs ys ∙ (ap (λ p. p ++ pieces_written ys) x.quiet ∙ y.quiet);
   unfailed = unfailed-append xs ys x.unfailed y.unfailed;
   left = subst (λ (bytes : List ℕ). Consumes a.left c.left bytes) (sym (given-append xs ys)) (consumes_more a.left b.left c.left (given xs) (given ys) x.left y.left);
@@ -99,8 +110,8 @@ drew_more a b c xs ys x y = record {
 pub end_later : (c : LinkState) (xs ys : List Event) → FoundEnd c ys → FoundEnd c (xs ++ ys)
 end_later c xs ys y = record { ended = ended-append xs ys y.ended; empty = y.empty }
 
-pub failed_later : (a b c : LinkState) (xs ys : List Event) → Drew a b xs → FailedToRead b c ys → FailedToRead a c (xs ++ ys)
-failed_later a b c xs ys x y = record {
+pub failed_later : (bytes : List ℕ) (a b c : LinkState) (xs ys : List Event) → Drew bytes a b xs → FailedToRead b c ys → FailedToRead a c (xs ++ ys)
+failed_later bytes a b c xs ys x y = record {
   failed = failed-append xs ys y.failed;
   rose = rose_earlier a.faults b.faults c.faults x.later y.rose;
 }
@@ -108,11 +119,12 @@ failed_later a b c xs ys x y = record {
 -- ---- one read
 
 -- a read that answered so
-read_drew : {E : Type 0} (a b : LinkState) (result : Result ℕ E) (room : List ℕ) (event : Event) → IsLinkRead a b result room
-    → read_event result room ≡ event → pieces_written (event ∷ []) ≡ [] → has_write_failed (event ∷ []) ≡ false
-    → Consumes a.left b.left (given (event ∷ [])) → Drew a b (event ∷ [])
-read_drew a b result room event r is quiet unfailed left = record {
+read_drew : {E : Type 0} (bytes : List ℕ) (a b : LinkState) (waits : Waits bytes) (result : Result ℕ E) (room : List ℕ) (event : Event) → IsLinkRead a b result room
+    → read_event result room ≡ event → is_read event ≡ true → pieces_written (event ∷ []) ≡ [] → has_write_failed (event ∷ []) ≡ false
+    → Consumes a.left b.left (given (event ∷ [])) → Drew bytes a b (event ∷ [])
+read_drew bytes a b waits result room event r is of_read quiet unfailed left = record {
   history = r.history ∙ ap (λ e. a.history ++ e ∷ []) is;
+  on = (waits, of_read, tt);
   quiet = quiet;
   unfailed = unfailed;
   left = left;
@@ -122,32 +134,41 @@ read_drew a b result room event r is quiet unfailed left = record {
 }
 
 -- a read that handed out bytes
-pub drew_bytes : {E : Type 0} (a b : LinkState) (count : ℕ) (room : List ℕ) → IsLinkRead {E = E} a b (Ok count) room → (count == 0) ≡ false
-    → Drew a b (gave (take count room) ∷ [])
-drew_bytes {E = E} a b count room r some =
-    read_drew {E = E} a b (Ok count) room (gave (take count room)) r (rw some refl) refl refl
+pub drew_bytes : {E : Type 0} (bytes : List ℕ) (a b : LinkState) (waits : Waits bytes) (count : ℕ) (room : List ℕ) → IsLinkRead {E = E} a b (Ok count) room → (count == 0) ≡ false
+    → Drew bytes a b (gave (take count room) ∷ [])
+drew_bytes {E = E} bytes a b waits count room r some =
+    read_drew {E = E} bytes a b waits (Ok count) room (gave (take count room)) r (rw some refl) refl refl refl
     (subst (λ (bytes : List ℕ). Consumes a.left b.left bytes) (sym (append-nil (take count room))) r.left.0)
 
 -- a read that answered the end
-pub drew_end : {E : Type 0} (a b : LinkState) (count : ℕ) (room : List ℕ) → IsLinkRead {E = E} a b (Ok count) room → (count == 0) ≡ true → 0 < length room
-    → Drew a b (ended ∷ []) × FoundEnd b (ended ∷ [])
-drew_end {E = E} a b count room r none space =
+pub drew_end : {E : Type 0} (bytes : List ℕ) (a b : LinkState) (waits : Waits bytes) (count : ℕ) (room : List ℕ) → IsLinkRead {E = E} a b (Ok count) room → (count == 0) ≡ true → 0 < length room
+    → Drew bytes a b (ended ∷ []) × FoundEnd b (ended ∷ [])
+drew_end {E = E} bytes a b waits count room r none space =
     let zero : count ≡ 0 = grind (arith, nat_tests) in
     let has : nat_lt 0 (length room) ≡ true = grind (arith, nat_tests) in
     let empty : take count room ≡ [] = ap (λ n. take n room) zero in (
-      read_drew {E = E} a b (Ok count) room ended r (rw (none, has) refl) refl refl
+      read_drew {E = E} bytes a b waits (Ok count) room ended r (rw (none, has) refl) refl refl refl
           (subst (λ (bytes : List ℕ). Consumes a.left b.left bytes) empty r.left.0),
       record { ended = refl; empty = r.left.1 zero space },
     )
 
 -- a read that failed
-pub drew_failed : {E : Type 0} (a b : LinkState) (e : E) (room : List ℕ) → IsLinkRead {E = E} a b (Err e) room
-    → Drew a b (read_failed ∷ []) × FailedToRead a b (read_failed ∷ [])
-drew_failed {E = E} a b e room r = (
-  read_drew {E = E} a b (Err e) room read_failed r refl refl refl (consumes_none a.left b.left r.left),
+pub drew_failed : {E : Type 0} (bytes : List ℕ) (a b : LinkState) (waits : Waits bytes) (e : E) (room : List ℕ) → IsLinkRead {E = E} a b (Err e) room
+    → Drew bytes a b (read_failed ∷ []) × FailedToRead a b (read_failed ∷ [])
+drew_failed {E = E} bytes a b waits e room r = (
+  read_drew {E = E} bytes a b waits (Err e) room read_failed r refl refl refl refl (consumes_none a.left b.left r.left),
   record { failed = refl; rose = r.cause.failed },
 )
 
 -- the bytes of one read
 pub given_one : (bytes : List ℕ) → given (gave bytes ∷ []) ≡ bytes
 given_one bytes = append-nil bytes
+
+-- bytes that grew by those of reads, twice
+pub grown_by : (now bytes mid : List ℕ) (xs ys : List Event) → mid ≡ bytes ++ given xs → now ≡ mid ++ given ys → now ≡ bytes ++ given (xs ++ ys)
+grown_by now bytes mid xs ys is then =
+    then ∙ (ap (λ zs. zs ++ given ys) is ∙ (append_assoc bytes (given xs) (given ys) ∙ ap (λ zs. bytes ++ zs) (sym (given-append xs ys))))
+
+-- so many bytes that were read, and then more
+pub counted_by : (n : ℕ) (xs ys : List Event) → n + length (given xs) + length (given ys) ≡ n + length (given (xs ++ ys))
+counted_by n xs ys = let a = ap length (given-append xs ys) ∙ length-append (given xs) (given ys) in omega arith

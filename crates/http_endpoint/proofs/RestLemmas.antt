@@ -1,5 +1,5 @@
 -- What comes of a request whose rest is still to come.
-use Rattle.std.proofs.Common.{◌≡◌, ℕ, ◌+◌, ◌<◌, Bool, true, false, List, [], ◌++◌, length, sym, ap, ◌∙◌, subst, append-nil, length-append, arith, if◌then◌else◌}
+use Rattle.std.proofs.Common.{◌≡◌, ℕ, ◌+◌, ◌<◌, Bool, true, false, List, [], ◌++◌, length, refl, sym, ap, ◌∙◌, subst, append-nil, length-append, arith, if◌then◌else◌}
 use Rattle.std.proofs.lemmas.List.{drop_all}
 use Rattle.rate_io.specs.Events.{Event, given}
 use Rattle.rate_io.specs.Links.{LinkState}
@@ -7,7 +7,8 @@ use Rattle.http_front.specs.Front.{IsFront, is_waiting, used_of}
 use Rattle.http_front.specs.Part.{Stands, EndsAt, NeedsMemory}
 use Rattle.http_front.specs.declared.front.Front.{Front}
 use Rattle.http_front.specs.declared.front.Front.TheVariants.{Ended, CutShort}
-use Rattle.http_endpoint.specs.Steps.{Drew, Awaits, IsWhole, Comes, ComesTo, Finds, FoundEnd, HeadFinds}
+use Rattle.http_endpoint.specs.Order.{Waits}
+use Rattle.http_endpoint.specs.Steps.{WaitsUntil, Drew, Awaits, IsWhole, Comes, ComesTo, Finds, FoundEnd, HeadFinds}
 use Rattle.http_endpoint.specs.declared.next.Next.{Next}
 use Rattle.http_endpoint.specs.declared.next.Next.TheVariants as next
 use Rattle.http_endpoint.specs.declared.next.HeadRead.TheVariants as head
@@ -53,6 +54,15 @@ whole_now old read total sent e whole =
 
 -- ---- the rest
 
+-- until it is there, no request is whole
+pub waits_until : (bytes : List ℕ) (total : ℕ) (sent : Bool) → EndsAt bytes total sent → WaitsUntil bytes total
+waits_until bytes total sent e more less = (CutShort, e.until more less, refl)
+
+-- nor where no head stands
+pub waits_head : (bytes : List ℕ) (is_blank : Bool) → IsFront bytes (if is_blank then Ended else CutShort) → Waits bytes
+waits_head bytes true p = (Ended, p, refl)
+waits_head bytes false p = (CutShort, p, refl)
+
 -- it came
 pub rest_comes : (bytes unread : List ℕ) (old new : LinkState) (events : List Event) (found : Next) → Comes bytes unread found → Finds bytes unread old new events found
 rest_comes bytes unread old new events (next.Front front) p = (p.0, p.2 ∙ sym (drop_all (used_of front) bytes (omega (arith, p.1))))
@@ -76,10 +86,10 @@ pub rest_cut : (old read : List ℕ) (total : ℕ) (sent : Bool) → EndsAt old 
 rest_cut old read total sent e less = e.until read (omega (arith, length-append old read))
 
 -- reads came before
-pub finds_later : (bytes unread : List ℕ) (a b c : LinkState) (xs ys : List Event) (found : Next) → Drew a b xs
+pub finds_later : (bytes unread first : List ℕ) (a b c : LinkState) (xs ys : List Event) (found : Next) → Drew first a b xs
     → Finds bytes unread b c ys found → Finds bytes unread a c (xs ++ ys) found
-finds_later bytes unread a b c xs ys (next.Front front) d p = p
-finds_later bytes unread a b c xs ys (next.NoMemory sent) d p = p
-finds_later bytes unread a b c xs ys next.Ended d p = (p.0, end_later c xs ys p.1)
-finds_later bytes unread a b c xs ys next.CutShort d p = (p.0, end_later c xs ys p.1)
-finds_later bytes unread a b c xs ys next.ReadFault d p = failed_later a b c xs ys d p
+finds_later bytes unread first a b c xs ys (next.Front front) d p = p
+finds_later bytes unread first a b c xs ys (next.NoMemory sent) d p = p
+finds_later bytes unread first a b c xs ys next.Ended d p = (p.0, end_later c xs ys p.1)
+finds_later bytes unread first a b c xs ys next.CutShort d p = (p.0, end_later c xs ys p.1)
+finds_later bytes unread first a b c xs ys next.ReadFault d p = failed_later first a b c xs ys d p

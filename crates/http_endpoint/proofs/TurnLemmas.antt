@@ -1,6 +1,6 @@
 -- What was printed is the answer of a turn.
 use Rattle.std.specs.Prelude.{Result}
-use Rattle.std.proofs.Common.{◌≡◌, ℕ, ◌==◌, ◌+◌, ◌<◌, Bool, true, false, ◌||◌, List, [], ◌∷◌, ◌++◌, drop, Option, Some, None, refl, sym, ap, ◌∙◌, inl, inr, subst, arith}
+use Rattle.std.proofs.Common.{◌≡◌, ℕ, ◌==◌, ◌+◌, ◌<◌, Bool, true, false, ◌||◌, List, [], ◌∷◌, ◌++◌, drop, Option, Some, None, refl, sym, ap, ◌∙◌, inl, inr, subst, arith, append-nil}
 use Rattle.std.proofs.lemmas.Bool.Decides.{nat_tests}
 use Rattle.rate_types.specs.Requests.{RequestParts}
 use Rattle.rls_core.specs.declared.reply.Reply.{Reply}
@@ -12,26 +12,52 @@ use Rattle.http_front.specs.Part.{Stands}
 use Rattle.http_front.specs.declared.answer.HttpAnswer.{HttpAnswer}
 use Rattle.http_front.specs.declared.front.Front.{Front}
 use Rattle.http_front.specs.declared.front.Front.TheVariants.{Ended, CutShort, Fixed, Check}
-use Rattle.http_endpoint.specs.Answers.{Asked, Turn, GivesResult, closing, MayAsk, IsTurn, IsOffered, CheckStep, Lead}
-use Rattle.http_endpoint.specs.Steps.{Awaits, Prints, PrintsResult, TurnsOut, TakesTurn}
+use Rattle.http_endpoint.specs.Answers.{Asked, Turn, GivesResult, closing, MayAsk, IsTurn, CheckStep, Lead}
+use Rattle.rate_io.specs.Links.{LinkState, IsLinkNow}
+use Rattle.http_endpoint.proofs.ReadLemmas.{stays_same}
+use Rattle.http_endpoint.specs.Steps.{Tells, Awaits, Prints, PrintsResult, TurnsOut, TakesTurn}
 use Rattle.http_endpoint.specs.declared.turn.Printed.{Printed}
 use Rattle.http_endpoint.specs.declared.turn.Printed.TheVariants.{Text, NoMemory}
 
+-- nothing was told
+pub tells_none : (a : LinkState) → Tells a a None
+tells_none a = record {
+  history = sym (append-nil a.history);
+  within = tt;
+  left = refl;
+  written = refl;
+  faults = refl;
+  stays = stays_same a;
+}
+
+-- one moment was told
+tells_one : (a b : LinkState) (asked : Asked) → IsLinkNow a b asked.now → Tells a b (Some asked)
+tells_one a b asked n = record {
+  history = n.history;
+  within = n.within;
+  left = n.left;
+  written = n.written;
+  faults = n.faults;
+  stays = n.stays;
+}
+
 -- of a fixed answer
-pub fixed_turn : {S : Type 0} (answers : CheckStep S) (bounds : Option (ℕ × ℕ)) (is_last : Bool) (fixed : HttpAnswer) (used : ℕ) (checks : S) (out : List ℕ) (printed : Printed)
-    → Prints (closing is_last fixed) out printed → TurnsOut answers bounds is_last (Fixed fixed used) checks checks out printed
-fixed_turn answers bounds is_last fixed used checks out (Text closes) p = record {
+pub fixed_turn : {S : Type 0} (answers : CheckStep S) (is_last : Bool) (fixed : HttpAnswer) (used : ℕ) (a : LinkState) (checks : S) (out : List ℕ) (printed : Printed)
+    → Prints (closing is_last fixed) out printed → TurnsOut answers is_last (Fixed fixed used) a a checks checks out printed
+fixed_turn answers is_last fixed used a checks out (Text closes) p = record {
   t = record { front = Fixed fixed used; asked = None; answer = closing is_last fixed };
   front_is = refl;
   turn = inl refl;
   prints = record { bytes = p.0; closes = p.1 };
+  tells = tells_none a;
   lead = refl;
 }
-fixed_turn answers bounds is_last fixed used checks out (NoMemory sends_body) p = record {
+fixed_turn answers is_last fixed used a checks out (NoMemory sends_body) p = record {
   t = record { front = Fixed fixed used; asked = None; answer = plain 500 None sends_body true };
   front_is = refl;
   turn = inr (record { may_ask = tt; answer = ap (λ s. plain 500 None s true) p });
   prints = record { bytes = refl; closes = refl };
+  tells = tells_none a;
   lead = refl;
 }
 
@@ -48,23 +74,25 @@ spent_prints closes claims wanted out (Text closed) p = (plain 503 None true clo
 spent_prints closes claims wanted out (NoMemory sends_body) p = p
 
 -- of a check
-pub check_turn : {S : Type 0} (answers : CheckStep S) (bounds : Option (ℕ × ℕ)) (is_last : Bool) (request : RequestParts) (closes : Bool) (used now : ℕ)
-    (result : Result Reply CheckFault) (checks after : S) (out : List ℕ) (printed : Printed)
-    → IsOffered bounds now → answers checks request now result after → PrintsResult (closes || is_last) result out printed
-    → TurnsOut answers bounds is_last (Check request closes used) checks after out printed
-check_turn answers bounds is_last request closes used now result checks after out (Text closed) offered step p = record {
+pub check_turn : {S : Type 0} (answers : CheckStep S) (is_last : Bool) (request : RequestParts) (closes : Bool) (used now : ℕ)
+    (result : Result Reply CheckFault) (a b : LinkState) (checks after : S) (out : List ℕ) (printed : Printed)
+    → IsLinkNow a b now → answers checks request now result after → PrintsResult (closes || is_last) result out printed
+    → TurnsOut answers is_last (Check request closes used) a b checks after out printed
+check_turn answers is_last request closes used now result a b checks after out (Text closed) offered step p = record {
   t = record { front = Check request closes used; asked = Some (record { request = request; now = now; result = result }); answer = p.0 };
   front_is = refl;
   turn = inl (refl, p.1);
   prints = record { bytes = p.2; closes = p.3 };
-  lead = (after, offered, step, refl);
+  tells = tells_one a b (record { request = request; now = now; result = result }) offered;
+  lead = (after, step, refl);
 }
-check_turn answers bounds is_last request closes used now result checks after out (NoMemory sends_body) offered step p = record {
+check_turn answers is_last request closes used now result a b checks after out (NoMemory sends_body) offered step p = record {
   t = record { front = Check request closes used; asked = Some (record { request = request; now = now; result = result }); answer = plain 500 None sends_body true };
   front_is = refl;
   turn = inr (record { may_ask = refl; answer = ap (λ s. plain 500 None s true) p });
   prints = record { bytes = refl; closes = refl };
-  lead = (after, offered, step, refl);
+  tells = tells_one a b (record { request = request; now = now; result = result }) offered;
+  lead = (after, step, refl);
 }
 
 -- no check need be made
@@ -75,27 +103,29 @@ may_not (Fixed answer used) = tt
 may_not (Check request closes used) = tt
 
 -- the answer of a front that was found
-pub front_turn : {S : Type 0} (answers : CheckStep S) (bounds : Option (ℕ × ℕ)) (is_last : Bool) (bytes unread : List ℕ) (front : Front) (checks after : S) (out : List ℕ)
+pub front_turn : {S : Type 0} (answers : CheckStep S) (is_last : Bool) (bytes unread : List ℕ) (front : Front) (a b : LinkState) (checks after : S) (out : List ℕ)
     (printed : Printed)
-    → Stands bytes front → unread ≡ drop (used_of front) bytes → TurnsOut answers bounds is_last front checks after out printed
-    → TakesTurn answers bounds is_last bytes unread checks after out printed
-front_turn answers bounds is_last bytes unread front checks after out printed stands rest x = record {
+    → Stands bytes front → unread ≡ drop (used_of front) bytes → TurnsOut answers is_last front a b checks after out printed
+    → TakesTurn answers is_last bytes unread a b checks after out printed
+front_turn answers is_last bytes unread front a b checks after out printed stands rest x = record {
   t = x.t;
   stands = subst (λ (f : Front). Stands bytes f) (sym x.front_is) stands;
   turn = x.turn;
   prints = x.prints;
+  tells = x.tells;
   lead = x.lead;
   unread_is = λ still. rest ∙ ap (λ f. drop (used_of f) bytes) (sym x.front_is);
 }
 
 -- 500 where memory ran out over a front
-pub memory_turn : {S : Type 0} (answers : CheckStep S) (bounds : Option (ℕ × ℕ)) (is_last : Bool) (bytes unread : List ℕ) (checks : S) (out : List ℕ) (sends_body : Bool)
-    → Awaits bytes sends_body → TakesTurn answers bounds is_last bytes unread checks checks out (NoMemory sends_body)
-memory_turn answers bounds is_last bytes unread checks out sends_body f = record {
+pub memory_turn : {S : Type 0} (answers : CheckStep S) (is_last : Bool) (bytes unread : List ℕ) (a : LinkState) (checks : S) (out : List ℕ) (sends_body : Bool)
+    → Awaits bytes sends_body → TakesTurn answers is_last bytes unread a a checks checks out (NoMemory sends_body)
+memory_turn answers is_last bytes unread a checks out sends_body f = record {
   t = record { front = f.0; asked = None; answer = plain 500 None sends_body true };
   stands = f.1;
   turn = inr (record { may_ask = may_not f.0; answer = ap (λ s. plain 500 None s true) f.2 });
   prints = record { bytes = refl; closes = refl };
+  tells = tells_none a;
   lead = refl;
   unread_is = λ still. absurd (cc);
 }
@@ -131,7 +161,7 @@ still_few n t is stays few = by (n + 1 == 1024) refl is
 
 -- ---- checks, one after the other
 
-pub lead_more : {S : Type 0} (answers : CheckStep S) (bounds : Option (ℕ × ℕ)) (a b c : S) (xs ys : List Asked)
-    → Lead answers bounds a xs b → Lead answers bounds b ys c → Lead answers bounds a (xs ++ ys) c
-lead_more {S = S} answers bounds a b c [] ys x y = subst (λ (s : S). Lead answers bounds s ys c) x y
-lead_more {S = S} answers bounds a b c (q ∷ xs) ys x y = (x.0, x.1, x.2, lead_more answers bounds x.0 b c xs ys x.3 y)
+pub lead_more : {S : Type 0} (answers : CheckStep S) (a b c : S) (xs ys : List Asked)
+    → Lead answers a xs b → Lead answers b ys c → Lead answers a (xs ++ ys) c
+lead_more {S = S} answers a b c [] ys x y = subst (λ (s : S). Lead answers s ys c) x y
+lead_more {S = S} answers a b c (q ∷ xs) ys x y = (x.0, x.1, lead_more answers x.0 b c xs ys x.2 y)

@@ -1,9 +1,8 @@
 -- The answers of a connection, front by front.
-use Rattle.std.specs.Prelude.{◌≡◌, ℕ, ◌+◌, ◌≤◌, min, Bool, true, false, ◌||◌, ◌==◌, List, [], ◌∷◌, drop, Option, Some, None, option_to_list}
-use Rattle.std.specs.Prelude.{MatchOption, if◌then◌else◌, ◌⊎◌, ⊤, Result, Ok, Err}
+use Rattle.std.specs.Prelude.{◌≡◌, ℕ, ◌+◌, Bool, true, false, ◌||◌, ◌==◌, List, [], ◌∷◌, drop, Option, Some, None, option_to_list}
+use Rattle.std.specs.Prelude.{if◌then◌else◌, ◌⊎◌, ⊤, Result, Ok, Err}
 use Rattle.std.specs.List.{flat_map}
 use Rattle.rate_types.specs.Requests.{RequestParts}
-use Rattle.rate_types.specs.declared.limits.TheConstants.{LATEST_MOMENT}
 use Rattle.rls_core.specs.declared.reply.Reply.{Reply}
 use Rattle.rls_core.specs.declared.fault.CheckFault.{CheckFault}
 use Rattle.rls_core.specs.declared.fault.CheckFault.TheVariants as fault
@@ -100,16 +99,12 @@ turn_bytes t = answer_bytes t.answer
 abbrev pub asked_in : List Turn → List Asked
 asked_in turns = flat_map (λ t. option_to_list t.asked) turns
 
--- a moment that was offered lies between the clock's bounds, where they are told, each at most the latest moment
-abbrev pub IsOffered : Option (ℕ × ℕ) → ℕ → Type 0
-IsOffered bounds now = MatchOption bounds ⊤ (λ b. (min b.0 LATEST_MOMENT ≤ now) × (now ≤ min b.1 LATEST_MOMENT))
-
 -- what checks do: from a state, a check of this request, which offers this moment, comes to this and leaves a state
 abbrev pub CheckStep : Type 0 → Type 1
 CheckStep S = S → RequestParts → ℕ → Result Reply CheckFault → S → Type 0
 
--- each check leads from the state that the one before it left, at a moment of the clock
-abbrev pub Lead : {S : Type 0} → CheckStep S → Option (ℕ × ℕ) → S → List Asked → S → Type 0
-Lead answers bounds old [] new = new ≡ old
-Lead {S} answers bounds old (a ∷ asked) new =
-    (next : S) × IsOffered bounds a.now × answers old a.request a.now a.result next × Lead answers bounds next asked new
+-- each check leads from the state that the one before it left
+abbrev pub Lead : {S : Type 0} → CheckStep S → S → List Asked → S → Type 0
+Lead answers old [] new = new ≡ old
+Lead {S} answers old (a ∷ asked) new =
+    (next : S) × answers old a.request a.now a.result next × Lead answers next asked new

@@ -1,4 +1,5 @@
 pub mod Answers
+pub mod Order
 pub mod Served
 pub mod Steps
 pub mod ServeLines

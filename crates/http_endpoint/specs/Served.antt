@@ -10,6 +10,7 @@ use Rattle.rate_io.specs.Links.{LinkState, StaysLink}
 use Rattle.http_front.specs.Front.{IsFront}
 use Rattle.http_front.specs.declared.front.Front.TheVariants.{Ended as FrontEnded, CutShort as FrontCutShort}
 use Rattle.http_endpoint.specs.Answers.{Turn, IsNext, AreAnswers, turn_bytes, CheckStep, asked_in, Lead}
+use Rattle.http_endpoint.specs.Order.{AllCalls}
 use Rattle.http_endpoint.specs.declared.link_end.LinkCause.{LinkCause}
 use Rattle.http_endpoint.specs.declared.link_end.LinkCause.TheVariants.{Closed, Ended, CutShort, ReadFault, WriteFault}
 
@@ -42,9 +43,9 @@ EndsBy WriteFault old new events turns last rest count =
     (t : Turn) × (last ≡ Some t) × WroteUpTo old new events turns t × (count ≡ length turns)
 
 -- A connection that has ended: its calls; the answers that left it open and maybe one more, which are those of the bytes
--- that its reads handed out; the bytes behind them; and the checks, each for a front that asks for it, from the first state
--- of what answers them to the last.
-pub record Serves {S : Type 0} (answers : CheckStep S) (bounds : Option (ℕ × ℕ))
+-- that its reads handed out; the bytes behind them; the order of its reads, of what the clock told, and of its writes; and
+-- the checks, each for a front that asks for it, from the first state of what answers them to the last.
+pub record Serves {S : Type 0} (answers : CheckStep S)
     (checks checks_after : S) (old new : LinkState) (cause : LinkCause) (count : ℕ) : Type 0 where
   pub events : List Event
   pub turns : List Turn
@@ -53,7 +54,8 @@ pub record Serves {S : Type 0} (answers : CheckStep S) (bounds : Option (ℕ × 
   pub history : new.history ≡ old.history ++ events
   pub are_answers : AreAnswers 0 (given events) turns rest
   pub is_next : MatchOption last ⊤ (λ t. IsNext (length turns) rest t)
-  pub lead : Lead answers bounds checks (asked_in (turns ++ option_to_list last)) checks_after
+  pub in_order : AllCalls old.bounds turns last events rest
+  pub lead : Lead answers checks (asked_in (turns ++ option_to_list last)) checks_after
   pub ends : EndsBy cause old new events turns last rest count
   pub left : Consumes old.left new.left (given events)
   pub stays : StaysLink old new

@@ -7,13 +7,14 @@ use Rattle.rls_core.specs.declared.fault.CheckFault.{CheckFault}
 use Rattle.rate_io.specs.Causes.{Rose}
 use Rattle.rate_io.specs.Events.{Event, given, has_ended, has_failed, has_write_failed, pieces_written}
 use Rattle.rate_io.specs.Links.{LinkState, StaysLink}
+use Rattle.http_endpoint.specs.Order.{Waits, ReadsOn, told_for, OffersWithin, Calls}
 use Rattle.http_front.specs.Front.{IsFront, sends, used_of, plain}
 use Rattle.http_front.specs.Part.{Stands, EndsAt}
 use Rattle.http_front.specs.Printed.{answer_bytes}
 use Rattle.http_front.specs.declared.answer.HttpAnswer.{HttpAnswer}
 use Rattle.http_front.specs.declared.front.Front.{Front}
 use Rattle.http_front.specs.declared.front.Front.TheVariants.{Ended as FrontEnded, CutShort as FrontCutShort}
-use Rattle.http_endpoint.specs.Answers.{answers_max, Turn, IsTurn, GivesResult, CheckStep, Lead, asked_in}
+use Rattle.http_endpoint.specs.Answers.{answers_max, Asked, Turn, IsTurn, GivesResult, CheckStep, Lead, asked_in}
 use Rattle.http_endpoint.specs.Served.{Wrote}
 use Rattle.http_endpoint.specs.declared.inbox.Filled.{Filled}
 use Rattle.http_endpoint.specs.declared.inbox.Filled.TheVariants.{More, End, Failed}
@@ -28,9 +29,14 @@ use Rattle.http_endpoint.specs.declared.serve.NextAnswer.TheVariants as answer
 
 -- ---- reads
 
--- these reads of a link, and nothing else
-pub record Drew (old new : LinkState) (events : List Event) : Type 0 where
+-- with fewer bytes in all than this, no request is whole
+abbrev pub WaitsUntil : List ℕ → ℕ → Type 0
+WaitsUntil bytes total = (more : List ℕ) → length (bytes ++ more) < total → Waits (bytes ++ more)
+
+-- these reads of a link, from these bytes on, and nothing else
+pub record Drew (bytes : List ℕ) (old new : LinkState) (events : List Event) : Type 0 where
   pub history : new.history ≡ old.history ++ events
+  pub on : ReadsOn bytes events
   pub quiet : pieces_written events ≡ []
   pub unfailed : has_write_failed events ≡ false
   pub left : Consumes old.left new.left (given events)
@@ -130,36 +136,47 @@ pub record PrintsTurn (t : Turn) (out : List ℕ) (printed : Printed) : Type 0 w
   pub bytes : printed_bytes out printed ≡ answer_bytes t.answer
   pub closes : printed_closes printed ≡ t.answer.closes
 
--- the answer of a front: what was printed for it, and the check that was made
-pub record TurnsOut {S : Type 0} (answers : CheckStep S) (bounds : Option (ℕ × ℕ))
-    (is_last : Bool) (front : Front) (checks checks_after : S) (out : List ℕ) (printed : Printed) : Type 0 where
+-- what the clock told for a check, and nothing else
+pub record Tells (old new : LinkState) (asked : Option Asked) : Type 0 where
+  pub history : new.history ≡ old.history ++ told_for asked
+  pub within : OffersWithin old.bounds asked
+  pub left : new.left ≡ old.left
+  pub written : new.written ≡ old.written
+  pub faults : new.faults ≡ old.faults
+  pub stays : StaysLink old new
+
+-- the answer of a front: what was printed for it, what the clock told, and the check that was made
+pub record TurnsOut {S : Type 0} (answers : CheckStep S)
+    (is_last : Bool) (front : Front) (old new : LinkState) (checks checks_after : S) (out : List ℕ) (printed : Printed) : Type 0 where
   pub t : Turn
   pub front_is : t.front ≡ front
   pub turn : IsTurn is_last t
   pub prints : PrintsTurn t out printed
-  pub lead : Lead answers bounds checks (option_to_list t.asked) checks_after
+  pub tells : Tells old new t.asked
+  pub lead : Lead answers checks (option_to_list t.asked) checks_after
 
 -- the next answer to these bytes
-pub record TakesTurn {S : Type 0} (answers : CheckStep S) (bounds : Option (ℕ × ℕ))
-    (is_last : Bool) (bytes unread : List ℕ) (checks checks_after : S) (out : List ℕ) (printed : Printed) : Type 0 where
+pub record TakesTurn {S : Type 0} (answers : CheckStep S)
+    (is_last : Bool) (bytes unread : List ℕ) (mid new : LinkState) (checks checks_after : S) (out : List ℕ) (printed : Printed) : Type 0 where
   pub t : Turn
   pub stands : Stands bytes t.front
   pub turn : IsTurn is_last t
   pub prints : PrintsTurn t out printed
-  pub lead : Lead answers bounds checks (option_to_list t.asked) checks_after
+  pub tells : Tells mid new t.asked
+  pub lead : Lead answers checks (option_to_list t.asked) checks_after
   pub unread_is : t.answer.closes ≡ false → unread ≡ drop (used_of t.front) bytes
 
--- the next answer, or why none comes
-abbrev pub Takes : {S : Type 0} → CheckStep S → Option (ℕ × ℕ)
-    → Bool → List ℕ → List ℕ → LinkState → LinkState → List Event → S → S → List ℕ → NextAnswer → Type 0
-Takes answers bounds is_last bytes unread old new events checks checks_after out (answer.Answer printed) =
-    TakesTurn answers bounds is_last bytes unread checks checks_after out printed
-Takes answers bounds is_last bytes unread old new events checks checks_after out answer.Ended =
-    IsFront bytes FrontEnded × FoundEnd new events × (checks_after ≡ checks)
-Takes answers bounds is_last bytes unread old new events checks checks_after out answer.CutShort =
-    IsFront bytes FrontCutShort × FoundEnd new events × (checks_after ≡ checks)
-Takes answers bounds is_last bytes unread old new events checks checks_after out answer.ReadFault =
-    FailedToRead old new events × (checks_after ≡ checks)
+-- the next answer, or why none comes; the reads led from the first state to the second
+abbrev pub Takes : {S : Type 0} → CheckStep S
+    → Bool → List ℕ → List ℕ → LinkState → LinkState → LinkState → List Event → S → S → List ℕ → NextAnswer → Type 0
+Takes answers is_last bytes unread old mid new events checks checks_after out (answer.Answer printed) =
+    TakesTurn answers is_last bytes unread mid new checks checks_after out printed
+Takes answers is_last bytes unread old mid new events checks checks_after out answer.Ended =
+    (new ≡ mid) × IsFront bytes FrontEnded × FoundEnd mid events × (checks_after ≡ checks)
+Takes answers is_last bytes unread old mid new events checks checks_after out answer.CutShort =
+    (new ≡ mid) × IsFront bytes FrontCutShort × FoundEnd mid events × (checks_after ≡ checks)
+Takes answers is_last bytes unread old mid new events checks checks_after out answer.ReadFault =
+    (new ≡ mid) × FailedToRead old mid events × (checks_after ≡ checks)
 
 -- ---- the connection so far
 
@@ -170,14 +187,15 @@ StandAnswers before bytes (t ∷ turns) rest = Stands bytes t.front × IsTurn (b
     × StandAnswers (before + 1) (drop (used_of t.front) bytes) turns rest
 
 -- its answers leave it open
-pub record Goes {S : Type 0} (answers : CheckStep S) (bounds : Option (ℕ × ℕ))
+pub record Goes {S : Type 0} (answers : CheckStep S)
     (checks checks_now : S) (old now : LinkState) (count : ℕ) (unread : List ℕ) : Type 0 where
   pub events : List Event
   pub turns : List Turn
   pub history : now.history ≡ old.history ++ events
   pub are_answers : StandAnswers 0 (given events) turns unread
   pub wrote : Wrote old now events turns
-  pub lead : Lead answers bounds checks (asked_in turns) checks_now
+  pub calls : Calls old.bounds [] turns events unread
+  pub lead : Lead answers checks (asked_in turns) checks_now
   pub left : Consumes old.left now.left (given events)
   pub later : old.faults ≤ now.faults
   pub stays : StaysLink old now

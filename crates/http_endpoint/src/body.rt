@@ -1,7 +1,7 @@
 // The rest of a request whose head is read.
 ghost use Rattle.std.specs.Prelude.{◌≡◌, ◌≤◌, ◌+◌, ◌++◌, List, length, vec_capacity};
 ghost use Rattle.rate_io.specs.Events.{Event, given};
-ghost use Rattle.http_endpoint.specs.Steps.{Drew, Completes};
+ghost use Rattle.http_endpoint.specs.Steps.{WaitsUntil, Drew, Completes};
 
 use crate::inbox::Filled;
 use rate_io::Link;
@@ -13,7 +13,8 @@ const PIECE: usize = 4_096;
 pub fn keep_body<L: Link>(kept: &mut Vec<u8>, link: &mut L, total: usize) -> Filled
     requires within { length kept.old.items ≤ total }
     requires room { total ≤ vec_capacity kept.old }
-    ensures { (events : List Event) × Drew (L.state link.old) (L.state link.new) events
+    requires waits { WaitsUntil kept.old.items total }
+    ensures { (events : List Event) × Drew kept.old.items (L.state link.old) (L.state link.new) events
         × (kept.new.items ≡ kept.old.items ++ given events)
         × Completes total (length kept.old.items + length (given events)) (L.state link.old) (L.state link.new) events result }
 {
@@ -32,13 +33,14 @@ pub fn keep_body<L: Link>(kept: &mut Vec<u8>, link: &mut L, total: usize) -> Fil
 }
 
 /// Reads on until there would be `total` bytes, and keeps none.
-pub fn drop_body<L: Link>(have: usize, link: &mut L, total: usize) -> Filled
-    requires { have ≤ total }
-    ensures { (events : List Event) × Drew (L.state link.old) (L.state link.new) events
-        × Completes total (have + length (given events)) (L.state link.old) (L.state link.new) events result }
+pub fn drop_body<L: Link>(unread: &[u8], link: &mut L, total: usize) -> Filled
+    requires within { length unread.now ≤ total }
+    requires waits { WaitsUntil unread.now total }
+    ensures { (events : List Event) × Drew unread.now (L.state link.old) (L.state link.new) events
+        × Completes total (length unread.now + length (given events)) (L.state link.old) (L.state link.new) events result }
 {
     let mut buf = [0u8; PIECE];
-    let mut left = total - have;
+    let mut left = total - unread.len();
     'turns: while left > 0 {
         let most = left.min(PIECE);
         let Ok(count) = link.read(&mut buf[..most]) else {

@@ -1,6 +1,7 @@
 // The bytes of a connection that were read and not used yet.
 ghost use Rattle.std.specs.Prelude.{◌≡◌, ◌≤◌, ◌<◌, ◌+◌, ◌++◌, [], List, length, drop, IfOk};
 ghost use Rattle.rate_io.specs.Events.{Event, given};
+ghost use Rattle.http_endpoint.specs.Order.{Waits};
 ghost use Rattle.http_endpoint.specs.Steps.{Drew, FillsTo};
 
 use rate_io::Link;
@@ -94,8 +95,10 @@ impl Inbox {
 
 /// Reads once, where a head may still come.
 pub fn fill<L: Link>(inbox: &mut Inbox, link: &mut L) -> Filled
-    requires { length inbox.old < 16384 }
-    ensures { (events : List Event) × Drew (L.state link.old) (L.state link.new) events × (inbox.new ≡ inbox.old ++ given events)
+    requires short { length inbox.old < 16384 }
+    requires waits { Waits inbox.old }
+    ensures { (events : List Event) × Drew inbox.old (L.state link.old) (L.state link.new) events
+        × (inbox.new ≡ inbox.old ++ given events)
         × FillsTo (L.state link.old) (L.state link.new) events result }
 {
     let mut buf = [0u8; PIECE];

@@ -2,7 +2,7 @@
 ghost use Rattle.std.specs.Prelude.{◌≡◌, ◌≤◌, ◌+◌, ◌++◌, List, length, if◌then◌else◌, IfSome, vec_capacity};
 ghost use Rattle.rate_io.specs.Events.{Event, given};
 ghost use Rattle.http_front.specs.Part.{EndsAt};
-ghost use Rattle.http_endpoint.specs.Steps.{Drew, HeadFinds, IsWhole, Comes, ComesTo, Finds};
+ghost use Rattle.http_endpoint.specs.Steps.{WaitsUntil, Drew, HeadFinds, IsWhole, Comes, ComesTo, Finds};
 
 use crate::body::{drop_body, keep_body};
 use crate::inbox::{Filled, Inbox, fill};
@@ -47,7 +47,7 @@ fn ended(is_blank: bool) -> HeadRead
 
 // Reads on until a head stands there.
 fn read_head<L: Link>(alloc: Global, inbox: &mut Inbox, link: &mut L) -> HeadRead
-    ensures { (events : List Event) × Drew (L.state link.old) (L.state link.new) events × (inbox.new ≡ inbox.old ++ given events)
+    ensures { (events : List Event) × Drew inbox.old (L.state link.old) (L.state link.new) events × (inbox.new ≡ inbox.old ++ given events)
         × HeadFinds (inbox.old ++ given events) (L.state link.old) (L.state link.new) events result }
 {
     'turns: loop {
@@ -84,12 +84,13 @@ fn whole_front(alloc: Global, inbox: &mut Inbox, bytes: &[u8]) -> Next
 }
 
 // Where memory for the rest of a request is wanting, it is read and not kept.
-fn no_room<L: Link>(have: usize, link: &mut L, total: usize, sends_body: bool) -> Next
-    requires { have ≤ total }
-    ensures { (events : List Event) × Drew (L.state link.old) (L.state link.new) events
-        × ComesTo total (have + length (given events)) sends_body (L.state link.old) (L.state link.new) events result }
+fn no_room<L: Link>(unread: &[u8], link: &mut L, total: usize, sends_body: bool) -> Next
+    requires within { length unread.now ≤ total }
+    requires waits { WaitsUntil unread.now total }
+    ensures { (events : List Event) × Drew unread.now (L.state link.old) (L.state link.new) events
+        × ComesTo total (length unread.now + length (given events)) sends_body (L.state link.old) (L.state link.new) events result }
 {
-    match drop_body(have, link, total) {
+    match drop_body(unread, link, total) {
         Filled::More => Next::NoMemory { sends_body },
         Filled::End => Next::CutShort,
         Filled::Failed => Next::ReadFault,
@@ -120,12 +121,12 @@ fn rest_front<L: Link>(
     sends_body: bool,
 ) -> Next
     requires { EndsAt inbox.old total sends_body }
-    ensures { (events : List Event) × Drew (L.state link.old) (L.state link.new) events
+    ensures { (events : List Event) × Drew inbox.old (L.state link.old) (L.state link.new) events
         × Finds (inbox.old ++ given events) inbox.new (L.state link.old) (L.state link.new) events result }
 {
     let unread = inbox.unread();
     let Some(mut kept) = copy_with_room(alloc, unread, total) else {
-        return no_room(unread.len(), link, total, sends_body);
+        return no_room(unread, link, total, sends_body);
     };
     match keep_body(&mut kept, link, total) {
         Filled::More => whole_front(alloc, inbox, &kept),
@@ -136,7 +137,7 @@ fn rest_front<L: Link>(
 
 /// Reads on until a front stands there.
 pub fn next_front<L: Link>(alloc: Global, inbox: &mut Inbox, link: &mut L) -> Next
-    ensures { (events : List Event) × Drew (L.state link.old) (L.state link.new) events
+    ensures { (events : List Event) × Drew inbox.old (L.state link.old) (L.state link.new) events
         × Finds (inbox.old ++ given events) inbox.new (L.state link.old) (L.state link.new) events result }
 {
     match read_head(alloc, inbox, link) {

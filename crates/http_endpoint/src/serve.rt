@@ -1,6 +1,7 @@
 // A connection, served from its first byte to its end.
 ghost use Rattle.std.specs.Prelude.{◌≡◌, ◌≤◌, ◌++◌, List, string_bytes};
 ghost use Rattle.rate_io.specs.Events.{Event, given};
+ghost use Rattle.rate_io.specs.Links.{LinkState};
 ghost use Rattle.http_endpoint.specs.Served.{Serves};
 ghost use Rattle.http_endpoint.specs.Steps.{Drew, Takes};
 
@@ -8,7 +9,7 @@ use crate::inbox::Inbox;
 use crate::next::{Next, next_front};
 use crate::turn::{Printed, answer_front};
 use crate::{Buffers, Checks, LinkCause, LinkEnd};
-use rate_io::{Clock, Link};
+use rate_io::Link;
 use std::alloc::Global;
 use std::sync::Wait;
 
@@ -24,23 +25,21 @@ pub enum NextAnswer {
     ReadFault,
 }
 
-fn next_answer<R: Wait, N: Link, C: Clock, K: Checks>(
+fn next_answer<R: Wait, N: Link, K: Checks>(
     rt: &R,
     alloc: Global,
     checks: &mut K,
     link: &mut N,
-    clock: &C,
     is_last: bool,
     inbox: &mut Inbox,
     out: &mut String,
 ) -> NextAnswer
-    ensures { (events : List Event) × Drew (N.state link.old) (N.state link.new) events
-        × Takes K.answers (C.bounds clock.now) is_last (inbox.old ++ given events) inbox.new (N.state link.old) (N.state link.new)
-        events checks.old checks.new (string_bytes out.new) result }
+    ensures { (events : List Event) × (mid : LinkState) × Drew inbox.old (N.state link.old) mid events
+        × Takes K.answers is_last (inbox.old ++ given events) inbox.new (N.state link.old) mid (N.state link.new) events checks.old checks.new (string_bytes out.new) result }
 {
     match next_front(alloc, inbox, link) {
         Next::Front(front) => {
-            NextAnswer::Answer(answer_front(rt, alloc, checks, clock, front, is_last, out))
+            NextAnswer::Answer(answer_front(rt, alloc, checks, link, front, is_last, out))
         }
         Next::NoMemory { sends_body } => NextAnswer::Answer(Printed::NoMemory { sends_body }),
         Next::Ended => NextAnswer::Ended,
@@ -50,15 +49,14 @@ fn next_answer<R: Wait, N: Link, C: Clock, K: Checks>(
 }
 
 /// Serves a connection until it ends. What the buffers held before is dropped.
-pub fn serve_link<R: Wait, N: Link, C: Clock, K: Checks>(
+pub fn serve_link<R: Wait, N: Link, K: Checks>(
     rt: &R,
     alloc: Global,
     checks: &mut K,
     link: &mut N,
-    clock: &C,
     buffers: &mut Buffers,
 ) -> LinkEnd
-    ensures serves { Serves K.answers (C.bounds clock.now) checks.old checks.new (N.state link.old) (N.state link.new)
+    ensures serves { Serves K.answers checks.old checks.new (N.state link.old) (N.state link.new)
         result.cause result.answers }
     ensures few { result.answers ≤ 1024 }
 {
@@ -68,7 +66,7 @@ pub fn serve_link<R: Wait, N: Link, C: Clock, K: Checks>(
     let mut answers: u32 = 0;
     'answers: loop {
         let is_last = answers + 1 == MAX_ANSWERS;
-        let printed = match next_answer(rt, alloc, checks, link, clock, is_last, inbox, out) {
+        let printed = match next_answer(rt, alloc, checks, link, is_last, inbox, out) {
             NextAnswer::Answer(printed) => printed,
             NextAnswer::Ended => return LinkEnd {
                 cause: LinkCause::Ended,

@@ -7,8 +7,8 @@ ghost use Rattle.http_endpoint.specs.Steps as steps;
 use crate::Checks;
 use http::StatusCode;
 use http_front::{Front, HttpAnswer, out_of_memory_answer, print_answer};
-use rate_io::Clock;
-use rate_types::{OutOfMemory, Request, Seconds, Word};
+use rate_io::Link;
+use rate_types::{OutOfMemory, Request, Word};
 use reply_text::{Statuses, reply_body};
 use rls_core::{CheckFault, Reply};
 use std::alloc::Global;
@@ -121,13 +121,6 @@ fn print_result(
     }
 }
 
-// The moment to offer.
-fn moment_of<C: Clock>(clock: &C) -> Seconds
-    ensures { answers.IsOffered (C.bounds clock.now) result }
-{
-    Seconds::capped(clock.now())
-}
-
 // The connection closes after an answer that says so, and after the last that may come.
 fn closes_after(closes: bool, is_last: bool) -> bool
     ensures { result ≡ (closes || is_last) }
@@ -143,18 +136,19 @@ fn answer_fixed(out: &mut String, mut answer: HttpAnswer, is_last: bool) -> Prin
     print(out, &answer)
 }
 
-/// The answer to a front that waits for no byte, printed into the text. `is_last` closes the connection after it.
-pub fn answer_front<R: Wait, C: Clock, K: Checks>(
+/// The answer to a front that waits for no byte, printed into the text. The clock is asked just before the check.
+/// `is_last` closes the connection after it.
+pub fn answer_front<R: Wait, N: Link, K: Checks>(
     rt: &R,
     alloc: Global,
     checks: &mut K,
-    clock: &C,
+    link: &mut N,
     front: Front,
     is_last: bool,
     out: &mut String,
 ) -> Printed
     requires { is_waiting front ≡ false }
-    ensures { steps.TurnsOut K.answers (C.bounds clock.now) is_last front checks.old checks.new (string_bytes out.new) result }
+    ensures { steps.TurnsOut K.answers is_last front (N.state link.old) (N.state link.new) checks.old checks.new (string_bytes out.new) result }
 {
     match front {
         Front::Fixed { answer, .. } => answer_fixed(out, answer, is_last),
@@ -164,7 +158,8 @@ pub fn answer_front<R: Wait, C: Clock, K: Checks>(
             ..
         } => {
             let closes = closes_after(closes, is_last);
-            let came = checks.check(rt, alloc, &request, moment_of(clock));
+            let moment = link.now();
+            let came = checks.check(rt, alloc, &request, moment);
             print_result(alloc, out, came, closes)
         }
         Front::Ended | Front::CutShort => unreachable!(),

@@ -39,20 +39,20 @@ same_ids : (limiter : LimiterView) (cs : List Checker) → AllByRecursion (λ (c
 same_ids limiter [] h = tt
 same_ids limiter (c ∷ cs) h = (ap (λ (l : LimiterView). l.id) h.0, same_ids limiter cs h.1)
 
-module _ (cells : ℕ) (limiter : LimiterView) (bounds : Option (ℕ × ℕ)) where
+module _ (cells : ℕ) (limiter : LimiterView) where
   -- checks leave a checker its limiter
-  stays : (p : Checker) (asked : List Asked) (q : Checker) → Lead (ChecksBy cells) bounds p asked q → q.limiter ≡ p.limiter
+  stays : (p : Checker) (asked : List Asked) (q : Checker) → Lead (ChecksBy cells) p asked q → q.limiter ≡ p.limiter
   stays p [] q h = ap (λ (c : Checker). c.limiter) h
-  stays p (a ∷ asked) q h = stays h.0 asked q h.3 ∙ h.2.limiter
+  stays p (a ∷ asked) q h = stays h.0 asked q h.2 ∙ h.1.limiter
 
   abbrev LedBy : List PassView → List (List Service) → List (List Asked) → List Checker → Type 0
   LedBy before lists asked after = (w : ℕ) (p : Checker) (ss : List Service) (xs : List Asked) (q : Checker) → get_elem? (checkers limiter before) w ≡ some p
       → get_elem? lists w ≡ some ss → get_elem? asked w ≡ some xs → get_elem? after w ≡ some q
-      → AreServed (ChecksBy cells) bounds p ss xs q × Lead (ChecksBy cells) bounds p xs q
+      → AreServed (ChecksBy cells) p ss xs q × Lead (ChecksBy cells) p xs q
 
   -- pass by pass, the checks led to the passes of the checkers, which go with the limiter still
   abbrev Led : List PassView → List (List Asked) → List Checker → Type 0
-  Led before asked after = LeadEach cells limiter bounds before asked (passes_in after) × AllByRecursion (λ (q : Checker). q.limiter ≡ limiter) after
+  Led before asked after = LeadEach cells limiter before asked (passes_in after) × AllByRecursion (λ (q : Checker). q.limiter ≡ limiter) after
 
   each_led : (before : List PassView) (lists : List (List Service)) (asked : List (List Asked)) (after : List Checker) → length after ≡ length before
       → length lists ≡ length before → length asked ≡ length before → LedBy before lists asked after → Led before asked after
@@ -66,19 +66,19 @@ module _ (cells : ℕ) (limiter : LimiterView) (bounds : Option (ℕ × ℕ)) wh
       let one = (each 0 (checker limiter p) s x q refl refl refl refl).1 in
       let same = stays (checker limiter p) x q one in
       let more = each_led ps ls xs qs (omega arith) (omega arith) (omega arith) (λ w p' s' x' q' e f g h. each (suc w) p' s' x' q' e f g h) in (
-        (subst (λ (l : LimiterView). Lead (ChecksBy cells) bounds (checker limiter p) x (checker l q.pass)) same one, more.0),
+        (subst (λ (l : LimiterView). Lead (ChecksBy cells) (checker limiter p) x (checker l q.pass)) same one, more.0),
         (same, more.1),
       )
 
   pub led : (before : List PassView) (after : List Checker) (services : List Service) (asked : List (List Asked))
-      → AreServedBy (ChecksBy cells) bounds (checkers limiter before) after services asked → Led before asked after
+      → AreServedBy (ChecksBy cells) (checkers limiter before) after services asked → Led before asked after
   led before after services asked s =
       let e = length-map before (checker limiter) in
       let m = s.as_many in
       each_led before s.lists asked after (m.0 ∙ e) (m.1 ∙ e) (m.2 ∙ e) s.each
 
   module _ (before : List PassView) (after : List Checker) (old new : List ListenEvent) (services : List Service)
-      (served : AllServed (ChecksBy cells) bounds (checkers limiter before) after old new services true) (passes : List PassView) where
+      (served : AllServed (ChecksBy cells) (checkers limiter before) after old new services true) (passes : List PassView) where
     -- the passes go with the limiter
     pub same_limiter : map (λ (p : PassView). p.limiter) passes ≡ map (λ (c : Checker). c.limiter.id) after → All (λ (p : PassView). p.limiter ≡ limiter.id) passes
     same_limiter e = All-from_recursion (λ (p : PassView). p.limiter ≡ limiter.id) passes
@@ -93,16 +93,16 @@ module _ (cells : ℕ) (limiter : LimiterView) (bounds : Option (ℕ × ℕ)) wh
     pub lawful : (config : List DomainTree) → All (λ (p : PassView). IsNewPass config 0 p) before → passes ≡ passes_in after → HasClosed cells limiter passes
         → AreLawfulChecks config limiter.global_shadow (all_asked served.asked)
     lawful config fresh is closed =
-        closed.lawful config 0 bounds before served.asked fresh
-        (subst (λ (ps : List PassView). LeadEach cells limiter bounds before served.asked ps) (sym is) (led before after services served.asked served.served).0)
+        closed.lawful config 0 before served.asked fresh
+        (subst (λ (ps : List PassView). LeadEach cells limiter before served.asked ps) (sym is) (led before after services served.asked served.served).0)
 
 -- all that was served, by a limiter that was closed
-pub served_all : (config : List DomainTree) (setup : Setup) (bounds : Option (ℕ × ℕ)) (old new : List ListenEvent) (services : List Service) (limiter : LimiterView)
+pub served_all : (config : List DomainTree) (setup : Setup) (old new : List ListenEvent) (services : List Service) (limiter : LimiterView)
     (before : List PassView) (after : List Checker) (passes : List PassView) → limiter.passes ≡ setup.workers → limiter.claims_max ≡ SERVED_CLAIMS
     → limiter.global_shadow ≡ setup.global_shadow → length before ≡ setup.workers → All (λ (p : PassView). IsNewPass config 0 p) before
-    → AllServed (ChecksBy setup.cells) bounds (checkers limiter before) after old new services true → passes ≡ passes_in after → HasClosed setup.cells limiter passes
-    → ServedByLimiter config setup bounds old new services true
-served_all config setup bounds old new services limiter before after passes many claims shadow as_many fresh served is closed = record {
+    → AllServed (ChecksBy setup.cells) (checkers limiter before) after old new services true → passes ≡ passes_in after → HasClosed setup.cells limiter passes
+    → ServedByLimiter config setup old new services true
+served_all config setup old new services limiter before after passes many claims shadow as_many fresh served is closed = record {
   limiter = limiter;
   passes = many;
   claims = claims;
@@ -113,5 +113,5 @@ served_all config setup bounds old new services limiter before after passes many
   after = after;
   served = served;
   lawful = λ _. subst (λ (b : Bool). AreLawfulChecks config b (all_asked served.asked)) shadow
-      (lawful setup.cells limiter bounds before after old new services served passes config fresh is closed);
+      (lawful setup.cells limiter before after old new services served passes config fresh is closed);
 }

@@ -27,9 +27,9 @@ abbrev pub checkers : LimiterView → List PassView → List Checker
 checkers limiter passes = map (λ p. checker limiter p) passes
 
 -- A limiter of the configuration, which gives cells to at most so many counters, with a pass for each worker, which were new at moment 0,
--- served these links: each once, by one of the passes, whose checks are steps of the pass at moments between the clock's bounds. Where
+-- served these links: each once, by one of the passes, whose checks are steps of the pass, each at the moment that its link was told for it. Where
 -- all links were served, the limiter was closed after the last one: the checks of all of them are lawful checks by the configuration.
-pub record ServedByLimiter (config : List DomainTree) (setup : Setup) (bounds : Option (ℕ × ℕ)) (old new : List ListenEvent)
+pub record ServedByLimiter (config : List DomainTree) (setup : Setup) (old new : List ListenEvent)
     (services : List Service) (is_all : Bool) : Type 0 where
   pub limiter : LimiterView
   pub passes : limiter.passes ≡ setup.workers
@@ -39,7 +39,7 @@ pub record ServedByLimiter (config : List DomainTree) (setup : Setup) (bounds : 
   pub as_many : length before ≡ setup.workers
   pub fresh : All (λ p. IsNewPass config 0 p) before
   pub after : List Checker
-  pub served : AllServed (ChecksBy setup.cells) bounds (checkers limiter before) after old new services is_all
+  pub served : AllServed (ChecksBy setup.cells) (checkers limiter before) after old new services is_all
   pub lawful : is_all ≡ true → AreLawfulChecks config setup.global_shadow (all_asked served.asked)
 
 -- the answer of serving links, as a list
@@ -49,12 +49,12 @@ ends_in (Err e) = Err e
 
 -- With Ok all links were served, and these are their ends. With Listen an accept failed, and the links before it were served and given
 -- back as well. Want of memory is free.
-abbrev pub ServesLimited : List DomainTree → Setup → Option (ℕ × ℕ) → ℕ → List ListenEvent → List ListenEvent → ℕ × ℕ
+abbrev pub ServesLimited : List DomainTree → Setup → ℕ → List ListenEvent → List ListenEvent → ℕ × ℕ
     → Result (List LinkEnd) LinksFault → Type 0
-ServesLimited config setup bounds connections old new faults (Ok ends) =
-    (services : List Service) × (length services ≡ connections) × ServedByLimiter config setup bounds old new services true
+ServesLimited config setup connections old new faults (Ok ends) =
+    (services : List Service) × (length services ≡ connections) × ServedByLimiter config setup old new services true
     × (ends ≡ ends_of services)
-ServesLimited config setup bounds connections old new faults (Err Listen) =
-    (services : List Service) × (length services < connections) × ServedByLimiter config setup bounds old new services false
+ServesLimited config setup connections old new faults (Err Listen) =
+    (services : List Service) × (length services < connections) × ServedByLimiter config setup old new services false
     × Rose faults.0 faults.1
-ServesLimited config setup bounds connections old new faults (Err OutOfMemory) = Grew old new (λ events. ⊤)
+ServesLimited config setup connections old new faults (Err OutOfMemory) = Grew old new (λ events. ⊤)

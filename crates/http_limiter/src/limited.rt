@@ -11,7 +11,7 @@ use descriptor_tree::Config;
 use http_checks::close_served;
 use http_endpoint::LinkEnd;
 use http_serve::{LinksFault, serve_links};
-use rate_io::{Clock, Listen};
+use rate_io::Listen;
 use rate_limiter::{Limiter, Limits};
 use rate_types::{OutOfMemory, Seconds};
 use std::alloc::Global;
@@ -43,7 +43,7 @@ fn shared(alloc: Global, config: Config) -> Result<Arc<Config>, OutOfMemory>
 }
 
 // Serves links by a limiter on these cells, and closes it after the last.
-fn serve_opened<N: CellNaming + Send + Sync, R: Threads + Wait + Sync, L: Listen, C: Clock>(
+fn serve_opened<N: CellNaming + Send + Sync, R: Threads + Wait + Sync, L: Listen>(
     rt: &R,
     alloc: Global,
     seed: RandomState,
@@ -52,7 +52,6 @@ fn serve_opened<N: CellNaming + Send + Sync, R: Threads + Wait + Sync, L: Listen
     setup: Setup,
     listen: &mut L,
     connections: u32,
-    clock: &C,
 ) -> Result<Vec<LinkEnd>, LinksFault>
 where
     L::Link: Send,
@@ -60,7 +59,7 @@ where
     requires cells { N.setup ≡ record { cells = setup.cells; passes = setup.workers; start = 0 } }
     requires range { IsInRange setup connections }
     requires unused { IsUnused (L.history listen.old) }
-    ensures { ServesLimited (config_view (arc_value config)) setup (C.bounds clock.now) connections (L.history listen.old)
+    ensures { ServesLimited (config_view (arc_value config)) setup connections (L.history listen.old)
         (L.history listen.new) (L.faults listen.old, L.faults listen.new) (ends_in result) }
 {
     let limits = Limits {
@@ -69,7 +68,7 @@ where
     };
     let (limiter, passes) = Limiter::<N>::make(alloc, config, opened, limits, seed)?;
     let checks = checks_of(alloc, &limiter, passes)?;
-    let (checks, ends) = match serve_links(rt, alloc, checks, listen, connections, clock) {
+    let (checks, ends) = match serve_links(rt, alloc, checks, listen, connections) {
         Ok(served) => served,
         Err(LinksFault::Listen) => return Err(LinksFault::Listen),
         Err(LinksFault::OutOfMemory) => return Err(LinksFault::OutOfMemory),
@@ -82,7 +81,7 @@ where
 /// Serves so many links of a listener, each once, by a limiter of this configuration, which starts at moment 0 and is closed after the
 /// last link. Answers how each link ended. The listener has a port. A check is refused where its counters find no cells, or where
 /// [`SERVED_CLAIMS`] counters had cells before.
-pub fn serve_limited<R: Threads + Wait + Sync, L: Listen, C: Clock>(
+pub fn serve_limited<R: Threads + Wait + Sync, L: Listen>(
     rt: &R,
     alloc: Global,
     seed: RandomState,
@@ -90,18 +89,17 @@ pub fn serve_limited<R: Threads + Wait + Sync, L: Listen, C: Clock>(
     setup: Setup,
     listen: &mut L,
     connections: u32,
-    clock: &C,
 ) -> Result<Vec<LinkEnd>, LinksFault>
 where
     L::Link: Send,
     requires range { IsInRange setup connections }
     requires unused { IsUnused (L.history listen.old) }
-    ensures { ServesLimited (config_view config) setup (C.bounds clock.now) connections (L.history listen.old) (L.history listen.new)
+    ensures { ServesLimited (config_view config) setup connections (L.history listen.old) (L.history listen.new)
         (L.faults listen.old, L.faults listen.new) (ends_in result) }
 {
     let opened = OpenedCells::make(alloc, setup.cells, setup.workers, Seconds::capped(0))?;
     let config = shared(alloc, config)?;
-    serve_opened::<Brand, R, L, C>(
+    serve_opened::<Brand, R, L>(
         rt,
         alloc,
         seed,
@@ -110,6 +108,5 @@ where
         setup,
         listen,
         connections,
-        clock,
     )
 }

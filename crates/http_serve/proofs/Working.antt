@@ -75,15 +75,15 @@ module _ {N S : Type 0} {link : Ghosts N} where
       subst (λ (k : ℕ). IsOnceBelow count n k) (numbers_of_all n ws same ∙ sym (sum_joined (on_number n) (map served_of ws))) (once n) in
       record { once = λ n lt. (of n).once lt; within = all_below count (joined (map served_of ws)) of }
 
-  module _ (answers : CheckStep S) (bounds : Option (ℕ × ℕ)) (h : Handover (Fresh N link)) where
+  module _ (answers : CheckStep S) (h : Handover (Fresh N link)) where
     -- worker by worker
     abbrev pub AllWorked : List (Worker N S link) → List (Worker N S link) → Type 0
     AllWorked [] [] = Unit {0}
-    AllWorked (v ∷ vs) (w ∷ ws) = HasWorked answers bounds h v w × AllWorked vs ws
+    AllWorked (v ∷ vs) (w ∷ ws) = HasWorked answers h v w × AllWorked vs ws
     AllWorked vs ws = ⊥
 
     pub worked_all : (old new : List (Worker N S link)) → length new ≡ length old
-        → ((i : ℕ) (d : Worker N S link) → i < length old → HasWorked answers bounds h (get_or old i d) (get_or new i d)) → AllWorked old new
+        → ((i : ℕ) (d : Worker N S link) → i < length old → HasWorked answers h (get_or old i d) (get_or new i d)) → AllWorked old new
     worked_all [] [] len each = tt
     worked_all [] (w ∷ ws) len each = absurd (omega arith)
     worked_all (v ∷ vs) [] len each = absurd (omega arith)
@@ -91,9 +91,9 @@ module _ {N S : Type 0} {link : Ghosts N} where
 
     -- the same, where the list that was lent is theirs
     pub all_worked : (ws slice new : List (Worker N S link)) → slice ≡ ws → length new ≡ length slice
-        → ((i : ℕ) (d : Worker N S link) → i < length slice → HasWorked answers bounds h (get_or slice i d) (get_or new i d)) → AllWorked ws new
+        → ((i : ℕ) (d : Worker N S link) → i < length slice → HasWorked answers h (get_or slice i d) (get_or new i d)) → AllWorked ws new
     all_worked ws slice new same len each = worked_all ws new (len ∙ ap length same)
-        (λ i d lt. subst (λ (l : List (Worker N S link)). HasWorked answers bounds h (get_or l i d) (get_or new i d)) same
+        (λ i d lt. subst (λ (l : List (Worker N S link)). HasWorked answers h (get_or l i d) (get_or new i d)) same
         (each i d (subst (λ (l : List (Worker N S link)). i < length l) (sym same) lt)))
 
     -- each took its end mark
@@ -134,22 +134,22 @@ module _ {N S : Type 0} {link : Ghosts N} where
 
     each_one : (old new : List (Worker N S link)) (a : AllWorked old new) (k : ℕ) (p : S) (ss : List Service) (xs : List Asked) (q : S)
         → get_elem? (map (λ (w : Worker N S link). w.checks) old) k ≡ some p → get_elem? (map served_of new) k ≡ some ss → get_elem? (asked_all old new a) k ≡ some xs
-        → get_elem? (map (λ (w : Worker N S link). w.checks) new) k ≡ some q → AreServed answers bounds p ss xs q × Lead answers bounds p xs q
+        → get_elem? (map (λ (w : Worker N S link). w.checks) new) k ≡ some q → AreServed answers p ss xs q × Lead answers p xs q
     each_one [] [] a k p ss xs q e f g i = absurd (some-ne-none p (sym e))
     each_one [] (w ∷ ws) a k p ss xs q e f g i = absurd a
     each_one (v ∷ vs) [] a k p ss xs q e f g i = absurd a
     each_one (v ∷ vs) (w ∷ ws) a zero p ss xs q e f g i =
-        let s : AreServed answers bounds p ss xs q =
-        subst (λ (x : S). AreServed answers bounds x ss xs q) (some-injective v.checks p e)
-        (subst (λ (x : List Service). AreServed answers bounds v.checks x xs q) (some-injective (served_of w) ss f)
-        (subst (λ (x : List Asked). AreServed answers bounds v.checks (served_of w) x q) (some-injective a.0.asked xs g)
-        (subst (λ (x : S). AreServed answers bounds v.checks (served_of w) a.0.asked x) (some-injective w.checks q i) a.0.served))) in
-        (s, served_leads answers bounds p ss xs q s)
+        let s : AreServed answers p ss xs q =
+        subst (λ (x : S). AreServed answers x ss xs q) (some-injective v.checks p e)
+        (subst (λ (x : List Service). AreServed answers v.checks x xs q) (some-injective (served_of w) ss f)
+        (subst (λ (x : List Asked). AreServed answers v.checks (served_of w) x q) (some-injective a.0.asked xs g)
+        (subst (λ (x : S). AreServed answers v.checks (served_of w) a.0.asked x) (some-injective w.checks q i) a.0.served))) in
+        (s, served_leads answers p ss xs q s)
     each_one (v ∷ vs) (w ∷ ws) a (suc k) p ss xs q e f g i = each_one vs ws a.1 k p ss xs q e f g i
 
     -- all links were served by the workers
     pub served_by : (old new : List (Worker N S link)) (a : AllWorked old new) (count : ℕ) (services : List Service) → Merges count (map served_of new) services
-        → AreServedBy answers bounds (map (λ (w : Worker N S link). w.checks) old) (map (λ (w : Worker N S link). w.checks) new) services (asked_all old new a)
+        → AreServedBy answers (map (λ (w : Worker N S link). w.checks) old) (map (λ (w : Worker N S link). w.checks) new) services (asked_all old new a)
     served_by old new a count services m = record {
       lists = map served_of new;
       as_many = lengths old new a;

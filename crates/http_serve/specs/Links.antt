@@ -43,12 +43,12 @@ abbrev pub answer_of : {S E A : Type 0} → Result (Vec S A × Vec LinkEnd A) E 
 answer_of (Ok r) = Ok (r.0.items, r.1.items)
 answer_of (Err e) = Err e
 
-module _ {S : Type 0} (answers : CheckStep S) (bounds : Option (ℕ × ℕ)) where
+module _ {S : Type 0} (answers : CheckStep S) where
   -- so many links, numbered from 0, each served by one of the checkers, accepted and given back
   pub record AllServed (before after : List S) (old new : List ListenEvent) (services : List Service) (is_all : Bool) : Type 0 where
     pub numbered : AreNumbered 0 services
     pub asked : List (List Asked)
-    pub served : AreServedBy answers bounds before after services asked
+    pub served : AreServedBy answers before after services asked
     pub handled : HasHandled old new services is_all
 
   -- With Ok all links were served, and these are their ends. With Listen an accept failed, and the links before it were served and

@@ -16,13 +16,13 @@ pub record Service : Type 0 where
   pub calls : List Event
   pub link_end : LinkEnd
 
-module _ {S : Type 0} (answers : CheckStep S) (bounds : Option (ℕ × ℕ)) where
+module _ {S : Type 0} (answers : CheckStep S) where
   -- a link that was not used before was served, with these checks, from one state of what answers them to the next
   pub record IsServed (p : S) (s : Service) (asked : List Asked) (q : S) : Type 0 where
     pub old : LinkState
     pub new : LinkState
     pub unused : IsNewLink old
-    pub serves : Serves answers bounds p q old new s.link_end.cause s.link_end.answers
+    pub serves : Serves answers p q old new s.link_end.cause s.link_end.answers
     pub calls : s.calls ≡ new.history
     pub checks : asked ≡ asked_in (serves.turns ++ option_to_list serves.last)
 
@@ -38,5 +38,5 @@ module _ {S : Type 0} (answers : CheckStep S) (bounds : Option (ℕ × ℕ)) whe
     pub lists : List (List Service)
     pub as_many : (length after ≡ length before) × (length lists ≡ length before) × (length asked ≡ length before)
     pub each : (w : ℕ) (p : S) (ss : List Service) (xs : List Asked) (q : S) → get_elem? before w ≡ some p → get_elem? lists w ≡ some ss
-        → get_elem? asked w ≡ some xs → get_elem? after w ≡ some q → AreServed p ss xs q × Lead answers bounds p xs q
+        → get_elem? asked w ≡ some xs → get_elem? after w ≡ some q → AreServed p ss xs q × Lead answers p xs q
     pub sums : (f : Service → ℕ) → total f services ≡ total (total f) lists

@@ -15,13 +15,13 @@ module _ {N S : Type 0} {link : Ghosts N} where
   ends_taken w = total is_end (taken_by w.take)
 
   -- it took a link and served it
-  pub record HasServed (answers : CheckStep S) (bounds : Option (ℕ × ℕ)) (old new : Worker N S link) : Type 0 where
+  pub record HasServed (answers : CheckStep S) (old new : Worker N S link) : Type 0 where
     pub service : Service
     pub taken : numbers_taken new.take ≡ numbers_taken old.take ++ service.number ∷ []
     pub ends : ends_taken new ≡ ends_taken old
     pub served : new.served.items ≡ old.served.items ++ service ∷ []
     pub asked : List Asked
-    pub one : IsServed answers bounds old.checks service asked new.checks
+    pub one : IsServed answers old.checks service asked new.checks
 
   -- it took an end mark, and nothing more was served; where memory didn't suffice, it says so
   pub record HasStopped (old new : Worker N S link) : Type 0 where
@@ -37,10 +37,10 @@ module _ {N S : Type 0} {link : Ghosts N} where
     pub served : w.served.items ≡ []
 
   -- it took its end mark, and, where memory sufficed, served what it had taken
-  pub record HasWorked (answers : CheckStep S) (bounds : Option (ℕ × ℕ)) (h : Handover (Fresh N link)) (old new : Worker N S link)
+  pub record HasWorked (answers : CheckStep S) (h : Handover (Fresh N link)) (old new : Worker N S link)
       : Type 0 where
     pub take : TakesFrom h new.take
     pub ends : ends_taken new ≡ 1
     pub taken : new.is_whole ≡ true → numbers_taken new.take ≡ map (λ s. s.number) new.served.items
     pub asked : List Asked
-    pub served : AreServed answers bounds old.checks new.served.items asked new.checks
+    pub served : AreServed answers old.checks new.served.items asked new.checks

@@ -5,7 +5,7 @@ ghost use Rattle.http_serve.specs.Links.{IsUnused, ServesLinks, answer_of};
 use crate::giving::give_back;
 use crate::serving::serve_accepted;
 use http_endpoint::{Checks, LinkEnd};
-use rate_io::{Clock, Listen};
+use rate_io::Listen;
 use rate_types::OutOfMemory;
 use std::alloc::Global;
 use std::sync::Wait;
@@ -36,23 +36,22 @@ impl From<OutOfMemory> for LinksFault {
 
 /// Accepts so many links and serves each once with one of the checkers, shuts it and gives it back under its number. Answers the
 /// checkers in order, and how each link ended. The listener has a port. After a fault the checkers are given up.
-pub fn serve_links<R: Threads + Wait + Sync, L: Listen, C: Clock, K: Checks + Send + Drop>(
+pub fn serve_links<R: Threads + Wait + Sync, L: Listen, K: Checks + Send + Drop>(
     rt: &R,
     alloc: Global,
     checks: Vec<K>,
     listen: &mut L,
     connections: u32,
-    clock: &C,
 ) -> Result<(Vec<K>, Vec<LinkEnd>), LinksFault>
 where
     L::Link: Send,
     requires checkers { (1 ≤ vec_len checks) × (vec_len checks ≤ MOST_WORKERS) }
     requires few { connections ≤ MOST_CONNECTIONS }
     requires unused { IsUnused (L.history listen.old) }
-    ensures { ServesLinks K.answers (C.bounds clock.now) connections checks.items (L.history listen.old) (L.history listen.new)
+    ensures { ServesLinks K.answers connections checks.items (L.history listen.old) (L.history listen.new)
         (L.faults listen.old, L.faults listen.new) (answer_of result) }
 {
-    let accepted = serve_accepted(rt, alloc, checks, listen, connections, clock)?;
+    let accepted = serve_accepted(rt, alloc, checks, listen, connections)?;
     let ends = give_back(alloc, listen, accepted.served)?;
     if accepted.is_all {
         Ok((accepted.checks, ends))

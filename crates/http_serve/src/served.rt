@@ -5,7 +5,7 @@ ghost use Rattle.rate_io.specs.Listeners.{IsNewLink};
 ghost use Rattle.http_serve.specs.Service.{IsServed};
 
 use http_endpoint::{Buffers, Checks, LinkEnd, serve_link};
-use rate_io::{Clock, Link};
+use rate_io::Link;
 use std::alloc::Global;
 use std::marker::Model;
 use std::sync::Wait;
@@ -37,20 +37,19 @@ impl<N: Link + Drop> Model for Served<N> {
 }
 
 /// Serves a link to its end, and shuts it.
-pub(crate) fn serve_one<R: Wait, N: Link + Drop, C: Clock, K: Checks>(
+pub(crate) fn serve_one<R: Wait, N: Link + Drop, K: Checks>(
     rt: &R,
     alloc: Global,
     checks: &mut K,
     number: u32,
     fresh: Fresh<N>,
-    clock: &C,
     buffers: &mut Buffers,
 ) -> Served<N>
     ensures number { result.number ≡ number }
-    ensures served { (asked : List Asked) × IsServed K.answers (C.bounds clock.now) checks.old result asked checks.new }
+    ensures served { (asked : List Asked) × IsServed K.answers checks.old result asked checks.new }
 {
     let Fresh { mut link } = fresh;
-    let link_end = serve_link(rt, alloc, checks, &mut link, clock, buffers);
+    let link_end = serve_link(rt, alloc, checks, &mut link, buffers);
     link.shut();
     Served {
         number,

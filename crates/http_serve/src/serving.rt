@@ -17,7 +17,7 @@ use crate::served::{Fresh, Served};
 use crate::worker::{Worker, work};
 use http_endpoint::Checks;
 use link_handover::{Handover, PutPass, TakePass};
-use rate_io::{Clock, Link, Listen};
+use rate_io::{Link, Listen};
 use rate_types::{Items, OutOfMemory};
 use std::alloc::Global;
 use std::sync::Wait;
@@ -126,12 +126,11 @@ fn serve_each<R: Threads + Sync, W: Send, F: Fn(usize, &mut W) + Sync>(
 }
 
 // Accepts links on this thread, and serves them by the workers.
-fn serve_beside<R: Threads + Wait + Sync, L: Listen, C: Clock, K: Checks + Send + Drop>(
+fn serve_beside<R: Threads + Wait + Sync, L: Listen, K: Checks + Send + Drop>(
     rt: &R,
     alloc: Global,
     handover: &Handover<Fresh<L::Link>>,
     is_short: &AtomicBool,
-    clock: &C,
     connections: u32,
     put: &mut PutPass<Fresh<L::Link>>,
     listen: &mut L,
@@ -149,14 +148,14 @@ where
         × Rose (L.faults listen.old) (L.faults listen.new)) }
     ensures events { IfOk result (λ r. L.history listen.new ≡ L.history listen.old ++ accepts (length (links_put put.new)) r) }
     ensures len { length workers.new ≡ length workers.old }
-    ensures each { (i : ℕ) (d : _) → i < length workers.old → HasWorked K.answers (C.bounds clock.now) handover.now
+    ensures each { (i : ℕ) (d : _) → i < length workers.old → HasWorked K.answers handover.now
         (slice_index_or workers.old i d) (slice_index_or workers.new i d) }
 {
     let count = workers.len() as u32;
     let serve = |_: usize, worker: &mut Worker<L::Link, K>|
         requires { IsReady handover.now worker.now }
-        ensures { HasWorked K.answers (C.bounds clock.entry.now) handover.entry.now worker.entry.now worker.exit.now }
-    { work(rt, alloc, handover, is_short, clock, worker) };
+        ensures { HasWorked K.answers handover.entry.now worker.entry.now worker.exit.now }
+    { work(rt, alloc, handover, is_short, worker) };
     accept_beside(
         rt,
         handover,
@@ -215,20 +214,19 @@ fn parts_of<N: Link + Drop, K: Checks + Drop>(
 /// Accepts so many links on this thread and hands them to workers, one of each checker, each in a thread of its own. Where no
 /// thread can be started there is no memory.
 #[tactic(auto, using(crate::proofs::Events::grown, crate::proofs::Events::stayed))]
-pub fn serve_accepted<R: Threads + Wait + Sync, L: Listen, C: Clock, K: Checks + Send + Drop>(
+pub fn serve_accepted<R: Threads + Wait + Sync, L: Listen, K: Checks + Send + Drop>(
     rt: &R,
     alloc: Global,
     checks: Vec<K>,
     listen: &mut L,
     connections: u32,
-    clock: &C,
 ) -> Result<Accepted<L::Link, K>, OutOfMemory>
 where
     L::Link: Send,
     requires checkers { (1 ≤ vec_len checks) × (vec_len checks ≤ MOST_WORKERS) }
     requires few { connections ≤ MOST_CONNECTIONS }
     ensures grew { Grew (L.history listen.old) (L.history listen.new) (λ _. ⊤) }
-    ensures accepted { IfOk result (λ a. HasAccepted K.answers (C.bounds clock.now) connections checks.items a.checks.items
+    ensures accepted { IfOk result (λ a. HasAccepted K.answers connections checks.items a.checks.items
         (L.history listen.old) (L.history listen.new) (L.faults listen.old, L.faults listen.new) a.served.items a.is_all) }
 {
     if !can_start(rt) {
@@ -242,7 +240,6 @@ where
         alloc,
         &handover,
         &is_short,
-        clock,
         connections,
         &mut put,
         listen,

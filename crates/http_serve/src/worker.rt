@@ -7,7 +7,7 @@ ghost use Rattle.http_serve.specs.Working.{HasServed, HasStopped, IsReady, HasWo
 use crate::served::{Fresh, Served, serve_one};
 use http_endpoint::{Buffers, Checks};
 use link_handover::{Handover, TakePass, Taken};
-use rate_io::{Clock, Link};
+use rate_io::Link;
 use std::alloc::Global;
 use std::sync::Wait;
 use std::sync::atomic::{AtomicBool, Ordering};
@@ -45,18 +45,17 @@ fn give_up<R: Wait, N: Link + Drop>(
 }
 
 // Takes a link and serves it; false where there are no more, or no memory.
-fn serve_next<R: Wait, N: Link + Drop, C: Clock, K: Checks + Drop>(
+fn serve_next<R: Wait, N: Link + Drop, K: Checks + Drop>(
     rt: &R,
     alloc: Global,
     handover: &Handover<Fresh<N>>,
     is_short: &AtomicBool,
-    clock: &C,
     buffers: &mut Buffers,
     worker: &mut Worker<N, K>,
 ) -> bool
     requires take { TakesFrom handover.now worker.old.take }
     ensures take { TakesFrom handover.now worker.new.take }
-    ensures goes { result ≡ true → HasServed K.answers (C.bounds clock.now) worker.old worker.new }
+    ensures goes { result ≡ true → HasServed K.answers worker.old worker.new }
     ensures stops { result ≡ false → HasStopped worker.old worker.new }
 {
     match handover.take(rt, &mut worker.take) {
@@ -68,7 +67,7 @@ fn serve_next<R: Wait, N: Link + Drop, C: Clock, K: Checks + Drop>(
                 give_up(rt, handover, is_short, &mut worker.take);
                 return false;
             }
-            let one = serve_one(rt, alloc, &mut worker.checks, number, link, clock, buffers);
+            let one = serve_one(rt, alloc, &mut worker.checks, number, link, buffers);
             worker.served.push_reserved(one);
             true
         }
@@ -76,16 +75,15 @@ fn serve_next<R: Wait, N: Link + Drop, C: Clock, K: Checks + Drop>(
 }
 
 /// Serves links until there are no more. Where there is no memory, it says so and drops the links that it takes from then on.
-pub fn work<R: Wait, N: Link + Drop, C: Clock, K: Checks + Drop>(
+pub fn work<R: Wait, N: Link + Drop, K: Checks + Drop>(
     rt: &R,
     alloc: Global,
     handover: &Handover<Fresh<N>>,
     is_short: &AtomicBool,
-    clock: &C,
     worker: &mut Worker<N, K>,
 )
     requires { IsReady handover.now worker.old }
-    ensures { HasWorked K.answers (C.bounds clock.now) handover.now worker.old worker.new }
+    ensures { HasWorked K.answers handover.now worker.old worker.new }
 {
     let Ok(mut buffers) = Buffers::make(alloc) else {
         worker.is_whole = false;
@@ -93,7 +91,7 @@ pub fn work<R: Wait, N: Link + Drop, C: Clock, K: Checks + Drop>(
         return;
     };
     for _ in rt.forever() {
-        if !serve_next(rt, alloc, handover, is_short, clock, &mut buffers, worker) {
+        if !serve_next(rt, alloc, handover, is_short, &mut buffers, worker) {
             return;
         }
     }

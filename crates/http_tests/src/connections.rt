@@ -1,10 +1,10 @@
-ghost use Rattle.std.specs.Prelude.{⊤};
+ghost use Rattle.std.specs.Prelude.{⊤, ◌≤◌};
 
 use arrayvec::ArrayVec;
 use http_endpoint::{
     Buffers, Checks, LinkCause, LinkEnd, link_end_line, listening_line, serve_link,
 };
-use rate_io::{FixedClock, MemLink};
+use rate_io::MemLink;
 use rate_types::{OwnLimit, Request, Seconds, Unit};
 use rls_core::{CheckFault, Code, Count, Reply, Status};
 use std::alloc::Global;
@@ -75,13 +75,27 @@ fn served<R: Wait>(
     most: usize,
     failing: u64,
 ) -> Result<(String, LinkEnd), Fail> {
+    served_between(rt, alloc, bytes, most, failing, Seconds::capped(65), Seconds::capped(65))
+}
+
+// The same at a clock that goes on from one moment to another.
+fn served_between<R: Wait>(
+    rt: &R,
+    alloc: Global,
+    bytes: &str,
+    most: usize,
+    failing: u64,
+    first: Seconds,
+    last: Seconds,
+) -> Result<(String, LinkEnd), Fail>
+    requires { first ≤ last }
+{
     let bytes = Vec::from_slice(alloc, bytes.as_bytes())?;
     let failing = Vec::from_slice(alloc, &[failing])?;
-    let mut link = MemLink::new(alloc, bytes, failing).in_pieces(most.max(1));
+    let mut link = MemLink::new(alloc, bytes, failing).in_pieces(most.max(1)).in_time(first, last);
     let mut checks = TwoAMinute { before: 0 };
-    let clock = FixedClock { seconds: 65 };
     let mut buffers = Buffers::make(alloc)?;
-    let end = serve_link(rt, alloc, &mut checks, &mut link, &clock, &mut buffers);
+    let end = serve_link(rt, alloc, &mut checks, &mut link, &mut buffers);
     let written = link.written().ok_or("no memory")?;
     Ok((String::from_utf8(Vec::from_slice(alloc, written)?)?, end))
 }
@@ -126,6 +140,18 @@ fn requests_are_answered_in_order(rt: HostRuntime) -> Result<(), Fail> {
             }
         );
     }
+    Ok(())
+}
+
+#[test]
+fn a_kept_connection_sees_the_next_minute(rt: HostRuntime) -> Result<(), Fail> {
+    let alloc = rt.alloc();
+    let checks = format!(in alloc; "{CHECK}{CHECK}")?;
+    let first = Seconds::capped(119);
+    let last = Seconds::capped(120);
+    let (out, _) = served_between(&rt, alloc, &checks, 20, 0, first, last)?;
+    assert!(rt; out.contains("durationUntilReset\":\"1s\",\"limitRemaining\":1"));
+    assert!(rt; out.contains("durationUntilReset\":\"60s\"}]}"));
     Ok(())
 }
 

@@ -1,7 +1,8 @@
 // Links, and what takes them.
 ghost use Rattle.std.specs.Prelude.{◌≡◌, []};
 
-use rate_io::{Failed, Link, Listen, MemLink, MemListen, StreamLink, StreamListen};
+use rate_io::{Failed, FixedClock, Link, Listen, MemLink, MemListen, StreamLink, StreamListen};
+use rate_types::Seconds;
 use std::io::{Cursor, Read, Write};
 use std::net::{Ipv4Addr, TcpStream};
 use std::test::Fail;
@@ -48,7 +49,9 @@ fn a_link_in_memory_fails_where_it_is_told_to(rt: HostRuntime) -> Result<(), Fai
 #[test]
 fn a_stream_is_a_link_until_it_is_shut(rt: HostRuntime) -> Result<(), Fail> {
     let alloc = rt.alloc();
-    let mut link = StreamLink::new(Cursor::new(Vec::from_slice(alloc, b"abcdefgh")?));
+    let bytes = Cursor::new(Vec::from_slice(alloc, b"abcdefgh")?);
+    let mut link = StreamLink::new(bytes, FixedClock::new(Seconds::capped(65)));
+    assert_eq!(rt; link.now().get(), 65);
     assert_eq!(rt; ask_and_answer(&mut link), [Some(4), Some(2), Some(2)]);
     link.shut();
     assert_eq!(rt; ask_and_answer(&mut link), [None, None, None]);

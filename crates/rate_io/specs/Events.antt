@@ -6,7 +6,7 @@ use Rattle.std.specs.List.{flat_map, list_any}
 use Rattle.rate_io.specs.declared.files.FileFault.{FileFault}
 use Rattle.rate_io.specs.declared.files.FileFault.TheVariants as fault
 
--- one call of a source or of a sink
+-- one call of a source, of a sink or of a link
 pub data Event : Type 0 where
   -- a read handed out these bytes
   gave : List ℕ → Event
@@ -22,6 +22,8 @@ pub data Event : Type 0 where
   flushed : Event
   -- it was to, and some of it may not have
   flush_failed : Event
+  -- the clock told this moment
+  told : ℕ → Event
 
 -- one call for a file: its name, and the reads of its content; a file that can't be opened has one read, which failed
 abbrev pub FileEvent : Type 0

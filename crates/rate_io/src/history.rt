@@ -4,9 +4,10 @@ ghost use Rattle.std.specs.Borrow.{ftrue};
 ghost use Rattle.rate_io.specs.Events.{Event, FileEvent};
 ghost use Rattle.rate_io.specs.Stored.{events_code, files_code};
 
+use rate_types::Seconds;
 use std::marker::Model;
 
-/// What a source or a sink did, call by call.
+/// What a source, a sink or a link did, call by call.
 #[derive(Drop)]
 pub struct History {
     pub ghost events: { List Event } by { events_code },
@@ -16,7 +17,7 @@ impl Model for History {
     ghost also_owns = { λ _. ftrue };
 }
 
-/// One call of a source or of a sink.
+/// One call of a source, of a sink or of a link.
 #[derive(Clone, Copy, Drop)]
 pub enum Call<'a> {
     /// A read handed out these bytes.
@@ -33,6 +34,8 @@ pub enum Call<'a> {
     Flushed,
     /// A flush failed.
     FlushFailed,
+    /// The clock told this moment.
+    Told(Seconds),
 }
 
 impl<'a> Call<'a> {

@@ -1,8 +1,10 @@
-ghost use Rattle.rate_io.specs.Links.{LinkState, IsLinkRead, IsLinkWrite, IsLinkEnd};
+ghost use Rattle.rate_io.specs.Links.{LinkState, IsLinkRead, IsLinkWrite, IsLinkNow, IsLinkEnd};
 
 use crate::Failed;
+use rate_types::Seconds;
 
-/// A connection to a peer.
+/// A connection to a peer, with the clock of the side that serves it, so that one history has its reads, its writes and the
+/// moments between them.
 pub trait Link {
     /// What it has left and was written where it tells, its calls in order, and how often it has failed.
     ghost state: { Self → LinkState };
@@ -15,6 +17,10 @@ pub trait Link {
     /// Writes a piece. After `Failed` the first bytes of the piece may have been written.
     fn write(&mut self, piece: &[u8]) -> Result<(), Failed>
         ensures { IsLinkWrite (state self.old) (state self.new) result piece.now };
+
+    /// The moment now, asked of the clock in this call.
+    fn now(&mut self) -> Seconds
+        ensures { IsLinkNow (state self.old) (state self.new) result };
 
     /// Ends the connection, as far as this side can.
     fn shut(&mut self)

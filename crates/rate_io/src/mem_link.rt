@@ -2,10 +2,12 @@ ghost use Rattle.std.specs.Prelude.{◌≡◌, ◌==◌, ◌≤◌, ◌^◌, ◌
 ghost use Rattle.std.specs.Option.{option_copied};
 
 use crate::{Call, Failed, History, Link};
+use rate_types::Seconds;
 use std::alloc::Global;
 use std::io::{Cursor, Read};
 
 /// A connection in memory. Calls are counted from 1, and those with a number in `failing` fail and write nothing.
+/// Its clock goes on by itself: each moment that it tells is one second later than the one before, up to the last.
 /// Where a piece finds no memory, the link is no longer whole, and tells nothing of what was written from then on.
 #[derive(Drop)]
 pub struct MemLink {
@@ -18,11 +20,16 @@ pub struct MemLink {
     calls: u64,
     failing: Vec<u64>,
     faults: u64,
+    first: Seconds,
+    moment: Seconds,
+    last: Seconds,
     ghost some: { 0 < most },
+    ghost begun: { first ≤ moment },
+    ghost not_over: { moment ≤ last },
 }
 
 impl MemLink {
-    /// A peer that sends these bytes and then ends. It takes no memory.
+    /// A peer that sends these bytes and then ends, at a clock that stands still at 0. It takes no memory.
     pub fn new(alloc: Global, bytes: Vec<u8>, failing: Vec<u64>) -> MemLink
         ensures { ⟦<MemLink as Link>⟧.state result ≡ record {
           left = Some bytes.items;
@@ -31,6 +38,7 @@ impl MemLink {
           faults = 0;
           can_fail = not (vec_len failing == 0);
           is_shut = false;
+          bounds = Some (0, 0);
         } }
     {
         MemLink {
@@ -43,6 +51,9 @@ impl MemLink {
             calls: 0,
             failing,
             faults: 0,
+            first: Seconds::capped(0),
+            moment: Seconds::capped(0),
+            last: Seconds::capped(0),
         }
     }
 
@@ -52,6 +63,18 @@ impl MemLink {
         ensures { ⟦<MemLink as Link>⟧.state result ≡ ⟦<MemLink as Link>⟧.state self }
     {
         self.most = most;
+        self
+    }
+
+    /// The same at a clock that goes on from `first` to `last`.
+    pub fn in_time(mut self, first: Seconds, last: Seconds) -> MemLink
+        requires { first ≤ last }
+        ensures { let s = ⟦<MemLink as Link>⟧.state self in
+            ⟦<MemLink as Link>⟧.state result ≡ record s { bounds = Some (first, last) } }
+    {
+        self.first = first;
+        self.moment = first;
+        self.last = last;
         self
     }
 
@@ -90,6 +113,7 @@ impl Link for MemLink {
       faults = l.faults;
       can_fail = not (vec_len l.failing == 0);
       is_shut = l.is_shut;
+      bounds = Some (l.first, l.last);
     } };
 
     fn read(&mut self, buf: &mut [u8]) -> Result<usize, Failed> {
@@ -119,6 +143,15 @@ impl Link for MemLink {
         }
         self.history = self.history.and(&Call::Wrote(piece));
         Ok(())
+    }
+
+    fn now(&mut self) -> Seconds {
+        let told = self.moment;
+        if told.get() < self.last.get() {
+            self.moment = Seconds::capped(told.get() + 1);
+        }
+        self.history = self.history.and(&Call::Told(told));
+        told
     }
 
     fn shut(&mut self) {

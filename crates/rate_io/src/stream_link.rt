@@ -1,34 +1,38 @@
 // The adapter over a real stream. It tells no content; what std answers is trusted.
-ghost use Rattle.std.specs.Prelude.{◌≡◌, [], OnOk, is_some, option_and_then, true};
+ghost use Rattle.std.specs.Prelude.{◌≡◌, [], ◌∷◌, ◌++◌, OnOk, is_some, option_and_then, true};
 ghost use Rattle.std.specs.Io.KnownBytes as known;
-ghost use Rattle.rate_io.specs.Links.{IsLinkRead, IsLinkWrite, stream_state};
+ghost use Rattle.rate_io.specs.Events.{told};
+ghost use Rattle.rate_io.specs.Links.{IsLinkRead, IsLinkWrite, IsLinkNow, stream_state};
 
-use crate::{Call, Failed, History, Link};
+use crate::{Call, Clock, Failed, History, Link};
+use rate_types::Seconds;
 use std::io::{Read, Write};
 
 /// A stream of std, which is closed where it is shut. A write that takes nothing of a piece that isn't empty is a fault,
 /// and so is each read and each write after it was shut.
 #[derive(Drop)]
-pub struct StreamLink<S: Read + Write + Drop> {
+pub struct StreamLink<S: Read + Write + Drop, C: Clock + Drop> {
     pub(crate) stream: Option<S>,
     pub(crate) history: History,
     faults: u64,
+    clock: C,
 }
 
-impl<S: Read + Write + Drop> StreamLink<S> {
-    /// The link that this stream is.
-    pub fn new(stream: S) -> Self
-        ensures { ⟦<StreamLink<S> as Link>⟧.state result ≡ stream_state [] 0 true }
+impl<S: Read + Write + Drop, C: Clock + Drop> StreamLink<S, C> {
+    /// The link that this stream is, with this clock.
+    pub fn new(stream: S, clock: C) -> Self
+        ensures { ⟦<StreamLink<S, C> as Link>⟧.state result ≡ stream_state [] 0 true }
     {
         StreamLink {
             stream: Some(stream),
             history: History::new(),
             faults: 0,
+            clock,
         }
     }
 }
 
-impl<S: Read + Write + Drop> Link for StreamLink<S> {
+impl<S: Read + Write + Drop, C: Clock + Drop> Link for StreamLink<S, C> {
     ghost state = { λ l. stream_state l.history.events l.faults (is_some l.stream) };
 
     // Beside what each link promises: the bytes are the stream's, where it tells what it has left.
@@ -69,6 +73,17 @@ impl<S: Read + Write + Drop> Link for StreamLink<S> {
         };
         self.history = self.history.and(&Call::Wrote(piece));
         Ok(())
+    }
+
+    // Beside what each link promises: the clock was asked once in this call, and this is what it told.
+    fn now(&mut self) -> Seconds
+        ensures call { IsLinkNow (stream_state self.old.history.events self.old.faults (is_some self.old.stream))
+            (stream_state self.new.history.events self.new.faults (is_some self.new.stream)) result }
+        ensures inner { C.history self.new.clock ≡ C.history self.old.clock ++ told result ∷ [] }
+    {
+        let told = self.clock.now();
+        self.history = self.history.and(&Call::Told(told));
+        told
     }
 
     fn shut(&mut self) {

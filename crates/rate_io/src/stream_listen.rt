@@ -1,19 +1,19 @@
 // The adapter over a real listener, on the loopback address. What std answers is trusted.
 ghost use Rattle.std.specs.Prelude.{◌≡◌, []};
 
-use crate::{Failed, Listen, ListenCall, ListenHistory, StreamLink};
+use crate::{Failed, HostClock, Listen, ListenCall, ListenHistory, StreamLink};
 use std::net::{Ipv4Addr, Net, OpenListener, OpenStream, TcpListener};
 
 /// A listener of the system on the loopback address. A link is closed where it is given back.
 #[derive(Drop)]
-pub struct StreamListen<R: Net + Drop> {
+pub struct StreamListen<R: Net + std::rt::Clock + Clone + Drop> {
     rt: R,
     listener: Option<R::Listener>,
     history: ListenHistory,
     faults: u64,
 }
 
-impl<R: Net + Drop> StreamListen<R> {
+impl<R: Net + std::rt::Clock + Clone + Drop> StreamListen<R> {
     /// A listener that this runtime makes, not bound yet.
     pub fn new(rt: R) -> Self
         ensures history { ⟦<StreamListen<R> as Listen>⟧.history result ≡ [] }
@@ -45,8 +45,17 @@ where
     Some(stream)
 }
 
-impl<R: Net + Drop> Listen for StreamListen<R> {
-    type Link = StreamLink<R::Stream>;
+// A clock for a link of its own.
+fn clock_of<R: std::rt::Clock + Clone + Drop>(rt: &R) -> Option<HostClock<R>> {
+    let made: Result<R, _> = rt.clone();
+    let Ok(rt) = made else {
+        return None;
+    };
+    Some(HostClock::new(rt))
+}
+
+impl<R: Net + std::rt::Clock + Clone + Drop> Listen for StreamListen<R> {
+    type Link = StreamLink<R::Stream, HostClock<R>>;
 
     ghost history = { λ s. s.history.events };
 
@@ -66,21 +75,22 @@ impl<R: Net + Drop> Listen for StreamListen<R> {
         Ok(got)
     }
 
-    fn accept(&mut self) -> Result<StreamLink<R::Stream>, Failed> {
+    fn accept(&mut self) -> Result<StreamLink<R::Stream, HostClock<R>>, Failed> {
+        let clock = clock_of(&self.rt);
         let next = match &self.listener {
             Some(listener) => next_stream(listener),
             None => None,
         };
-        let Some(stream) = next else {
+        let (Some(stream), Some(clock)) = (next, clock) else {
             self.faults = self.faults.saturating_add(1);
             self.history = self.history.and(&ListenCall::AcceptFailed);
             return Err(Failed);
         };
         self.history = self.history.and(&ListenCall::Accepted);
-        Ok(StreamLink::new(stream))
+        Ok(StreamLink::new(stream, clock))
     }
 
-    fn give_back(&mut self, number: u32, link: StreamLink<R::Stream>) {
+    fn give_back(&mut self, number: u32, link: StreamLink<R::Stream, HostClock<R>>) {
         self.history = self.history.and(&ListenCall::GaveBack {
             number,
             calls: &link.history,

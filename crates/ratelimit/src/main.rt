@@ -6,7 +6,7 @@ ghost use Rattle.std.specs.Prelude.{◌≡◌};
 ghost use Rattle.std.specs.Process.{exit_status};
 ghost use Rattle.ratelimit_cli.specs.Reports.{status_of};
 
-use rate_io::{HostClock, HostFiles, ReaderSource, StreamListen, WriterSink};
+use rate_io::{HostFiles, ReaderSource, StreamListen, WriterSink};
 use rate_types::{Names, Word};
 use ratelimit_cli::{Exit, ratelimit};
 use std::alloc::Global;
@@ -42,7 +42,6 @@ fn run<R: Threads + Wait + Sync>(
     let stdout = BufWriter::with_capacity(alloc, MOST_WAITING, rt.stdout())?;
     let mut sink = WriterSink::new(stdout);
     let mut listen = StreamListen::new(rt.clone()?);
-    let clock = HostClock::new(rt.clone()?);
     Ok(ratelimit(
         threads,
         alloc,
@@ -52,7 +51,6 @@ fn run<R: Threads + Wait + Sync>(
         &mut source,
         &mut sink,
         &mut listen,
-        &clock,
         &Open,
     ))
 }

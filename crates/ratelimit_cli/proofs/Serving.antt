@@ -32,9 +32,9 @@ use Rattle.ratelimit_cli.proofs.Histories.{none_since}
 use Rattle.ratelimit_cli.proofs.Pieces.{appends_more}
 
 -- a command that listens to nothing
-pub plain_call : (e : Exit) (w : World) (old : List ListenEvent) (faults : ℕ × ℕ) (bounds : Option (ℕ × ℕ)) → Explains e w
-    → ExplainsCall e w (record { listens = since old old; faults = faults; bounds = bounds })
-plain_call e w old faults bounds h = inl (h, none_since old)
+pub plain_call : (e : Exit) (w : World) (old : List ListenEvent) (faults : ℕ × ℕ) → Explains e w
+    → ExplainsCall e w (record { listens = since old old; faults = faults })
+plain_call e w old faults h = inl (h, none_since old)
 
 -- one line more
 pub end_lines_push : (n : ℕ) (es : List LinkEnd) (e : LinkEnd) (k : ℕ) → k ≡ n + length es → end_lines n (es ++ e ∷ []) ≡ end_lines n es ++ with_line_feed (link_end_line k e) ∷ []
@@ -53,14 +53,14 @@ unused_bound old asked port h = record {
 }
 
 -- what a listener has beyond an earlier state
-pub record From (config : List DomainTree) (setup : Setup) (bounds : Option (ℕ × ℕ)) (old new : List ListenEvent) (services : List Service) (is_all : Bool) : Type 0 where
+pub record From (config : List DomainTree) (setup : Setup) (old new : List ListenEvent) (services : List Service) (is_all : Bool) : Type 0 where
   pub more : List ListenEvent
   pub grew : new ≡ old ++ more
-  pub served : ServedByLimiter config setup bounds [] more services is_all
+  pub served : ServedByLimiter config setup [] more services is_all
 
-pub served_from : (config : List DomainTree) (setup : Setup) (bounds : Option (ℕ × ℕ)) (old new : List ListenEvent) (services : List Service) (is_all : Bool)
-    → ServedByLimiter config setup bounds old new services is_all → From config setup bounds old new services is_all
-served_from config setup bounds old new services is_all h = record {
+pub served_from : (config : List DomainTree) (setup : Setup) (old new : List ListenEvent) (services : List Service) (is_all : Bool)
+    → ServedByLimiter config setup old new services is_all → From config setup old new services is_all
+served_from config setup old new services is_all h = record {
   more = accepts (length services) is_all ++ given_back services;
   grew = h.served.handled;
   served = record {
@@ -78,19 +78,19 @@ served_from config setup bounds old new services is_all h = record {
 }
 
 -- serving ended as the output of the links' ends did, where all links were served
-pub ended_so : (config : List DomainTree) (job : ServeJob) (bounds : Option (ℕ × ℕ)) (faults : ℕ × ℕ) (s : Sinks) (more : List ListenEvent) (writes : List Event)
-    (services : List Service) (exit : Exit) → length services ≡ job.connections → ServedByLimiter config (limiter_of job) bounds [] more services true
-    → IsOfOutput (λ pieces. pieces ≡ end_lines 0 (ends_of services)) s exit writes → EndsServing config job bounds faults s more writes exit
-ended_so config job bounds faults s more writes services Done many served h = (services, many, served, h)
-ended_so config job bounds faults s more writes services WriteFault many served h = (services, many, served, h.0, h.1)
-ended_so config job bounds faults s more writes services OutOfMemory many served h = h
-ended_so config job bounds faults s more writes services ListenFault many served h = absurd h
-ended_so config job bounds faults s more writes services Usage many served h = h
-ended_so config job bounds faults s more writes services (ConfigRefused at) many served h = h
-ended_so config job bounds faults s more writes services TooLong many served h = h
-ended_so config job bounds faults s more writes services ReadFault many served h = h
-ended_so config job bounds faults s more writes services (FileFault index) many served h = h
-ended_so config job bounds faults s more writes services (SettingsRefused refused) many served h = h
+pub ended_so : (config : List DomainTree) (job : ServeJob) (faults : ℕ × ℕ) (s : Sinks) (more : List ListenEvent) (writes : List Event)
+    (services : List Service) (exit : Exit) → length services ≡ job.connections → ServedByLimiter config (limiter_of job) [] more services true
+    → IsOfOutput (λ pieces. pieces ≡ end_lines 0 (ends_of services)) s exit writes → EndsServing config job faults s more writes exit
+ended_so config job faults s more writes services Done many served h = (services, many, served, h)
+ended_so config job faults s more writes services WriteFault many served h = (services, many, served, h.0, h.1)
+ended_so config job faults s more writes services OutOfMemory many served h = h
+ended_so config job faults s more writes services ListenFault many served h = absurd h
+ended_so config job faults s more writes services Usage many served h = h
+ended_so config job faults s more writes services (ConfigRefused at) many served h = h
+ended_so config job faults s more writes services TooLong many served h = h
+ended_so config job faults s more writes services ReadFault many served h = h
+ended_so config job faults s more writes services (FileFault index) many served h = h
+ended_so config job faults s more writes services (SettingsRefused refused) many served h = h
 
 or_right : (b : Bool) → (b || true) ≡ true
 or_right true = refl
@@ -157,7 +157,7 @@ module _ (f : Found) (job : ServeJob) (config : List DomainTree) (l : Listening)
   heard_rises : Rose heard.0 heard.1 → Rose l.faults.0 l.faults.1
   heard_rises r = omega arith
 
-  pub serve_exit : (e : Exit) → EndsServing config job l.bounds heard (record { written = b; after = c; faults = faults }) more writes e → ExplainsServe e W l job
+  pub serve_exit : (e : Exit) → EndsServing config job heard (record { written = b; after = c; faults = faults }) more writes e → ExplainsServe e W l job
   serve_exit Done (services, count, served, w) = record {
     config = config;
     begun = begun;

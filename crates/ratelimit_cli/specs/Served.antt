@@ -22,11 +22,10 @@ use Rattle.command_words.specs.declared.command.ServeJob.{ServeJob}
 use Rattle.ratelimit_cli.specs.declared.exit.Exit.{Exit}
 use Rattle.ratelimit_cli.specs.declared.exit.Exit.TheVariants.{Done, WriteFault, OutOfMemory, ListenFault}
 
--- what the call did on the listener, in order, its counts of faults before and after, and what the clock tells
+-- what the call did on the listener, in order, and its counts of faults before and after
 pub record Listening : Type 0 where
   pub listens : List ListenEvent
   pub faults : ℕ × ℕ
-  pub bounds : Option (ℕ × ℕ)
 
 -- no call of the listener was made
 abbrev pub NothingListened : Listening → Type 0
@@ -69,7 +68,7 @@ pub record HasListened (l : Listening) (job : ServeJob) (config : List DomainTre
     : Type 0 where
   pub more : List ListenEvent
   pub events : l.listens ≡ bound job.port port ∷ more
-  pub served : ServedByLimiter config (limiter_of job) l.bounds [] more services is_all
+  pub served : ServedByLimiter config (limiter_of job) [] more services is_all
 
 -- the line of the port, written and flushed at once
 abbrev pub port_line_written : ℕ → List Event

@@ -51,24 +51,24 @@ IsOfPort port s Unwritten writes = WroteFront (λ pieces. pieces ≡ port_line p
 IsOfPort port s NoMemory writes = (writes ≡ []) × (s.after ≡ s.written)
 
 -- how serving at a port ended, after these calls of the listener and these writes
-abbrev pub EndsServing : List DomainTree → ServeJob → Option (ℕ × ℕ) → ℕ × ℕ → Sinks → List ListenEvent → List Event → Exit → Type 0
-EndsServing config job bounds faults s more writes Done =
-    (services : List Service) × (length services ≡ job.connections) × ServedByLimiter config (limiter_of job) bounds [] more services true
+abbrev pub EndsServing : List DomainTree → ServeJob → ℕ × ℕ → Sinks → List ListenEvent → List Event → Exit → Type 0
+EndsServing config job faults s more writes Done =
+    (services : List Service) × (length services ≡ job.connections) × ServedByLimiter config (limiter_of job) [] more services true
     × Wrote (λ pieces. pieces ≡ end_lines 0 (ends_of services)) s writes
-EndsServing config job bounds faults s more writes WriteFault =
-    (services : List Service) × (length services ≡ job.connections) × ServedByLimiter config (limiter_of job) bounds [] more services true
+EndsServing config job faults s more writes WriteFault =
+    (services : List Service) × (length services ≡ job.connections) × ServedByLimiter config (limiter_of job) [] more services true
     × WroteFront (λ pieces. pieces ≡ end_lines 0 (ends_of services)) s writes × Rose s.faults.0 s.faults.1
-EndsServing config job bounds faults s more writes ListenFault =
-    (services : List Service) × (length services < job.connections) × ServedByLimiter config (limiter_of job) bounds [] more services false
+EndsServing config job faults s more writes ListenFault =
+    (services : List Service) × (length services < job.connections) × ServedByLimiter config (limiter_of job) [] more services false
     × Rose faults.0 faults.1 × (writes ≡ []) × (s.after ≡ s.written)
-EndsServing config job bounds faults s more writes OutOfMemory = (writes ≡ []) × (s.after ≡ s.written)
-EndsServing config job bounds faults s more writes other = ⊥
+EndsServing config job faults s more writes OutOfMemory = (writes ≡ []) × (s.after ≡ s.written)
+EndsServing config job faults s more writes other = ⊥
 
 -- the histories of a listener and of a sink grew by these, and so serving at a port ended
-pub record HasServing (config : List DomainTree) (job : ServeJob) (bounds : Option (ℕ × ℕ)) (faults : ℕ × ℕ) (s : Sinks)
+pub record HasServing (config : List DomainTree) (job : ServeJob) (faults : ℕ × ℕ) (s : Sinks)
     (listens listens_after : List ListenEvent) (history history_after : List Event) (exit : Exit) : Type 0 where
   pub more : List ListenEvent
   pub listened : listens_after ≡ listens ++ more
   pub writes : List Event
   pub wrote : history_after ≡ history ++ writes
-  pub ends : EndsServing config job bounds faults s more writes exit
+  pub ends : EndsServing config job faults s more writes exit

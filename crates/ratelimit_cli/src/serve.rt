@@ -23,7 +23,7 @@ use descriptor_tree::Config;
 use http_endpoint::{LinkEnd, link_end_line, listening_line};
 use http_limiter::{Setup, serve_limited};
 use http_serve::LinksFault;
-use rate_io::{Clock, Files, Listen, Sink};
+use rate_io::{Files, Listen, Sink};
 use rate_types::OutOfMemory;
 use std::alloc::Global;
 use std::hash::RandomState;
@@ -111,7 +111,7 @@ fn write_ends<K: Sink>(alloc: Global, ends: &[LinkEnd], sink: &mut K) -> Result<
 }
 
 // Serves the connections at the port that was had, and writes how each ended.
-fn serve_and_end<R: Threads + Wait + Sync, K: Sink, L: Listen, C: Clock>(
+fn serve_and_end<R: Threads + Wait + Sync, K: Sink, L: Listen>(
     rt: &R,
     alloc: Global,
     seed: RandomState,
@@ -119,13 +119,12 @@ fn serve_and_end<R: Threads + Wait + Sync, K: Sink, L: Listen, C: Clock>(
     job: &ServeJob,
     sink: &mut K,
     listen: &mut L,
-    clock: &C,
 ) -> Result<(), Exit>
 where
     L::Link: Send,
     requires range { AreInRange (Threads (Serve job.now)) }
     requires unused { IsUnused (L.history listen.old) }
-    ensures { HasServing (config_view config) job.now (C.bounds clock.now) (L.faults listen.old, L.faults listen.new) (record {
+    ensures { HasServing (config_view config) job.now (L.faults listen.old, L.faults listen.new) (record {
       written = K.written sink.old;
       after = K.written sink.new;
       faults = (K.faults sink.old, K.faults sink.new);
@@ -144,7 +143,6 @@ where
         setup,
         listen,
         job.connections,
-        clock,
     ) {
         Ok(ends) => write_ends(alloc, &ends, sink),
         Err(LinksFault::Listen) => Err(Exit::ListenFault),
@@ -153,7 +151,7 @@ where
 }
 
 // Has the port, writes it, and serves the connections.
-fn listen_and_serve<R: Threads + Wait + Sync, K: Sink, L: Listen, C: Clock>(
+fn listen_and_serve<R: Threads + Wait + Sync, K: Sink, L: Listen>(
     rt: &R,
     alloc: Global,
     seed: RandomState,
@@ -161,7 +159,6 @@ fn listen_and_serve<R: Threads + Wait + Sync, K: Sink, L: Listen, C: Clock>(
     job: &ServeJob,
     sink: &mut K,
     listen: &mut L,
-    clock: &C,
 ) -> Result<(), Exit>
 where
     L::Link: Send,
@@ -180,7 +177,6 @@ where
         }) (since (K.history sink.old) (K.history sink.new))) (record {
           listens = since (L.history listen.old) (L.history listen.new);
           faults = (L.faults listen.old, L.faults listen.new);
-          bounds = C.bounds clock.now;
         }) job.now }
     ensures listen { Continues (L.history listen.old) (L.history listen.new) }
     ensures sink { Continues (K.history sink.old) (K.history sink.new) }
@@ -189,7 +185,7 @@ where
         return Err(Exit::ListenFault);
     };
     match write_port(alloc, port, sink) {
-        PortLine::Written => serve_and_end(rt, alloc, seed, config, job, sink, listen, clock),
+        PortLine::Written => serve_and_end(rt, alloc, seed, config, job, sink, listen),
         PortLine::Unwritten => Err(Exit::WriteFault),
         PortLine::NoMemory => Err(Exit::OutOfMemory),
     }
@@ -197,7 +193,7 @@ where
 
 /// Serves the connections of a job by the configuration of its files, all of which are read first: has the port, writes it and flushes,
 /// accepts the connections and serves each once, writes how each ended, line by line, each line by one call, and flushes.
-pub fn run_serve<R: Threads + Wait + Sync, F: Files, K: Sink, L: Listen, C: Clock>(
+pub fn run_serve<R: Threads + Wait + Sync, F: Files, K: Sink, L: Listen>(
     rt: &R,
     alloc: Global,
     seed: RandomState,
@@ -205,7 +201,6 @@ pub fn run_serve<R: Threads + Wait + Sync, F: Files, K: Sink, L: Listen, C: Cloc
     files: &mut F,
     sink: &mut K,
     listen: &mut L,
-    clock: &C,
 ) -> Result<(), Exit>
 where
     L::Link: Send,
@@ -228,7 +223,6 @@ where
         }) (record {
           listens = since (L.history listen.old) (L.history listen.new);
           faults = (L.faults listen.old, L.faults listen.new);
-          bounds = C.bounds clock.now;
         }) }
     ensures files { Continues (F.history files.old) (F.history files.new) }
     ensures sink { Continues (K.history sink.old) (K.history sink.new) }
@@ -242,5 +236,5 @@ where
         Ok(config) => config,
         Err(exit) => return Err(exit),
     };
-    listen_and_serve(rt, alloc, seed, config, &job, sink, listen, clock)
+    listen_and_serve(rt, alloc, seed, config, &job, sink, listen)
 }

@@ -26,7 +26,7 @@ use crate::work::Work;
 use command_words::{Command, HELP, ThreadJob, VERSION, WordsFault, read_words};
 use descriptor_tree::Config;
 use drive_run::Setup;
-use rate_io::{Clock, Files, Listen, Sink, Source};
+use rate_io::{Files, Listen, Sink, Source};
 use rate_types::{Names, Seconds};
 use std::alloc::Global;
 use std::hash::RandomState;
@@ -195,7 +195,6 @@ fn run_command<
     S: Source,
     K: Sink,
     L: Listen,
-    C: Clock,
     G: Gate,
 >(
     rt: &R,
@@ -206,7 +205,6 @@ fn run_command<
     source: &mut S,
     sink: &mut K,
     listen: &mut L,
-    clock: &C,
     gate: &G,
 ) -> Result<(), Exit>
 where
@@ -228,7 +226,6 @@ where
     }) (record {
       listens = since (L.history listen.old) (L.history listen.new);
       faults = (L.faults listen.old, L.faults listen.new);
-      bounds = C.bounds clock.now;
     }) }
     ensures files { Continues (F.history files.old) (F.history files.new) }
     ensures source { Continues (S.history source.old) (S.history source.new) }
@@ -263,7 +260,7 @@ where
             )
         }
         Ok(Command::Threads(ThreadJob::Serve(job))) => {
-            run_serve(rt, alloc, seed, job, files, sink, listen, clock)
+            run_serve(rt, alloc, seed, job, files, sink, listen)
         }
         Ok(Command::Threads(ThreadJob::Gen { number, checks })) => {
             run_gen(rt, alloc, seed, number, checks, sink, gate)
@@ -298,7 +295,6 @@ pub fn ratelimit<
     S: Source,
     K: Sink,
     L: Listen,
-    C: Clock,
     G: Gate,
 >(
     rt: &R,
@@ -309,7 +305,6 @@ pub fn ratelimit<
     source: &mut S,
     sink: &mut K,
     listen: &mut L,
-    clock: &C,
     gate: &G,
 ) -> Exit
 where
@@ -331,7 +326,6 @@ where
     }) (record {
       listens = since (L.history listen.old) (L.history listen.new);
       faults = (L.faults listen.old, L.faults listen.new);
-      bounds = C.bounds clock.now;
     }) }
     ensures files { Continues (F.history files.old) (F.history files.new) }
     ensures source { Continues (S.history source.old) (S.history source.new) }
@@ -339,7 +333,7 @@ where
     ensures listen { Continues (L.history listen.old) (L.history listen.new) }
 {
     match run_command(
-        rt, alloc, seed, words, files, source, sink, listen, clock, gate,
+        rt, alloc, seed, words, files, source, sink, listen, gate,
     ) {
         Ok(()) => Exit::Done,
         Err(exit) => exit,

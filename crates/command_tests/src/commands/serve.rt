@@ -1,6 +1,7 @@
 // `serve`: connections in memory, and what is written to each.
 use super::{A, NONE, numbers, said_over};
 use rate_io::{MemLink, MemListen};
+use rate_types::Seconds;
 use std::alloc::Global;
 use std::random::RandomSource;
 use std::str;
@@ -73,10 +74,11 @@ struct Served {
 
 // Connections whose peers send these bytes, of which a read hands out at most 20.
 fn links_of(alloc: Global, peers: &[&str]) -> Result<Vec<MemLink>, Fail> {
+    let now = Seconds::capped(65);
     let mut links = Vec::new(alloc);
     for peer in peers {
         let bytes = Vec::from_slice(alloc, peer.as_bytes())?;
-        links.push(MemLink::new(alloc, bytes, Vec::new(alloc)).in_pieces(20))?;
+        links.push(MemLink::new(alloc, bytes, Vec::new(alloc)).in_pieces(20).in_time(now, now))?;
     }
     Ok(links)
 }

@@ -5,6 +5,7 @@ use super::serve::{HEALTH, HEALTHY};
 use super::workers::TURNS;
 use super::{A, NONE, said_over};
 use rate_io::{Failed, Link, Listen, MemLink, MemListen};
+use rate_types::Seconds;
 use std::alloc::Global;
 use std::sync::atomic::{AtomicU64, Ordering};
 use std::test::Fail;
@@ -53,6 +54,10 @@ impl Link for Turned<'_> {
 
     fn write(&mut self, piece: &[u8]) -> Result<(), Failed> {
         self.link.write(piece)
+    }
+
+    fn now(&mut self) -> Seconds {
+        self.link.now()
     }
 
     fn shut(&mut self) {

@@ -5,7 +5,7 @@ use Rattle.http_endpoint.proofs.body.keep_body.Given as goal
 
 abbrev pub invariant-turns : goal.invariant-turns
 invariant-turns g l = record {
-  taken : (events : List Event) × Drew (g.L.Link.state l.fn.link) (g.L.Link.state l.link) events × (l.kept.items ≡ l.fn.kept.items ++ given events);
+  taken : (events : List Event) × Drew l.fn.kept.items (g.L.Link.state l.fn.link) (g.L.Link.state l.link) events × (l.kept.items ≡ l.fn.kept.items ++ given events);
   within : length l.kept.items ≤ l.total;
   room : l.total ≤ vec_capacity l.kept;
 }

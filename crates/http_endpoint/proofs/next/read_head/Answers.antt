@@ -5,7 +5,7 @@ use Rattle.http_front.specs.declared.front.Front.TheVariants.{Ended, CutShort}
 use Rattle.http_front.specs.Part.{Stands, EndsAt}
 use Rattle.http_endpoint.specs.Steps.{Awaits}
 use Rattle.http_endpoint.proofs.ReadLemmas.{drew_more, given-append, failed_later, end_later}
-use Rattle.http_endpoint.proofs.RestLemmas.{head_end, memory_awaits}
+use Rattle.http_endpoint.proofs.RestLemmas.{head_end, memory_awaits, waits_head}
 use Rattle.http_endpoint.proofs.next.read_head.Goals as goal
 
 pub returns-in-Ok-Whole : goal.returns-in-Ok-Whole
@@ -30,7 +30,7 @@ turns-preserved g c =
     let x = c.turns.invariant in
     let y = c.in-More.ensures in (
       x.0 ++ y.0,
-      drew_more _ _ _ x.0 y.0 x.1 y.1,
+      drew_more c.args.inbox.now c.turns.inbox _ _ _ x.0 y.0 x.2 x.1 y.1,
       y.2 ∙ (ap (λ (xs : List ℕ). xs ++ given y.0) x.2
           ∙ (append_assoc c.args.inbox.now (given x.0) (given y.0) ∙ ap (λ (ys : List ℕ). c.args.inbox.now ++ ys) (sym (given-append x.0 y.0)))),
     )
@@ -46,7 +46,7 @@ returns-in-End g c =
     ∙ (ap (λ (ys : List ℕ). c.turns.inbox ++ ys) (sym y.3.0) ∙ (sym y.2 ∙ inbox))) in
     let front = subst (λ (ys : List ℕ). IsFront ys (if c.in-Ok-NoHead.is_blank then Ended else CutShort)) same p.0 in (
       x.0 ++ y.0,
-      drew_more _ _ _ x.0 y.0 x.1 y.1,
+      drew_more c.args.inbox.now c.turns.inbox _ _ _ x.0 y.0 x.2 x.1 y.1,
       inbox,
       rw c.ended.ensures (head_end (c.args.inbox.now ++ given (x.0 ++ y.0)) (g.L.Link.state c.args.link.now)
           (g.L.Link.state c.fill.new.link) (x.0 ++ y.0) c.in-Ok-NoHead.is_blank front (end_later (g.L.Link.state c.fill.new.link) x.0 y.0 y.3.1)),
@@ -57,9 +57,14 @@ returns-in-Failed g c =
     let x = c.turns.invariant in
     let y = c.in-Failed.ensures in (
       x.0 ++ y.0,
-      drew_more _ _ _ x.0 y.0 x.1 y.1,
+      drew_more c.args.inbox.now c.turns.inbox _ _ _ x.0 y.0 x.2 x.1 y.1,
       y.2 ∙ (ap (λ (xs : List ℕ). xs ++ given y.0) x.2
           ∙ (append_assoc c.args.inbox.now (given x.0) (given y.0) ∙ ap (λ (ys : List ℕ). c.args.inbox.now ++ ys) (sym (given-append x.0 y.0)))),
-      failed_later
+      failed_later c.args.inbox.now
           (g.L.Link.state c.args.link.now) (g.L.Link.state c.turns.link) (g.L.Link.state c.fill.new.link) x.0 y.0 x.1 y.3,
     )
+
+pub fill-requires-clause-waits : goal.fill-requires-clause-waits
+fill-requires-clause-waits g c =
+    let p = rw c.in-Ok-NoHead.field-0-is at c.in-Ok-NoHead.ensures.part in
+    waits_head c.turns.inbox c.in-Ok-NoHead.is_blank (subst (λ (ys : List ℕ). IsFront ys (if c.in-Ok-NoHead.is_blank then Ended else CutShort)) c.unread.ensures p.0)

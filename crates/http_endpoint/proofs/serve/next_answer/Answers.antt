@@ -7,7 +7,8 @@ pub returns-in-NoMemory : goal.returns-in-NoMemory
 returns-in-NoMemory g c =
     let x = c.in-NoMemory.ensures in (
       x.0,
+      g.N.Link.state c.next_front.new.link,
       x.1,
-      memory_turn g.K.Checks.answers (g.C.Clock.bounds c.args.clock.now) c.args.is_last (c.args.inbox.now ++ given x.0) c.next_front.new.inbox
+      memory_turn g.K.Checks.answers c.args.is_last (c.args.inbox.now ++ given x.0) c.next_front.new.inbox (g.N.Link.state c.next_front.new.link)
           c.args.checks.now (string_bytes c.args.out.now) c.in-NoMemory.sends_body x.2,
     )

@@ -4,7 +4,7 @@ use Rattle.http_endpoint.proofs.serve.serve_link.Given as goal
 
 abbrev pub invariant-answers : goal.invariant-answers
 invariant-answers g l = record {
-  goes : Goes g.K.Checks.answers (g.C.Clock.bounds l.fn.clock) l.fn.checks l.checks (g.N.Link.state l.fn.link) (g.N.Link.state l.link) l.answers l.inbox;
+  goes : Goes g.K.Checks.answers l.fn.checks l.checks (g.N.Link.state l.fn.link) (g.N.Link.state l.link) l.answers l.inbox;
   few : l.answers < 1024;
 }
 

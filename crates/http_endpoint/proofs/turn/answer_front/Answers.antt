@@ -5,12 +5,13 @@ use Rattle.http_endpoint.proofs.turn.answer_front.Goals as goal
 pub returns-in-Fixed : goal.returns-in-Fixed
 returns-in-Fixed g c =
     rw c.in-Fixed.is
-    (fixed_turn g.K.Checks.answers (g.C.Clock.bounds c.args.clock.now) c.args.is_last c.in-Fixed.answer c.in-Fixed.used
+    (fixed_turn g.K.Checks.answers c.args.is_last c.in-Fixed.answer c.in-Fixed.used (g.N.Link.state c.args.link.now)
     c.args.checks.now (string_bytes c.answer_fixed.new.out) c.answer_fixed.result c.answer_fixed.ensures)
 
 pub returns-in-Check : goal.returns-in-Check
 returns-in-Check g c =
     rw c.in-Check.is
-    (check_turn g.K.Checks.answers (g.C.Clock.bounds c.args.clock.now) c.args.is_last c.in-Check.request c.in-Check.closes c.in-Check.used
-    c.moment_of.result c.check-came.result c.args.checks.now c.check-came.new.self (string_bytes c.print_result.new.out) c.print_result.result
-    c.moment_of.ensures c.check-came.ensures (rw c.closes_after-closes.ensures at c.print_result.ensures))
+    (check_turn g.K.Checks.answers c.args.is_last c.in-Check.request c.in-Check.closes c.in-Check.used
+    c.now-moment.result c.check-came.result (g.N.Link.state c.args.link.now) (g.N.Link.state c.now-moment.new.self) c.args.checks.now c.check-came.new.self
+    (string_bytes c.print_result.new.out) c.print_result.result
+    c.now-moment.ensures c.check-came.ensures (rw c.closes_after-closes.ensures at c.print_result.ensures))

@@ -20,14 +20,13 @@ pub close_served-requires-clause-passes : goal.close_served-requires-clause-pass
 close_served-requires-clause-passes g c =
     let cells = g.N.CellNaming.setup.cells in
     let limiter = c.in_ok-limiter.limiter in
-    let bounds = g.C.Clock.bounds c.args.clock.now in
     let before = c.in_ok-limiter.passes.items in
     let after = c.in-Ok.served.0.items in
     let old = g.L.Listen.history c.args.listen.now in
     let new = g.L.Listen.history c.serve_links.new.listen in
     let s = c.in-Ok.ensures in
-    same_limiter cells limiter bounds before after old new s.0
-    (subst (λ (ps : List Checker). AllServed (ChecksBy cells) bounds ps after old new s.0 true) c.in_ok-checks.ensures s.2)
+    same_limiter cells limiter before after old new s.0
+    (subst (λ (ps : List Checker). AllServed (ChecksBy cells) ps after old new s.0 true) c.in_ok-checks.ensures s.2)
     c.in_ok-passes.passes.items c.in_ok-passes.ensures.limiters
 
 pub returns : goal.returns
@@ -35,7 +34,6 @@ returns g c =
     let config = config_view (arc_value c.args.config) in
     let setup = c.args.setup in
     let limiter = c.in_ok-limiter.limiter in
-    let bounds = g.C.Clock.bounds c.args.clock.now in
     let before = c.in_ok-limiter.passes.items in
     let after = c.in-Ok.served.0.items in
     let passes = c.in_ok-passes.passes.items in
@@ -46,12 +44,12 @@ returns g c =
     let cells : g.N.CellNaming.setup.cells ≡ setup.cells = ap (λ (x : cell_setup.Setup). x.cells) c.requires.cells in
     let workers : g.N.CellNaming.setup.passes ≡ setup.workers = ap (λ (x : cell_setup.Setup). x.passes) c.requires.cells in
     let start : g.N.CellNaming.setup.start ≡ 0 = ap (λ (x : cell_setup.Setup). x.start) c.requires.cells in
-    let served = subst (λ (n : ℕ). AllServed (ChecksBy n) bounds (checkers limiter before) after old new s.0 true) cells
-    (subst (λ (ps : List Checker). AllServed (ChecksBy g.N.CellNaming.setup.cells) bounds ps after old new s.0 true) c.in_ok-checks.ensures s.2) in
+    let served = subst (λ (n : ℕ). AllServed (ChecksBy n) (checkers limiter before) after old new s.0 true) cells
+    (subst (λ (ps : List Checker). AllServed (ChecksBy g.N.CellNaming.setup.cells) ps after old new s.0 true) c.in_ok-checks.ensures s.2) in
     let closed = subst (λ (n : ℕ). HasClosed n limiter passes) cells c.in_ok-close_served.ensures in (
       s.0,
       s.1,
-      served_all config setup bounds old new s.0 limiter before after passes (made.limiter.0 ∙ workers) made.limiter.1 made.limiter.2
+      served_all config setup old new s.0 limiter before after passes (made.limiter.0 ∙ workers) made.limiter.1 made.limiter.2
           (sym c.in_ok-limiter.passes.ok.0 ∙ made.count ∙ workers)
           (λ k d lt. subst (λ (n : ℕ). IsNewPass config n (slice_index_or before k d)) start (made.passes k d lt).1) served c.in_ok-passes.ensures.passes closed,
       s.3,

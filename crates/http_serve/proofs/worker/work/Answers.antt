@@ -14,7 +14,7 @@ loop-init g c =
       take = c.requires.take;
       ends = ap (total is_end) c.requires.taken;
       taken = ap numbers_in c.requires.taken ∙ sym (ap (map (λ (s : Service). s.number)) c.requires.served);
-      served = ([], subst (λ (l : List Service). AreServed g.K.Checks.answers (g.C.Clock.bounds c.args.clock.now) p l [] p) (sym c.requires.served) (refl, refl));
+      served = ([], subst (λ (l : List Service). AreServed g.K.Checks.answers p l [] p) (sym c.requires.served) (refl, refl));
     }
 
 pub loop-preserved : goal.loop-preserved
@@ -30,8 +30,8 @@ loop-preserved g c =
           ∙ sym (ap (map (λ (s : Service). s.number)) h.served);
       served = (
         asked,
-        subst (λ (l : List Service). AreServed g.K.Checks.answers (g.C.Clock.bounds c.args.clock.now) c.args.worker.now.checks l asked c.serve_next.new.worker.checks)
+        subst (λ (l : List Service). AreServed g.K.Checks.answers c.args.worker.now.checks l asked c.serve_next.new.worker.checks)
             (sym h.served)
-            (served_push g.K.Checks.answers (g.C.Clock.bounds c.args.clock.now) _ _ _ _ _ _ _ inv.served.1 h.one),
+            (served_push g.K.Checks.answers _ _ _ _ _ _ _ inv.served.1 h.one),
       );
     }

@@ -10,5 +10,5 @@ invariant-loop g l = record {
   take : TakesFrom l.handover l.worker.take;
   ends : ends_taken l.worker ≡ 0;
   taken : numbers_taken l.worker.take ≡ map (λ s. s.number) l.worker.served.items;
-  served : (asked : List Asked) × AreServed g.K.Checks.answers (g.C.Clock.bounds l.clock) l.fn.worker.checks l.worker.served.items asked l.worker.checks;
+  served : (asked : List Asked) × AreServed g.K.Checks.answers l.fn.worker.checks l.worker.served.items asked l.worker.checks;
 }

@@ -37,7 +37,6 @@ returns-in-Written-clause-exit g c = λ f begun.
     let l : Listening = record {
       listens = since (L.history c.args.listen.now) (L.history c.serve_and_end.new.listen);
       faults = (L.faults c.args.listen.now, L.faults c.serve_and_end.new.listen);
-      bounds = g.C.Clock.bounds c.args.clock.now;
     } in
     subst (λ ws. ExplainsServe (exit_of c.serve_and_end.result) (world_of f s ws) l c.args.job.now) (sym writes)
     (serve_exit f c.args.job.now (config_view c.args.config) l c.in-Ok.port (K.written c.args.sink.now) (K.written c.write_port.new.sink) (K.written c.serve_and_end.new.sink)

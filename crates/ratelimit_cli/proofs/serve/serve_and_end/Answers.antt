@@ -12,7 +12,7 @@ returns-in-Ok g c =
     let K = g.K.Sink in
     let L = g.L.Listen in
     let served = c.in-Ok.ensures in
-    let from = served_from (config_view c.args.config) (limiter_of c.args.job.now) (g.C.Clock.bounds c.args.clock.now) (L.history c.args.listen.now)
+    let from = served_from (config_view c.args.config) (limiter_of c.args.job.now) (L.history c.args.listen.now)
     (L.history c.serve_limited.new.listen) served.0 true served.2 in
     let output = c.write_ends.ensures in
     let s : Sinks = record {
@@ -25,7 +25,7 @@ returns-in-Ok g c =
       listened = from.grew;
       writes = output.events;
       wrote = output.grew;
-      ends = ended_so (config_view c.args.config) c.args.job.now (g.C.Clock.bounds c.args.clock.now)
+      ends = ended_so (config_view c.args.config) c.args.job.now
           (L.faults c.args.listen.now, L.faults c.serve_limited.new.listen) s from.more output.events served.0 (exit_of c.write_ends.result)
           served.1 from.served (subst (λ (es : List LinkEnd). IsOfOutput (λ pieces. pieces ≡ end_lines 0 es) s (exit_of c.write_ends.result) output.events)
           (c.deref.ensures.value ∙ served.3) output.are);
