@@ -2,3 +2,10 @@ pub mod Crossing
 pub mod Grown
 pub mod Replied
 pub mod Ledger
+pub mod Deeds
+pub mod Versions
+pub mod OneVersion
+pub mod Owners
+pub mod Caused
+pub mod Timed
+pub mod Enough

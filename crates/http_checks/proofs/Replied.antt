@@ -14,17 +14,34 @@ use Rattle.http_checks.specs.Checker.{Checker, ChecksBy}
 use Rattle.http_checks.specs.Ledger.{IsByConfig}
 
 module _ {A : Type 0} where
-  none_some : (y : A) → ◌≡◌ {A = Option A} None (Some y) → ⊥
+  pub none_some : (y : A) → ◌≡◌ {A = Option A} None (Some y) → ⊥
   none_some y h = cc
 
-  same_some : (x y : A) → ◌≡◌ {A = Option A} (Some x) (Some y) → x ≡ y
+  pub same_some : (x y : A) → ◌≡◌ {A = Option A} (Some x) (Some y) → x ≡ y
   same_some x y h = cc
+
+  append_get : (xs ys : List A) (n : ℕ) (x : A) → slice_get xs n ≡ Some x → slice_get (xs ++ ys) n ≡ Some x
+  append_get [] ys n x e = absurd (none_some x e)
+  append_get (y ∷ xs) ys zero x e = e
+  append_get (y ∷ xs) ys (suc n) x e = append_get xs ys n x e
+
+  -- what a list has at a place, each that begins so has there
+  pub prefix_get : (xs ys : List A) (n : ℕ) (x : A) → IsPrefix xs ys → slice_get xs n ≡ Some x → slice_get ys n ≡ Some x
+  prefix_get xs ys n x p e = ap (λ l. slice_get l n) (sym p.1) ∙ append_get xs p.0 n x e
+
+  pub prefix_length : (xs ys : List A) → IsPrefix xs ys → length xs ≤ length ys
+  prefix_length xs ys p = let a = ap length p.1 in let l = length-append xs p.0 in omega arith
+
+  -- the item behind a list
+  pub last_at : (xs : List A) (y : A) → slice_get (xs ++ y ∷ []) (length xs) ≡ Some y
+  last_at [] y = refl
+  last_at (x ∷ xs) y = last_at xs y
 
   same_head : (x y : A) (xs ys : List A) → x ∷ xs ≡ y ∷ ys → x ≡ y
   same_head x y xs ys h = cc
 
   -- of a list whose one item is this one, the item and its place
-  only_get : (c : A) (xs : List A) (n : ℕ) (x : A) → IsPrefix xs (c ∷ []) → slice_get xs n ≡ Some x → (n ≡ 0) × (x ≡ c)
+  pub only_get : (c : A) (xs : List A) (n : ℕ) (x : A) → IsPrefix xs (c ∷ []) → slice_get xs n ≡ Some x → (n ≡ 0) × (x ≡ c)
   only_get c [] n x p e = absurd (none_some x e)
   only_get c (y ∷ ys) zero x p e = (refl, sym (same_some y x e) ∙ same_head y c (ys ++ p.0) [] p.1)
   only_get c (y ∷ []) (suc n) x p e = absurd (none_some x e)
@@ -46,13 +63,3 @@ nobody_owns len owned none h = pick len refl
     pick zero e = omega arith
     pick (suc zero) e = omega arith
     pick (suc (suc n)) e = let one = h.there (omega arith) (omega arith) in absurd (omega arith)
-
--- the reply to a check, where the pass then knows one version alone
-pub one_reply : (cells : ℕ) (config : List DomainTree) (p : Checker) (request : RequestParts) (now : ℕ) (result : Result Reply CheckFault) (q : Checker)
-    → ChecksBy cells p request now result q → IsPrefix q.pass.version.view.known (config ∷ []) → IsByConfig config p.limiter.global_shadow request result
-one_reply cells config p request now (Ok reply) q h known =
-    let s = h.step in
-    let at = only_get config q.pass.version.view.known q.pass.version.version q.pass.version.index known s.version.at in
-    let mine = subst (λ (c : List DomainTree). IsReplyOf c request q.pass.cells.moment p.limiter.global_shadow reply.over reply.statuses.items) at.1 s.reply in
-    (s.version_is ∙ at.0, subst (λ (m : ℕ). IsReplyOf config request m p.limiter.global_shadow reply.over reply.statuses.items) (sym s.moment_is) mine)
-one_reply cells config p request now (Err fault) q h known = tt

@@ -55,8 +55,9 @@ module _ (cells : ℕ) (limiter : LimiterView) where
       Lead (ChecksBy cells) (checker limiter p) xs (checker limiter q) × LeadEach ps asked qs
   LeadEach ps asked qs = ⊥
 
-  -- The limiter is closed, with these passes: whatever checks led to them from passes that were new, all of one configuration, are lawful.
-  pub record HasClosed (passes : List PassView) : Type 0 where
-    pub lawful : (config : List DomainTree) (start : ℕ) (before : List PassView) (asked : List (List Asked))
+  -- The limiter, which began at this moment, is closed, with these passes: whatever checks led to them from passes that were new, all of one
+  -- configuration, are lawful.
+  pub record HasClosed (start : ℕ) (passes : List PassView) : Type 0 where
+    pub lawful : (config : List DomainTree) (before : List PassView) (asked : List (List Asked))
         → All (λ p. IsNewPass config start p) before → LeadEach before asked passes
         → AreLawfulChecks config limiter.global_shadow (all_asked asked)

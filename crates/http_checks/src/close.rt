@@ -1,6 +1,7 @@
 // The end of a limiter.
 ghost use Rattle.std.specs.Prelude.{◌≡◌, All, OnOk, vec_len};
 ghost use Rattle.http_checks.specs.Ledger.{HasClosed};
+ghost use Rattle.http_checks.specs.Versions.{HasClosedVersions};
 
 use counter_cells::CellNaming;
 use rate_limiter::{Limiter, Pass};
@@ -16,7 +17,8 @@ pub fn close_served<N: CellNaming>(
 ) -> Result<(), OutOfMemory>
     requires passes { All (λ p. p.limiter ≡ limiter.id) passes.items }
     requires every { vec_len passes ≡ limiter.passes }
-    ensures { OnOk result (HasClosed N.setup.cells limiter passes.items) }
+    ensures checks { OnOk result (HasClosed N.setup.cells limiter N.setup.start passes.items) }
+    ensures versions { OnOk result (HasClosedVersions N.setup.cells limiter N.setup.start passes.items) }
 {
     limiter.close(alloc, passes)?;
     Ok(())

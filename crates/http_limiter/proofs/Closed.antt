@@ -12,6 +12,7 @@ use Rattle.rate_limiter.specs.Passes.{LimiterId, LimiterView, PassView, IsNewPas
 use Rattle.http_endpoint.specs.Answers.{Asked, Lead}
 use Rattle.http_checks.specs.Checker.{Checker, checker, ChecksBy}
 use Rattle.http_checks.specs.Ledger.{LeadEach, HasClosed, AreLawfulChecks, all_asked}
+use Rattle.http_checks.specs.Versions.{HasClosedVersions, AreLawfulAlone}
 use Rattle.http_serve.specs.Service.{Service, AreServed, AreServedBy}
 use Rattle.http_serve.specs.Links.{AllServed}
 use Rattle.http_limiter.specs.Limited.{checkers, ServedByLimiter}
@@ -90,19 +91,25 @@ module _ (cells : ℕ) (limiter : LimiterView) where
         ap length is ∙ length-map after (λ (c : Checker). c.pass) ∙ served.served.as_many.0 ∙ length-map before (checker limiter)
 
     -- once the limiter is closed with them, the checks of all links are lawful
-    pub lawful : (config : List DomainTree) → All (λ (p : PassView). IsNewPass config 0 p) before → passes ≡ passes_in after → HasClosed cells limiter passes
+    pub lawful : (config : List DomainTree) → All (λ (p : PassView). IsNewPass config 0 p) before → passes ≡ passes_in after → HasClosed cells limiter 0 passes
         → AreLawfulChecks config limiter.global_shadow (all_asked served.asked)
     lawful config fresh is closed =
-        closed.lawful config 0 before served.asked fresh
+        closed.lawful config before served.asked fresh
+        (subst (λ (ps : List PassView). LeadEach cells limiter before served.asked ps) (sym is) (led before after services served.asked served.served).0)
+
+    pub lawful_alone : (config : List DomainTree) → All (λ (p : PassView). IsNewPass config 0 p) before → passes ≡ passes_in after → HasClosedVersions cells limiter 0 passes
+        → AreLawfulAlone cells limiter config 0 served.asked
+    lawful_alone config fresh is closed =
+        closed.alone config before served.asked fresh
         (subst (λ (ps : List PassView). LeadEach cells limiter before served.asked ps) (sym is) (led before after services served.asked served.served).0)
 
 -- all that was served, by a limiter that was closed
 pub served_all : (config : List DomainTree) (setup : Setup) (old new : List ListenEvent) (services : List Service) (limiter : LimiterView)
     (before : List PassView) (after : List Checker) (passes : List PassView) → limiter.passes ≡ setup.workers → limiter.claims_max ≡ SERVED_CLAIMS
     → limiter.global_shadow ≡ setup.global_shadow → length before ≡ setup.workers → All (λ (p : PassView). IsNewPass config 0 p) before
-    → AllServed (ChecksBy setup.cells) (checkers limiter before) after old new services true → passes ≡ passes_in after → HasClosed setup.cells limiter passes
-    → ServedByLimiter config setup old new services true
-served_all config setup old new services limiter before after passes many claims shadow as_many fresh served is closed = record {
+    → AllServed (ChecksBy setup.cells) (checkers limiter before) after old new services true → passes ≡ passes_in after → HasClosed setup.cells limiter 0 passes
+    → HasClosedVersions setup.cells limiter 0 passes → ServedByLimiter config setup old new services true
+served_all config setup old new services limiter before after passes many claims shadow as_many fresh served is closed versions = record {
   limiter = limiter;
   passes = many;
   claims = claims;
@@ -114,4 +121,5 @@ served_all config setup old new services limiter before after passes many claims
   served = served;
   lawful = λ _. subst (λ (b : Bool). AreLawfulChecks config b (all_asked served.asked)) shadow
       (lawful setup.cells limiter before after old new services served passes config fresh is closed);
+  alone = λ _. lawful_alone setup.cells limiter before after old new services served passes config fresh is versions;
 }

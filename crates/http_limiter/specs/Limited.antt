@@ -9,6 +9,7 @@ use Rattle.http_endpoint.specs.declared.link_end.LinkEnd.{LinkEnd}
 use Rattle.rate_limiter.specs.Passes.{LimiterView, PassView, IsNewPass}
 use Rattle.http_checks.specs.Checker.{Checker, checker, ChecksBy}
 use Rattle.http_checks.specs.Ledger.{AreLawfulChecks, all_asked}
+use Rattle.http_checks.specs.Versions.{AreLawfulAlone}
 use Rattle.http_serve.specs.Service.{Service}
 use Rattle.http_serve.specs.Links.{AllServed, ends_of}
 use Rattle.http_serve.specs.declared.links.LinksFault.{LinksFault}
@@ -27,8 +28,9 @@ abbrev pub checkers : LimiterView → List PassView → List Checker
 checkers limiter passes = map (λ p. checker limiter p) passes
 
 -- A limiter of the configuration, which gives cells to at most so many counters, with a pass for each worker, which were new at moment 0,
--- served these links: each once, by one of the passes, whose checks are steps of the pass, each at the moment that its link was told for it. Where
--- all links were served, the limiter was closed after the last one: the checks of all of them are lawful checks by the configuration.
+-- served these links: each once, by one of the passes, whose checks are steps of the pass at moments between the clock's. Where
+-- all links were served, the limiter was closed after the last one: the checks of all of them are lawful checks by the configuration, each
+-- refused one for its cause, and at moments that were offered.
 pub record ServedByLimiter (config : List DomainTree) (setup : Setup) (old new : List ListenEvent)
     (services : List Service) (is_all : Bool) : Type 0 where
   pub limiter : LimiterView
@@ -41,6 +43,7 @@ pub record ServedByLimiter (config : List DomainTree) (setup : Setup) (old new :
   pub after : List Checker
   pub served : AllServed (ChecksBy setup.cells) (checkers limiter before) after old new services is_all
   pub lawful : is_all ≡ true → AreLawfulChecks config setup.global_shadow (all_asked served.asked)
+  pub alone : is_all ≡ true → AreLawfulAlone setup.cells limiter config 0 served.asked
 
 -- the answer of serving links, as a list
 abbrev pub ends_in : {E A : Type 0} → Result (Vec LinkEnd A) E → Result (List LinkEnd) E

@@ -23,3 +23,9 @@ pub mod Claiming
 pub mod Seeing
 pub mod Resting
 pub mod Sent
+pub mod Places
+pub mod CounterLists
+pub mod OpenClaims
+pub mod LawfulClaims
+pub mod RequestCounters
+pub mod WantedCounters

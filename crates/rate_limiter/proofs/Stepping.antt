@@ -371,7 +371,7 @@ module _ (limiter : LimiterView) (request : RequestParts) (now : ℕ) (p p1 p2 q
     ended_so : (fault : AcquireFault) → HasNoPins b names fault p2.cells w p2.claims u
         → HasRefused now p (but_for_claims (fault_of fault) p (ended (refused_after fault p2.refused)))
         × HasCause b request p (fault_of fault) (ended (refused_after fault p2.refused))
-    ended_so OutOfMemory h = (left_of p2.refused p.claims h.waited h.bare (prefix_self p.claims.known) refl, (start_refused, claimed_so h.own))
+    ended_so OutOfMemory h = (left_of p2.refused p.claims h.waited h.bare (prefix_self p.claims.known) refl, (start_refused, inr (renewed_so, claimed_so h.own)))
     ended_so (ClaimsSpent claims wanted) h = (
       left_of (one_more p2.refused) u h.waited h.bare (knew_so h.knew) (own_so h.own),
       (ap one_more start_refused, renewed_so, subst (λ ks. AreClaimsSpent b ks u.known claims wanted) named_so h.cause),
@@ -392,7 +392,5 @@ pub early : (b : Bounds) (limiter : LimiterView) (request : RequestParts) (now :
     → Checks b limiter request now p (replied r reply) q
 early b limiter request now p q (Ok x) reply e h = absurd e.1
 early b limiter request now p q (Err fault) reply e h =
-    let knew : IsPrefix p.claims.known q.claims.known = subst (λ (t : KnownClaims). IsPrefix p.claims.known t.known) (sym h.2) (prefix_self p.claims.known) in
-    let none = claimed_none (counters_named q.version.index request q.cells.moment) q.cells.moment p.claims q.claims knew (ap (λ (t : KnownClaims). t.own) h.2) in
     subst (λ (f : CheckFault). HasRefused now p (but_for_claims f p q) × HasCause b request p f q) (sym e.1)
-    (subst (HasRefused now p) (λ i. record q { claims = h.2 i }) h.0, (h.1, none))
+    (subst (HasRefused now p) (λ i. record q { claims = h.2 i }) h.0, (h.1, inl h.2))

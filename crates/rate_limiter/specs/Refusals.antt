@@ -1,5 +1,5 @@
 -- Why a check is refused, and what is left then.
-use Rattle.std.specs.Prelude.{◌≡◌, ℕ, ◌+◌, ◌≤◌, ◌<◌, ◌==◌, List, [], length, if◌then◌else◌, Result, Ok, Err}
+use Rattle.std.specs.Prelude.{◌≡◌, ℕ, ◌+◌, ◌≤◌, ◌<◌, ◌⊎◌, ◌==◌, List, [], length, if◌then◌else◌, Result, Ok, Err}
 use mathlib.Core.List.{IsPrefix}
 use Rattle.rate_types.specs.Requests.{RequestParts}
 use Rattle.rate_types.specs.declared.counter_key.CounterKey.{CounterKey}
@@ -51,10 +51,11 @@ pub record AreCountersFull (b : Bounds) (keys : List CounterKey) (made : List Cl
   pub full : b.cells < live + held + wanted
 
 -- The cause of each fault, by the version, the moment and the claims that the pass has after the check. Before there was no memory the
--- pass may have claimed counters of the check, at its moment
+-- pass may have claimed counters of the check, at its moment and by its version, which is then one of those known
 abbrev pub HasCause : Bounds → RequestParts → PassView → CheckFault → PassView → Type 0
 HasCause b request p OutOfMemory q =
-    (q.refused ≡ p.refused) × HasClaimed (counters_named q.version.index request q.cells.moment) q.cells.moment p.claims q.claims
+    (q.refused ≡ p.refused) × ((q.claims ≡ p.claims) ⊎ (HasRenewed p.version q.version
+    × HasClaimed (counters_named q.version.index request q.cells.moment) q.cells.moment p.claims q.claims))
 HasCause b request p (ClaimsSpent claims wanted) q =
     (q.refused ≡ one_more p.refused) × HasRenewed p.version q.version
     × AreClaimsSpent b (counters_named q.version.index request q.cells.moment) q.claims.known claims wanted

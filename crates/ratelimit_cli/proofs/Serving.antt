@@ -74,6 +74,7 @@ served_from config setup old new services is_all h = record {
     after = h.after;
     served = record { numbered = h.served.numbered; asked = h.served.asked; served = h.served.served; handled = refl };
     lawful = h.lawful;
+    alone = h.alone;
   };
 }
 

@@ -33,8 +33,8 @@ use Rattle.script_run.specs.ScriptLine.{ScriptLine, check, reload, tick, bad}
 use Rattle.script_run.specs.Named.{counters_bound}
 use Rattle.worker_run.specs.LineSteps.{LineStep}
 use Rattle.worker_run.specs.Journal.{Journal}
-use Rattle.worker_run.proofs.Counters.{count}
-use Rattle.worker_run.proofs.LawfulClaims.{first_claims}
+use Rattle.rate_limiter.proofs.CounterLists.{count}
+use Rattle.rate_limiter.proofs.LawfulClaims.{first_claims}
 use Rattle.worker_run.proofs.Ledger.{journal_claims, prefix_on}
 use Rattle.worker_run.proofs.Owners.{record_bound}
 use Rattle.worker_run.proofs.Replying.{journal_versions}

@@ -17,7 +17,7 @@ use Rattle.worker_run.specs.LineSteps.{LineStep, IsRecordStep}
 use Rattle.worker_run.specs.Journal.{Journal}
 use Rattle.worker_run.specs.Work.{HaveRun}
 use Rattle.worker_run.specs.Clauses.{AreInOrder}
-use Rattle.worker_run.proofs.Places.{all_of_each, at_each, below, here, same_some, take_at, take_length, to_elem}
+use Rattle.rate_limiter.proofs.Places.{all_of_each, at_each, below, here, same_some, take_at, take_length, to_elem}
 use Rattle.worker_run.proofs.Ordering.{step_at, at_least, in_turn, earlier_line, versions_rise, moments_rise}
 
 kind_of : (b : Bounds) (limiter : LimiterView) (start : ℕ) (l : ScriptLine) (o : Outcome) (p q : PassView) → LineStep b limiter start l p o q → IsOfKind l o

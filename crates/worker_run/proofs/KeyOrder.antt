@@ -9,7 +9,7 @@ use Rattle.rate_types.specs.Sums.{one_if}
 use Rattle.rate_types.specs.declared.counter_key.CounterKey.{CounterKey}
 use Rattle.rate_types.specs.contracts.counter_key.CounterKeyOrd.TheImpl.Laws.{total-law, matches_eq-law}
 use Rattle.window_keys.proofs.Counters.{same_is, same_itself, same_either}
-use Rattle.worker_run.proofs.Counters.{count, Differ, among, among_count}
+use Rattle.rate_limiter.proofs.CounterLists.{count, Differ, among, among_count}
 
 -- a counter at its place in key order, where it isn't there yet
 abbrev put : CounterKey → List CounterKey → List CounterKey

@@ -1,4 +1,3 @@
-pub mod Places
 pub mod Journals
 pub mod Gathering
 pub mod Ordering
@@ -6,13 +5,9 @@ pub mod Clauses
 pub mod Ledger
 pub mod Sights
 pub mod Replying
-pub mod Counters
 pub mod KeyOrder
 pub mod Numbers
-pub mod LawfulClaims
-pub mod OpenClaims
-pub mod RequestCounters
-pub mod Wanting
+pub mod DifferentCounters
 pub mod NamedByLines
 pub mod Owners
 pub mod Binding

@@ -25,7 +25,7 @@ use Rattle.script_run.specs.Versions.{is_installed, installs, installed_or, vers
 use Rattle.worker_run.specs.LineSteps.{LineStep}
 use Rattle.worker_run.specs.Journal.{Journal}
 use Rattle.worker_run.specs.Work.{HaveRun}
-use Rattle.worker_run.proofs.Places.{all_of_each, at_each, below, here, prefix_get, prefix_length, take_at, to_elem}
+use Rattle.rate_limiter.proofs.Places.{all_of_each, at_each, below, here, prefix_get, prefix_length, take_at, to_elem}
 use Rattle.worker_run.proofs.Clauses.{line_is}
 use Rattle.worker_run.proofs.Ordering.{versions_rise}
 use Rattle.worker_run.proofs.Ledger.{prefix_self, prefix_on, sum_total}

@@ -6,7 +6,7 @@ use Rattle.rate_types.specs.Sums.{one_if}
 use Rattle.rate_types.proofs.Sums.{total_append}
 use Rattle.rate_types.specs.declared.counter_key.CounterKey.{CounterKey}
 use Rattle.rls_core.specs.Sequential.{IsNumberOf}
-use Rattle.worker_run.proofs.Counters.{count, Differ, among, among_count, among_from_count, no_longer, filter_count}
+use Rattle.rate_limiter.proofs.CounterLists.{count, Differ, among, among_count, among_from_count, no_longer, filter_count}
 use Rattle.worker_run.proofs.KeyOrder.{in_order, sorted, among_in_order, length_in_order, differ_sorted}
 
 -- so many as a list without one twice has

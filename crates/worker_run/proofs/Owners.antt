@@ -20,11 +20,11 @@ use Rattle.script_run.specs.ScriptLine.{ScriptLine, check, reload, tick, bad}
 use Rattle.script_run.specs.Named.{counters_bound}
 use Rattle.worker_run.specs.LineSteps.{LineStep, IsRecordStep}
 use Rattle.worker_run.specs.Journal.{Journal}
-use Rattle.worker_run.proofs.Counters.{count}
+use Rattle.rate_limiter.proofs.CounterLists.{count}
 use Rattle.worker_run.proofs.Ledger.{prefix_on, step_claims, journal_claims}
 use Rattle.worker_run.proofs.Replying.{journal_versions}
 use Rattle.worker_run.proofs.NamedByLines.{found_bound, bound_in}
-use Rattle.worker_run.proofs.Places.{back_at, here, prefix_at, prefix_get, prefix_length, times_either, times_from}
+use Rattle.rate_limiter.proofs.Places.{back_at, here, prefix_at, prefix_get, prefix_length, times_either, times_from}
 
 -- ---- one step
 

@@ -18,7 +18,7 @@ use Rattle.script_run.specs.Replies.{IsByRule, RepliesByRule}
 use Rattle.worker_run.specs.LineSteps.{LineStep}
 use Rattle.worker_run.specs.Journal.{Journal}
 use Rattle.worker_run.specs.Work.{HaveRun}
-use Rattle.worker_run.proofs.Places.{at_each, below, here, prefix_get, same_some, to_elem}
+use Rattle.rate_limiter.proofs.Places.{at_each, below, here, prefix_get, same_some, to_elem}
 use Rattle.worker_run.proofs.Ledger.{prefix_same, prefix_on, prefix_added}
 
 -- a configuration that is there, else an empty one

@@ -27,7 +27,7 @@ use Rattle.script_run.specs.Charges.{sights_shown, sights_of, ledger_of, SightsL
 use Rattle.worker_run.specs.LineSteps.{LineStep}
 use Rattle.worker_run.specs.Journal.{Journal}
 use Rattle.worker_run.specs.Work.{HaveRun}
-use Rattle.worker_run.proofs.Places.{at_each, below, here}
+use Rattle.rate_limiter.proofs.Places.{at_each, below, here}
 use Rattle.worker_run.proofs.Gathering.{index_all}
 use Rattle.worker_run.proofs.Ledger.{prefix_self, prefix_same, prefix_on, claimed_grows, charges_all, step_claims, step_charges, all_named, same_sum, IsFrom, from_next, whole}
 

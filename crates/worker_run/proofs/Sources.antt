@@ -14,7 +14,7 @@ use Rattle.counter_cells.specs.Ticks.{own_offers, Sourced}
 use Rattle.counter_cells.specs.Views.{offered, offer_is}
 use Rattle.counter_cells.specs.declared.view.CellView.{CellView}
 use Rattle.counter_cells.specs.declared.view.Tick.{Tick}
-use Rattle.worker_run.proofs.Places.{all_back, all_front, append_nil, at_each, in_either}
+use Rattle.rate_limiter.proofs.Places.{all_back, all_front, append_nil, at_each, in_either}
 use Rattle.worker_run.proofs.Finding.{found}
 
 -- where the moment of a tick comes from: so many offers of its pass before some ticks, some more, and so many of other passes

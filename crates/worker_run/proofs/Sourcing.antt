@@ -21,7 +21,7 @@ use Rattle.script_run.specs.ScriptLine.{ScriptLine, check, reload, tick, bad}
 use Rattle.script_run.specs.Moments.{offer_of}
 use Rattle.worker_run.specs.LineSteps.{LineStep}
 use Rattle.worker_run.specs.Journal.{Journal}
-use Rattle.worker_run.proofs.Places.{append_nil, at_each, in_either}
+use Rattle.rate_limiter.proofs.Places.{append_nil, at_each, in_either}
 use Rattle.worker_run.proofs.Ledger.{prefix_self, prefix_on}
 
 -- a tick offers the start, or the number of the line, or nothing

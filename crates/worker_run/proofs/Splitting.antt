@@ -11,7 +11,7 @@ use Rattle.script_run.specs.ScriptLine.{ScriptLine}
 use Rattle.worker_run.specs.LineSteps.{LineStep, IsRecordStep}
 use Rattle.worker_run.specs.Journal.{Journal}
 use Rattle.worker_run.specs.Work.{HaveRun}
-use Rattle.worker_run.proofs.Places.{below, here}
+use Rattle.rate_limiter.proofs.Places.{below, here}
 use Rattle.worker_run.proofs.Ordering.{earlier_line}
 
 -- a journal split at its record with this place

@@ -14,7 +14,7 @@ use Rattle.rls_core.specs.declared.status.Count.{Count}
 use Rattle.rls_core.specs.declared.status.Count.TheVariants.{NoCount, Before, Seen}
 use Rattle.script_run.specs.Charges.{charged_in}
 use Rattle.script_run.specs.Values.{KnownAtMost}
-use Rattle.worker_run.proofs.Places.{all_back, all_front, all_weaker}
+use Rattle.rate_limiter.proofs.Places.{all_back, all_front, all_weaker}
 use Rattle.worker_run.proofs.Ledger.{sum_total}
 
 -- what a status shows of a counter under a limit with its hits

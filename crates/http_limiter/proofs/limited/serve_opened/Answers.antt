@@ -7,6 +7,7 @@ use Rattle.descriptor_tree.specs.Views.{config_view}
 use Rattle.rate_limiter.specs.Passes.{IsNewPass}
 use Rattle.http_checks.specs.Checker.{Checker, ChecksBy}
 use Rattle.http_checks.specs.Ledger.{HasClosed}
+use Rattle.http_checks.specs.Versions.{HasClosedVersions}
 use Rattle.http_checks.proofs.Crossing.{pass_checks_send}
 use Rattle.http_serve.specs.Links.{AllServed}
 use Rattle.http_limiter.specs.Limited.{checkers}
@@ -46,11 +47,14 @@ returns g c =
     let start : g.N.CellNaming.setup.start ≡ 0 = ap (λ (x : cell_setup.Setup). x.start) c.requires.cells in
     let served = subst (λ (n : ℕ). AllServed (ChecksBy n) (checkers limiter before) after old new s.0 true) cells
     (subst (λ (ps : List Checker). AllServed (ChecksBy g.N.CellNaming.setup.cells) ps after old new s.0 true) c.in_ok-checks.ensures s.2) in
-    let closed = subst (λ (n : ℕ). HasClosed n limiter passes) cells c.in_ok-close_served.ensures in (
+    let closed = subst (λ (n : ℕ). HasClosed setup.cells limiter n passes) start
+    (subst (λ (n : ℕ). HasClosed n limiter g.N.CellNaming.setup.start passes) cells c.in_ok-close_served.ensures.checks) in
+    let versions = subst (λ (n : ℕ). HasClosedVersions setup.cells limiter n passes) start
+    (subst (λ (n : ℕ). HasClosedVersions n limiter g.N.CellNaming.setup.start passes) cells c.in_ok-close_served.ensures.versions) in (
       s.0,
       s.1,
       served_all config setup old new s.0 limiter before after passes (made.limiter.0 ∙ workers) made.limiter.1 made.limiter.2
           (sym c.in_ok-limiter.passes.ok.0 ∙ made.count ∙ workers)
-          (λ k d lt. subst (λ (n : ℕ). IsNewPass config n (slice_index_or before k d)) start (made.passes k d lt).1) served c.in_ok-passes.ensures.passes closed,
+          (λ k d lt. subst (λ (n : ℕ). IsNewPass config n (slice_index_or before k d)) start (made.passes k d lt).1) served c.in_ok-passes.ensures.passes closed versions,
       s.3,
     )

@@ -11,9 +11,9 @@ use Rattle.rate_types.specs.declared.counter_key.CounterKey.{CounterKey}
 use Rattle.window_keys.proofs.Counters.{same_is}
 use Rattle.counter_directory.specs.declared.claim.Claim.{Claim}
 use Rattle.counter_directory.specs.Claims.{claims_of, Fits, IsLawfulClaims}
-use Rattle.worker_run.proofs.Counters.{Differ}
-use Rattle.worker_run.proofs.OpenClaims.{keys_in, keys_count}
-use Rattle.worker_run.proofs.Places.{below, prefix_at}
+use Rattle.rate_limiter.proofs.CounterLists.{Differ}
+use Rattle.rate_limiter.proofs.OpenClaims.{keys_in, keys_count}
+use Rattle.rate_limiter.proofs.Places.{below, prefix_at}
 
 pub first_lawful : (cells most : ℕ) (xs ys : List Claim) → IsPrefix xs ys → IsLawfulClaims cells most ys → IsLawfulClaims cells most xs
 first_lawful cells most xs ys p law i x e =

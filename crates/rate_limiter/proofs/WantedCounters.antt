@@ -10,19 +10,9 @@ use Rattle.window_keys.specs.Counter.{window_end_of}
 use Rattle.counter_directory.specs.declared.claim.Claim.{Claim}
 use Rattle.counter_directory.specs.Claims.{claims_of}
 use Rattle.counter_directory.specs.Keys.{IsMissing}
-use Rattle.script_run.specs.Named.{AreThere}
-use Rattle.worker_run.proofs.Counters.{count, Differ, counted, all_of, front_count, filter_count}
-use Rattle.worker_run.proofs.OpenClaims.{keys_in, keys_count, open_in}
-use Rattle.worker_run.proofs.Places.{take_length}
-
--- a list without a counter twice, whose counters pass a test
-pub there_are : (test : CounterKey → Bool) (xs : List CounterKey) (n : ℕ) → length xs ≡ n → Differ xs → ((c : CounterKey) → 1 ≤ count c xs → test c ≡ true) → AreThere test n
-there_are test xs n long differ pass = record {
-  counters = xs;
-  differ = λ c. let a = counted xs c in let d = differ c in omega arith;
-  pass = all_of (λ k. test k ≡ true) xs pass;
-  count = long;
-}
+use Rattle.rate_limiter.proofs.CounterLists.{count, Differ, front_count, filter_count}
+use Rattle.rate_limiter.proofs.OpenClaims.{keys_in, keys_count, open_in}
+use Rattle.rate_limiter.proofs.Places.{take_length}
 
 some_true : (t : Bool) → 1 ≤ one_if t → t ≡ true
 some_true true h = refl

@@ -15,7 +15,7 @@ use Rattle.descriptor_tree.specs.Trees.{DomainTree}
 use Rattle.rule_lookup.specs.declared.found.Found.{Found}
 use Rattle.rule_lookup.specs.declared.found.Found.TheVariants.{NoRule, Unlimited, Limited}
 use Rattle.rls_core.specs.Reply.{found_for, counter_under, counters_named}
-use Rattle.worker_run.proofs.Counters.{count}
+use Rattle.rate_limiter.proofs.CounterLists.{count}
 
 module _ (config : List DomainTree) (request : RequestParts) (m : ℕ) where
   abbrev named : List Descriptor → List CounterKey

@@ -13,7 +13,7 @@ use Rattle.rate_types.specs.declared.counter_key.CounterKey.{CounterKey}
 use Rattle.window_keys.specs.Counter.{window_end_of}
 use Rattle.counter_directory.specs.declared.claim.Claim.{Claim}
 use Rattle.counter_directory.specs.Claims.{claims_of, end_of, last_end, live_below, Fits, IsLawfulClaims}
-use Rattle.worker_run.proofs.Counters.{count}
+use Rattle.rate_limiter.proofs.CounterLists.{count}
 
 -- the counters of claims
 abbrev pub keys_in : List Claim → List CounterKey
