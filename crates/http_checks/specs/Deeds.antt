@@ -28,7 +28,7 @@ abbrev pub at_pass : PassView → At
 at_pass p = record { version = p.version.version; moment = p.cells.moment }
 
 module _ (cells : ℕ) where
-  -- what a deed makes of a pass; a check offers a moment of the clock
+  -- what a deed makes of a pass
   abbrev pub Does : Checker → Deed → Checker → Type 0
   Does p (checked a at) q = ChecksBy cells p a.request a.now a.result q × (at ≡ at_pass q.pass)
   Does p (reloaded config result) q = ReloadsBy config result p q

@@ -28,9 +28,9 @@ abbrev pub checkers : LimiterView → List PassView → List Checker
 checkers limiter passes = map (λ p. checker limiter p) passes
 
 -- A limiter of the configuration, which gives cells to at most so many counters, with a pass for each worker, which were new at moment 0,
--- served these links: each once, by one of the passes, whose checks are steps of the pass at moments between the clock's. Where
--- all links were served, the limiter was closed after the last one: the checks of all of them are lawful checks by the configuration, each
--- refused one for its cause, and at moments that were offered.
+-- served these links: each once, by one of the passes, whose checks are steps of the pass, each at the moment that its link was told for
+-- it. Where all links were served, the limiter was closed after the last one: the checks of all of them are lawful checks by the
+-- configuration, each refused one for its cause, and at moments that were offered.
 pub record ServedByLimiter (config : List DomainTree) (setup : Setup) (old new : List ListenEvent)
     (services : List Service) (is_all : Bool) : Type 0 where
   pub limiter : LimiterView

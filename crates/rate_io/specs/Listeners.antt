@@ -1,5 +1,5 @@
 -- A listener for connections: its calls in order, and what each does.
-use Rattle.std.specs.Prelude.{◌≡◌, ℕ, ◌<◌, ◌==◌, List, [], count_by, Option, None, Some, Result, Ok, Err, Bool, true, false}
+use Rattle.std.specs.Prelude.{◌≡◌, ◌⊎◌, ℕ, ◌<◌, ◌==◌, List, [], count_by, Option, None, Some, Result, Ok, Err, Bool, true, false}
 use Rattle.std.specs.List.{filter_map}
 use Rattle.rate_io.specs.Events.{Event}
 use Rattle.rate_io.specs.Links.{LinkState}
@@ -34,6 +34,10 @@ number_back other = None
 pub record IsOut (events : List ListenEvent) (number : ℕ) : Type 0 where
   pub accepted : number < accepted_count events
   pub not_back : count_by (λ n. n == number) (filter_map number_back events) ≡ 0
+
+-- a port that is had where this one was asked for: any for 0, else that one
+abbrev pub IsPortFor : ℕ → ℕ → Type 0
+IsPortFor asked port = (asked ≡ 0) ⊎ (port ≡ asked)
 
 -- the event of a call for a port that answered so
 abbrev pub bind_event : {E : Type 0} → ℕ → Result ℕ E → ListenEvent

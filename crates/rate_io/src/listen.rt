@@ -1,6 +1,6 @@
 ghost use Rattle.std.specs.Prelude.{◌≡◌, ◌∷◌, [], ◌++◌, List, ℕ, IfOk};
 ghost use Rattle.rate_io.specs.Causes.{HasCause};
-ghost use Rattle.rate_io.specs.Listeners.{ListenEvent, IsOut, bind_event, accept_event, gave_back, IsNewLink};
+ghost use Rattle.rate_io.specs.Listeners.{ListenEvent, IsOut, IsPortFor, bind_event, accept_event, gave_back, IsNewLink};
 
 use crate::{Failed, Link};
 
@@ -17,6 +17,7 @@ pub trait Listen {
 
     /// Binds a port, or a free one for 0, and answers which.
     fn bind(&mut self, port: u16) -> Result<u16, Failed>
+        ensures asked { IfOk result (λ got. IsPortFor port got) }
         ensures event { history self.new ≡ history self.old ++ bind_event port result ∷ [] }
         ensures cause { HasCause (faults self.old) (faults self.new) result };
 

@@ -74,7 +74,7 @@ impl Listen for MemListen {
         if self.failing.contains(&self.calls) {
             return Err(self.fail(&ListenCall::BindFailed { asked: port }));
         }
-        let got = port.max(1);
+        let got = if port == 0 { 1 } else { port };
         self.history = self.history.and(&ListenCall::Bound {
             asked: port,
             port: got,

@@ -1,5 +1,6 @@
 // The adapter over a real listener, on the loopback address. What std answers is trusted.
-ghost use Rattle.std.specs.Prelude.{◌≡◌, []};
+ghost use Rattle.std.specs.Prelude.{◌≡◌, [], IfSome};
+ghost use Rattle.rate_io.specs.Listeners.{IsPortFor};
 
 use crate::{Failed, HostClock, Listen, ListenCall, ListenHistory, StreamLink};
 use std::net::{Ipv4Addr, Net, OpenListener, OpenStream, TcpListener};
@@ -28,10 +29,15 @@ impl<R: Net + std::rt::Clock + Clone + Drop> StreamListen<R> {
     }
 }
 
-// A listener at this port of the loopback address, with the port that it has.
-fn listener_at<R: Net>(rt: &R, port: u16) -> Option<(R::Listener, u16)> {
+// A listener at this port of the loopback address, or at a free one for 0, with the port that it has.
+fn listener_at<R: Net>(rt: &R, port: u16) -> Option<(R::Listener, u16)>
+    ensures { IfSome result (λ had. IsPortFor port had.1) }
+{
     let listener = TcpListener::bind(rt, (Ipv4Addr::LOCALHOST, port)).ok()?;
     let got = listener.local_addr().ok()?.port();
+    if port != 0 && got != port {
+        return None;
+    }
     Some((listener, got))
 }
 

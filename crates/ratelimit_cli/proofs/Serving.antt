@@ -10,7 +10,7 @@ use Rattle.std.proofs.lemmas.List.Folds.{list_any-append}
 use Rattle.rate_io.specs.Causes.{Rose}
 use Rattle.rate_io.specs.Content.{Appends}
 use Rattle.rate_io.specs.Events.{Event, since}
-use Rattle.rate_io.specs.Listeners.{ListenEvent, bound, accepted, accept_failed, is_accepted, accepted_count, number_back}
+use Rattle.rate_io.specs.Listeners.{ListenEvent, IsPortFor, bound, accepted, accept_failed, is_accepted, accepted_count, number_back}
 use Rattle.descriptor_tree.specs.Trees.{DomainTree}
 use Rattle.http_endpoint.specs.declared.link_end.LinkEnd.{LinkEnd}
 use Rattle.http_endpoint.specs.ServeLines.{link_end_line}
@@ -133,7 +133,7 @@ port_written f s writes port h = record {
 }
 
 module _ (f : Found) (job : ServeJob) (config : List DomainTree) (l : Listening) (port : ℕ) (a b c : Option (List ℕ)) (first_faults faults : ℕ × ℕ) (first writes : List Event)
-    (more : List ListenEvent) (heard : ℕ × ℕ) (events : l.listens ≡ bound job.port port ∷ more)
+    (more : List ListenEvent) (heard : ℕ × ℕ) (events : l.listens ≡ bound job.port port ∷ more) (port_is : IsPortFor job.port port)
     (h : Wrote (λ pieces. pieces ≡ port_line port ∷ []) (record { written = a; after = b; faults = first_faults }) first)
     (begun : HasBegun (world_of f (record { written = a; after = c; faults = (first_faults.0, faults.1) }) (first ++ writes)) job config)
     (later : first_faults.0 ≤ faults.0) (heard_first : l.faults.0 ≤ heard.0) (heard_last : l.faults.1 ≡ heard.1) where
@@ -165,7 +165,7 @@ module _ (f : Found) (job : ServeJob) (config : List DomainTree) (l : Listening)
     port = port;
     services = services;
     count = count;
-    listened = record { more = more; events = events; served = served };
+    listened = record { more = more; events = events; port_is = port_is; served = served };
     each = ap (λ (x : List Event). x ++ writes) firsts ∙ ap (λ (y : List Event). port_line_written port ++ y) (w.each ∙ ap all_written w.are);
     bytes = wrote_both (port_line port) (end_lines 0 (ends_of services)) a b c first_bytes (subst (λ (ps : List (List ℕ)). Appends b c (concat ps)) w.are w.bytes);
   }
@@ -176,7 +176,7 @@ module _ (f : Found) (job : ServeJob) (config : List DomainTree) (l : Listening)
       port = port;
       services = services;
       count = count;
-      listened = record { more = more; events = events; served = served };
+      listened = record { more = more; events = events; port_is = port_is; served = served };
       each = record {
         events = writes;
         grew = ap (λ (x : List Event). x ++ writes) firsts;
@@ -193,7 +193,7 @@ module _ (f : Found) (job : ServeJob) (config : List DomainTree) (l : Listening)
       port = port;
       services = services;
       count = count;
-      listened = record { more = more; events = events; served = served };
+      listened = record { more = more; events = events; port_is = port_is; served = served };
       written = alone none same;
     }),
     ap has_listen_failed events ∙ accept_fails job.port port more (length services) services served.served.handled,

@@ -4,7 +4,7 @@ use Rattle.std.specs.List.{concat, list_any}
 use Rattle.rate_io.specs.Causes.{Rose}
 use Rattle.rate_io.specs.Content.{Appends}
 use Rattle.rate_io.specs.Events.{Event, Grew}
-use Rattle.rate_io.specs.Listeners.{ListenEvent, bound, bind_failed, accepted, accept_failed, gave_back}
+use Rattle.rate_io.specs.Listeners.{ListenEvent, IsPortFor, bound, bind_failed, accepted, accept_failed, gave_back}
 use Rattle.descriptor_tree.specs.Trees.{DomainTree}
 use Rattle.http_endpoint.specs.ServeLines.{listening_line, link_end_line}
 use Rattle.http_endpoint.specs.declared.link_end.LinkEnd.{LinkEnd}
@@ -62,12 +62,13 @@ pub record HasBegun (w : World) (job : ServeJob) (config : List DomainTree) : Ty
   pub say : FilesSay w (Threads (Serve job)) (Ok config)
   pub unread : NothingRead w
 
--- The port was asked for, and this one was had. Then these links were accepted, all that were to be or those before an accept that
+-- The port was asked for, and this one was had: that one, or for 0 any. Then these links were accepted, all that were to be or those before an accept that
 -- failed; each was served once by a limiter of the configuration, shut, and given back under its number.
 pub record HasListened (l : Listening) (job : ServeJob) (config : List DomainTree) (port : ℕ) (services : List Service) (is_all : Bool)
     : Type 0 where
   pub more : List ListenEvent
   pub events : l.listens ≡ bound job.port port ∷ more
+  pub port_is : IsPortFor job.port port
   pub served : ServedByLimiter config (limiter_of job) [] more services is_all
 
 -- the line of the port, written and flushed at once
@@ -103,6 +104,7 @@ pub record PortUnwritten (w : World) (l : Listening) (job : ServeJob) : Type 0 w
   pub begun : HasBegun w job config
   pub port : ℕ
   pub listened : l.listens ≡ bound job.port port ∷ []
+  pub port_is : IsPortFor job.port port
   pub each : WroteUpTo (port_line port ∷ []) w.writes
   pub bytes : AppendsFront w.written w.after (concat (port_line port ∷ []))
 

@@ -43,7 +43,7 @@ returns-in-Written-clause-exit g c = λ f begun.
     (K.faults c.args.sink.now, K.faults c.write_port.new.sink) (K.faults c.write_port.new.sink, K.faults c.serve_and_end.new.sink) port.events rest.writes rest.more
     (L.faults c.bind.new.self, L.faults c.serve_and_end.new.listen)
     (since_is (L.history c.args.listen.now) (L.history c.serve_and_end.new.listen) (bound c.args.job.now.port c.in-Ok.port ∷ rest.more) heard)
-    port.are.0 (subst (λ ws. HasBegun (world_of f s ws) c.args.job.now (config_view c.args.config)) writes begun)
+    c.in-Ok.ensures.asked port.are.0 (subst (λ ws. HasBegun (world_of f s ws) c.args.job.now (config_view c.args.config)) writes begun)
     port.are.1 c.in-Ok.ensures.cause.later refl (exit_of c.serve_and_end.result) rest.ends)
 
 pub returns-in-Unwritten-clause-exit : goal.returns-in-Unwritten-clause-exit
@@ -59,6 +59,7 @@ returns-in-Unwritten-clause-exit g c = λ f begun.
         begun = begun;
         port = c.in-Ok.port;
         listened = since_is (L.history c.args.listen.now) (L.history c.bind.new.self) _ c.in-Ok.ensures.event;
+        port_is = c.in-Ok.ensures.asked;
         each = subst (λ ws. WroteUpTo (port_line c.in-Ok.port ∷ []) ws) (sym writes) (subst (λ ps. WroteUpTo ps e.events) front.are front.each);
         bytes = subst (λ ps. AppendsFront (K.written c.args.sink.now) (K.written c.write_port.new.sink) (concat ps)) front.are front.bytes;
       }),
