@@ -1,21 +1,19 @@
 -- Why the checks of passes were refused: by counters that checks name.
-use Rattle.std.proofs.Common.{◌≡◌, ◌⊎◌, inl, inr, ℕ, zero, suc, ◌+◌, ◌-◌, ◌*◌, ◌≤◌, ◌<◌, List, [], ◌∷◌, ◌++◌, length, map, Bool, true, false, Option, Result, Ok, Err, refl, sym, ap, ◌∙◌, subst, arith, length-append}
+use Rattle.std.proofs.Common.{◌≡◌, ◌⊎◌, ℕ, suc, ◌+◌, ◌-◌, ◌*◌, ◌≤◌, ◌<◌, List, [], ◌∷◌, ◌++◌, length, Bool, true, false, Result, Ok, Err, refl, sym, ap, ◌∙◌, subst, arith, length-append}
 use Rattle.std.proofs.lemmas.Bool.{ltb-true}
 use Rattle.std.proofs.lemmas.List.{length-map}
-use Rattle.std.specs.Prelude.{nat_lt}
 use Rattle.std.specs.List.{AllByRecursion}
 use mathlib.Core.List.{IsPrefix}
 use mathlib.Core.Option.{some}
 use lib.ListN.{get_elem?}
 use Rattle.rate_types.specs.Counters.{same_counter}
-use Rattle.rate_types.specs.Sums.{total, one_if}
+use Rattle.rate_types.specs.Sums.{one_if}
 use Rattle.rate_types.specs.Requests.{RequestParts}
 use Rattle.rate_types.specs.declared.counter_key.CounterKey.{CounterKey}
-use Rattle.rate_types.specs.declared.limits.TheConstants.{MOST_PINS}
 use Rattle.window_keys.specs.Counter.{window_end_of}
 use Rattle.window_keys.proofs.Counters.{same_is}
 use Rattle.descriptor_tree.specs.Trees.{DomainTree}
-use Rattle.counter_directory.specs.Keys.{key_count, IsMissing}
+use Rattle.counter_directory.specs.Keys.{IsMissing}
 use Rattle.counter_directory.specs.Claims.{IsLawfulClaims}
 use Rattle.counter_directory.specs.declared.claim.Claim.{Claim}
 use Rattle.config_versions.specs.PassState.{IsVersion}
@@ -25,20 +23,20 @@ use Rattle.rls_core.specs.declared.fault.CheckFault.TheVariants.{CountersFull, C
 use Rattle.rls_core.specs.declared.reply.Reply.{Reply}
 use Rattle.rate_limiter.specs.Passes.{LimiterView, PassView, bounds_of}
 use Rattle.rate_limiter.specs.Refusals.{AreClaimsSpent, AreCountersFull}
-use Rattle.http_endpoint.specs.Answers.{Asked}
-use Rattle.http_checks.specs.Checker.{Checker, checker, ChecksBy}
-use Rattle.http_checks.specs.Deeds.{At, at_pass, Deed, checked, reloaded, Does, Deeds}
-use Rattle.http_checks.specs.Named.{Names, IsNamed, AreDifferent}
-use Rattle.http_checks.specs.Causes.{IsFull, IsSpent, IsCause, HasCause}
-use Rattle.http_checks.specs.Versions.{all_deeds, DeedsEach}
-use Rattle.http_checks.proofs.Grown.{prefix_on, both}
-use Rattle.http_checks.proofs.Deeds.{one_did, all_did}
 use Rattle.rate_limiter.proofs.Places.{prefix_at, prefix_get, total_there, append_at, back_at}
 use Rattle.rate_limiter.proofs.CounterLists.{count, Differ}
 use Rattle.rate_limiter.proofs.OpenClaims.{keys_in, keys_count, live_few}
 use Rattle.rate_limiter.proofs.LawfulClaims.{first_lawful, keys_differ}
 use Rattle.rate_limiter.proofs.RequestCounters.{named_open}
 use Rattle.rate_limiter.proofs.WantedCounters.{missing_differ, missing_is, together_differ, together_count, some_open, open_long, open_is, open_differ}
+use Rattle.http_endpoint.specs.Answers.{Asked}
+use Rattle.http_checks.specs.Checker.{Checker, checker, ChecksBy}
+use Rattle.http_checks.specs.Deeds.{At, at_pass, Deed, checked, reloaded, Does, Deeds}
+use Rattle.http_checks.specs.Named.{IsNamed}
+use Rattle.http_checks.specs.Causes.{IsCause, HasCause}
+use Rattle.http_checks.specs.Versions.{all_deeds, DeedsEach}
+use Rattle.http_checks.proofs.Grown.{prefix_on, both}
+use Rattle.http_checks.proofs.Deeds.{one_did, all_did}
 
 -- a check of these deeds
 abbrev pub IsThere : List Deed → Asked → At → Type 0

@@ -1,10 +1,10 @@
 -- What one deed and what several make of a pass.
-use Rattle.std.proofs.Common.{◌≡◌, ℕ, ◌+◌, ◌-◌, ◌≤◌, ◌<◌, ◌==◌, List, [], ◌∷◌, ◌++◌, length, map, Option, Result, Ok, Err, refl, sym, ap, ◌∙◌, subst, arith, append_assoc, ne_eqb}
+use Rattle.std.proofs.Common.{◌≡◌, ℕ, ◌+◌, ◌-◌, ◌≤◌, ◌<◌, ◌==◌, List, [], ◌∷◌, ◌++◌, length, map, Result, Ok, Err, refl, sym, ap, ◌∙◌, subst, arith, append_assoc, ne_eqb}
 use Rattle.std.proofs.lemmas.List.{map-append, append-nil}
 use Rattle.std.specs.Prelude.{slice_get}
 use Rattle.std.specs.List.{AllByRecursion}
 use mathlib.Core.List.{IsPrefix}
-use Rattle.rate_types.specs.Sums.{total, times, one_if}
+use Rattle.rate_types.specs.Sums.{times, one_if}
 use Rattle.rate_types.proofs.Sums.{total_append}
 use Rattle.rate_types.specs.Requests.{RequestParts}
 use Rattle.rate_types.specs.Ledger.{Charge, Sight}
@@ -19,19 +19,17 @@ use Rattle.rls_core.specs.declared.reply.Reply.{Reply}
 use Rattle.rls_core.specs.Reply.{IsReplyOf}
 use Rattle.counter_cells.specs.Ledgers.{charge_of}
 use Rattle.counter_cells.specs.declared.view.Charge as cell_charge
-use Rattle.config_versions.specs.PassState.{PassState, IsVersion}
-use Rattle.rate_limiter.specs.Passes.{LimiterView, PassView, KeepsAllButVersion}
+use Rattle.config_versions.specs.PassState.{PassState}
+use Rattle.rate_limiter.specs.Passes.{LimiterView, PassView}
 use Rattle.rate_limiter.specs.Versions.{Reloads}
 use Rattle.rate_limiter.specs.Named.{AreNamed}
 use Rattle.rate_limiter.specs.Values.{HasSight}
-use Rattle.http_endpoint.specs.Answers.{Asked}
 use Rattle.http_checks.specs.Checker.{Checker, ChecksBy}
-use Rattle.http_checks.specs.Ledger.{charges_shown, sights_shown}
 use Rattle.http_checks.specs.Deeds.{At, at_pass, Deed, checked, reloaded, ReloadsBy, Does, Deeds}
-use Rattle.http_checks.specs.Versions.{charges_of, sights_of, ledger_of, sights_in, installed_by, installs, IsByVersion, IsAnsweredBy, IsInForce, GoesBy}
+use Rattle.http_checks.specs.Versions.{charges_of, sights_of, ledger_of, sights_in, installed_by, installs, IsAnsweredBy, IsInForce, GoesBy}
 use Rattle.http_checks.specs.Versions.{version_answered, IsAbove, VersionsRise}
-use Rattle.http_checks.proofs.Grown.{prefix_self, prefix_same, prefix_on, prefix_added, both, named_grows, named_append, sight_grows, sights_grow, weaker}
-use Rattle.http_checks.proofs.Ledger.{Made, one_made}
+use Rattle.http_checks.proofs.Grown.{prefix_self, prefix_same, prefix_on, prefix_added, both, named_grows, named_append, sights_grow}
+use Rattle.http_checks.proofs.Ledger.{one_made}
 use Rattle.http_checks.proofs.Replied.{prefix_get, prefix_length, last_at}
 
 -- what deeds make of a pass: what checks make of it, and these versions of its own
@@ -143,12 +141,15 @@ module _ (size : ℕ) where
       → IsAnsweredBy configs p.limiter.global_shadow request (at_pass q.pass) result
   check_by configs p request now (Ok reply) q h known =
       let s = h.step in
-      let at = prefix_get q.pass.version.view.known configs q.pass.version.version q.pass.version.index known s.version.at in
-      (s.version_is, s.moment_is, record {
-        config = q.pass.version.index;
-        version = ap (slice_get configs) s.version_is ∙ at;
-        is_reply = subst (λ (m : ℕ). IsReplyOf q.pass.version.index request m p.limiter.global_shadow reply.over reply.statuses.items) (sym s.moment_is) s.reply;
-      })
+      let at = prefix_get q.pass.version.view.known configs q.pass.version.version q.pass.version.index known s.version.at in (
+        s.version_is,
+        s.moment_is,
+        record {
+          config = q.pass.version.index;
+          version = ap (slice_get configs) s.version_is ∙ at;
+          is_reply = subst (λ (m : ℕ). IsReplyOf q.pass.version.index request m p.limiter.global_shadow reply.over reply.statuses.items) (sym s.moment_is) s.reply;
+        },
+      )
   check_by configs p request now (Err check_fault.OutOfMemory) q h known = tt
   check_by configs p request now (Err (check_fault.ClaimsSpent claims wanted)) q h known = tt
   check_by configs p request now (Err (check_fault.CountersFull moment live held wanted)) q h known = h.step.1.2.moment_is
@@ -156,9 +157,9 @@ module _ (size : ℕ) where
   reload_by : (configs : List (List DomainTree)) → length configs ≤ MOST_VERSIONS → (config : List DomainTree) (result : Result ℕ ReloadFault) (s t : PassState (List DomainTree))
       → Reloads config result s t → IsPrefix t.view.known configs → IsInForce configs config result
   reload_by configs few config (Ok version) s t h known = (
-      (let r = h.rises in omega arith),
-      prefix_get t.view.known configs version config known
-      (ap (slice_get t.view.known) h.place ∙ ap (λ (l : List (List DomainTree)). slice_get l (length h.found)) h.known ∙ last_at h.found config),
+    (let r = h.rises in omega arith),
+    prefix_get t.view.known configs version config known
+        (ap (slice_get t.view.known) h.place ∙ ap (λ (l : List (List DomainTree)). slice_get l (length h.found)) h.known ∙ last_at h.found config),
   )
   reload_by configs few config (Err (reload_fault.VersionsFull versions)) s t h known =
       let l = prefix_length t.view.known configs known in

@@ -1,11 +1,11 @@
 -- Where the cells are enough for all that other passes may hold and for all counters that checks name, no check is refused for want of room.
-use Rattle.std.proofs.Common.{◌≡◌, ℕ, zero, suc, ◌+◌, ◌-◌, ◌*◌, ◌≤◌, ◌<◌, List, [], ◌∷◌, ◌++◌, length, Option, Some, None, Result, Ok, Err, refl, sym, ap, ◌∙◌, subst, arith}
+use Rattle.std.proofs.Common.{◌≡◌, ℕ, zero, suc, ◌+◌, ◌-◌, ◌*◌, ◌≤◌, ◌<◌, List, [], ◌∷◌, ◌++◌, length, Option, Some, Result, Ok, Err, sym, ap, ◌∙◌, arith}
 use Rattle.std.specs.Prelude.{slice_get}
-use Rattle.std.specs.List.{AllByRecursion, flat_map}
+use Rattle.std.specs.List.{AllByRecursion}
 use mathlib.Core.Option.{some, some-ne-none, some-injective}
 use lib.ListN.{get_elem?}
 use Rattle.rate_types.specs.Counters.{same_counter}
-use Rattle.rate_types.specs.Sums.{total, one_if}
+use Rattle.rate_types.specs.Sums.{one_if}
 use Rattle.rate_types.proofs.Sums.{total_append}
 use Rattle.rate_types.specs.declared.counter_key.CounterKey.{CounterKey}
 use Rattle.rate_types.specs.declared.limits.TheConstants.{MOST_PINS}
@@ -15,13 +15,13 @@ use Rattle.rls_core.specs.declared.fault.CheckFault.{CheckFault}
 use Rattle.rls_core.specs.declared.fault.CheckFault.TheVariants.{CountersFull, ClaimsSpent, OutOfMemory}
 use Rattle.rls_core.specs.declared.reply.Reply.{Reply}
 use Rattle.rate_limiter.specs.Passes.{LimiterView}
+use Rattle.rate_limiter.proofs.CounterLists.{count, no_longer, inside}
 use Rattle.http_endpoint.specs.Answers.{Asked}
 use Rattle.http_checks.specs.Deeds.{At, Deed, checked, reloaded}
 use Rattle.http_checks.specs.Named.{IsNamed, AreDifferent}
 use Rattle.http_checks.specs.Causes.{IsCause, HasCause}
 use Rattle.http_checks.specs.Versions.{all_deeds, AreLawfulDeeds}
 use Rattle.http_checks.specs.Room.{counters_by, counters_of, all_counters, HadRoom, HadRoomFor}
-use Rattle.rate_limiter.proofs.CounterLists.{count, no_longer, inside}
 
 module _ (configs : List (List DomainTree)) where
   abbrev IsAmong : List Deed → CounterKey → Type 0

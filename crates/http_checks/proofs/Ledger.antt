@@ -1,18 +1,12 @@
 -- What a check makes of a pass, and what new passes have.
-use Rattle.std.proofs.Common.{◌⊎◌, inl, inr, ◌≡◌, ℕ, ◌+◌, ◌≤◌, ◌<◌, List, [], ◌∷◌, ◌++◌, length, map, Option, Result, Ok, Err, refl, sym, ap, ◌∙◌, subst, arith, append_assoc}
-use Rattle.std.proofs.lemmas.List.{map-append, append-nil}
-use Rattle.std.proofs.lemmas.List.Concat.{flat_map-append}
-use Rattle.std.proofs.lemmas.List.Elements.{recursion_from_All}
-use Rattle.std.specs.Prelude.{All}
+use Rattle.std.proofs.Common.{◌⊎◌, inl, inr, ◌≡◌, ℕ, ◌+◌, ◌≤◌, ◌<◌, List, [], ◌∷◌, ◌++◌, map, Result, Ok, Err, sym, ap, ◌∙◌, subst}
+use Rattle.std.proofs.lemmas.List.{append-nil}
 use Rattle.std.specs.List.{AllByRecursion}
 use mathlib.Core.List.{IsPrefix}
-use Rattle.rate_types.specs.Sums.{total, times}
-use Rattle.rate_types.specs.Counters.{same_counter}
 use Rattle.rate_types.specs.Requests.{RequestParts}
-use Rattle.rate_types.specs.Ledger.{Charge, Sight, IsLawfulSight}
+use Rattle.rate_types.specs.Ledger.{Charge, Sight}
 use Rattle.rate_types.specs.declared.counter_key.CounterKey.{CounterKey}
 use Rattle.descriptor_tree.specs.Trees.{DomainTree}
-use Rattle.told_list.specs.Lists.{IsOwnedOnce}
 use Rattle.rls_core.specs.Reply.{charges_of, sights_of, counters_named}
 use Rattle.rls_core.specs.declared.fault.CheckFault.{CheckFault}
 use Rattle.rls_core.specs.declared.fault.CheckFault.TheVariants.{CountersFull, ClaimsSpent, OutOfMemory}
@@ -21,18 +15,15 @@ use Rattle.counter_cells.specs.Ledgers.{charge_of}
 use Rattle.counter_cells.specs.Ledgers as cells
 use Rattle.counter_cells.specs.declared.view.CellView.{CellView}
 use Rattle.counter_cells.specs.declared.view.Charge as cell_charge
-use Rattle.counter_directory.specs.declared.claim.Claim.{Claim}
 use Rattle.counter_directory.specs.Passes.{KnownClaims}
-use Rattle.rate_limiter.specs.Passes.{LimiterView, PassView, IsNewPass}
+use Rattle.rate_limiter.specs.Passes.{PassView, IsNewPass}
 use Rattle.rate_limiter.specs.PassStep.{HasRenewed, HasClaimed}
 use Rattle.rate_limiter.specs.Refusals.{HasRefused}
 use Rattle.rate_limiter.specs.Named.{AreNamed}
-use Rattle.rate_limiter.specs.Values.{HasSight, HasSights}
-use Rattle.rate_limiter.specs.Closing.{cells_of, IsOneLedger, AreSightsInIt}
-use Rattle.http_endpoint.specs.Answers.{Asked, Lead}
-use Rattle.http_checks.specs.Checker.{Checker, checker, ChecksBy}
-use Rattle.http_checks.specs.Ledger.{charges_shown, sights_shown, ledger_of, sights_in, IsByConfig, AreLawfulChecks, all_asked, LeadEach, HasClosed}
-use Rattle.http_checks.proofs.Grown.{prefix_self, prefix_same, prefix_on, prefix_added, both, named_grows, named_append, sight_grows, sights_grow, weaker}
+use Rattle.rate_limiter.specs.Values.{HasSights}
+use Rattle.http_checks.specs.Checker.{Checker, ChecksBy}
+use Rattle.http_checks.specs.Ledger.{charges_shown, sights_shown}
+use Rattle.http_checks.proofs.Grown.{prefix_same, prefix_added, weaker}
 
 -- what checks with these charges and sights made of a pass: it charged them and nothing else, and has what they saw; no version is its own
 pub record Made (p q : Checker) (charges : List (Charge CounterKey)) (sights : List (Sight CounterKey)) : Type 0 where

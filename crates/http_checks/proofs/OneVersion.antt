@@ -1,16 +1,13 @@
 -- Where no configuration is put in force later, the deeds of passes are lawful checks by the first.
-use Rattle.std.proofs.Common.{◌≡◌, ℕ, zero, suc, ◌+◌, ◌≤◌, ◌<◌, List, [], ◌∷◌, ◌++◌, length, map, Option, Some, Result, Ok, Err, refl, sym, ap, ◌∙◌, subst, arith}
+use Rattle.std.proofs.Common.{◌≡◌, ℕ, ◌+◌, ◌≤◌, ◌<◌, List, [], ◌∷◌, ◌++◌, length, map, Some, Result, Ok, Err, refl, sym, ap, ◌∙◌, subst, arith}
 use Rattle.std.proofs.lemmas.List.{map-append}
-use Rattle.std.specs.Prelude.{All, slice_get, Bool}
+use Rattle.std.specs.Prelude.{slice_get, Bool}
 use Rattle.std.specs.List.{AllByRecursion, flat_map}
-use mathlib.Core.List.{IsPrefix}
-use Rattle.rate_types.specs.Sums.{total}
 use Rattle.rate_types.specs.Counters.{same_counter}
 use Rattle.rate_types.specs.Requests.{RequestParts}
 use Rattle.rate_types.specs.Ledger.{Charge, Sight, IsLawfulLedger, IsLawfulSight}
 use Rattle.rate_types.specs.declared.counter_key.CounterKey.{CounterKey}
 use Rattle.descriptor_tree.specs.Trees.{DomainTree}
-use Rattle.told_list.specs.Lists.{IsOwnedOnce}
 use Rattle.rls_core.specs.Reply.{IsReplyOf}
 use Rattle.rls_core.specs.declared.fault.CheckFault.{CheckFault}
 use Rattle.rls_core.specs.declared.reply.Reply.{Reply}
@@ -20,7 +17,7 @@ use Rattle.http_checks.specs.Checker.{Checker, checker, ChecksBy}
 use Rattle.http_checks.specs.Ledger.{charges_shown, sights_shown, IsByConfig, AreLawfulChecks, all_asked, LeadEach, HasClosed}
 use Rattle.http_checks.specs.Ledger as checks
 use Rattle.http_checks.specs.Deeds.{At, at_pass, Deed, checked, Deeds}
-use Rattle.http_checks.specs.Versions.{charges_of, sights_of, ledger_of, sights_in, installs, IsAnsweredBy, GoesBy, as_deeds, asked_of, all_deeds, AreLawfulDeeds, AreLawfulAlone, DeedsEach, HasClosedVersions}
+use Rattle.http_checks.specs.Versions.{ledger_of, sights_in, installs, IsAnsweredBy, GoesBy, as_deeds, asked_of, all_deeds, AreLawfulDeeds, AreLawfulAlone, DeedsEach, HasClosedVersions}
 use Rattle.http_checks.proofs.Grown.{prefix_self}
 use Rattle.http_checks.proofs.Replied.{none_some, same_some, only_get, nobody_owns}
 

@@ -1,5 +1,5 @@
 -- Which deeds made the claims that passes have made.
-use Rattle.std.proofs.Common.{◌≡◌, ℕ, zero, suc, ◌+◌, ◌-◌, ◌≤◌, ◌<◌, ◌⊎◌, List, [], ◌∷◌, ◌++◌, length, inl, inr, Option, Result, Ok, Err, refl, sym, ap, ◌∙◌, subst, arith}
+use Rattle.std.proofs.Common.{◌≡◌, ℕ, zero, suc, ◌+◌, ◌-◌, ◌≤◌, ◌<◌, ◌⊎◌, List, [], ◌∷◌, ◌++◌, length, inl, inr, Result, Ok, Err, refl, sym, ap, ◌∙◌, subst, arith}
 use Rattle.std.specs.List.{AllByRecursion}
 use mathlib.Core.List.{IsPrefix}
 use mathlib.Core.Option.{some, some-injective}
@@ -12,21 +12,20 @@ use Rattle.told_list.specs.Lists.{count_from}
 use Rattle.counter_directory.specs.Keys.{key_count}
 use Rattle.counter_directory.specs.Passes.{KnownClaims}
 use Rattle.counter_directory.specs.declared.claim.Claim.{Claim}
-use Rattle.config_versions.specs.PassState.{IsVersion}
 use Rattle.rls_core.specs.Reply.{counters_named}
 use Rattle.rls_core.specs.declared.fault.CheckFault.{CheckFault}
 use Rattle.rls_core.specs.declared.fault.CheckFault.TheVariants.{CountersFull, ClaimsSpent, OutOfMemory}
 use Rattle.rls_core.specs.declared.reply.Reply.{Reply}
 use Rattle.rate_limiter.specs.Passes.{LimiterView, PassView}
 use Rattle.rate_limiter.specs.PassStep.{HasClaimed, HasRenewed, IsPassStep}
+use Rattle.rate_limiter.proofs.Places.{back_at, append_at, here, prefix_at, prefix_get, times_either, times_from}
 use Rattle.http_endpoint.specs.Answers.{Asked}
 use Rattle.http_checks.specs.Checker.{Checker, checker, ChecksBy}
 use Rattle.http_checks.specs.Deeds.{At, at_pass, Deed, checked, reloaded, Does, Deeds}
 use Rattle.http_checks.specs.Versions.{ledger_of, sights_in, installs, all_deeds, DeedsEach}
 use Rattle.http_checks.specs.Named.{Names, IsNamed}
 use Rattle.http_checks.proofs.Grown.{prefix_on}
-use Rattle.http_checks.proofs.Deeds.{Did, one_did, all_did}
-use Rattle.rate_limiter.proofs.Places.{back_at, append_at, here, prefix_at, prefix_get, prefix_length, times_either, times_from}
+use Rattle.http_checks.proofs.Deeds.{Did, all_did}
 
 -- the claim at this place is of one of the counters
 abbrev IsOf : List CounterKey → KnownClaims → ℕ → Type 0
@@ -45,7 +44,7 @@ claimed_of keys m v w c n owned = pick (times_either n v.own _ (subst (λ (l : L
         inr (
           x.0,
           ap (λ (l : List Claim). get_elem? l n) c.known
-          ∙ subst (λ (k : ℕ). get_elem? (c.found ++ c.added) k ≡ some x.0) at (back_at c.found c.added (n - length c.found) x.0 x.1),
+              ∙ subst (λ (k : ℕ). get_elem? (c.found ++ c.added) k ≡ some x.0) at (back_at c.found c.added (n - length c.found) x.0 x.1),
           c.named (n - length c.found) x.0 x.1,
         )
 

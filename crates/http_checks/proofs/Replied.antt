@@ -1,17 +1,8 @@
 -- Where a limiter has one version alone, each reply is that of the version's configuration.
-use Rattle.std.proofs.Common.{◌≡◌, ℕ, zero, suc, ◌≤◌, ◌<◌, List, [], ◌∷◌, ◌++◌, length, Option, Some, None, Result, Ok, Err, refl, sym, ap, ◌∙◌, subst, arith, length-append}
+use Rattle.std.proofs.Common.{◌≡◌, ℕ, zero, suc, ◌≤◌, ◌<◌, List, [], ◌∷◌, ◌++◌, length, Option, Some, None, refl, sym, ap, ◌∙◌, arith, length-append}
 use Rattle.std.specs.Prelude.{slice_get}
-use Rattle.std.specs.List.{AllByRecursion}
 use mathlib.Core.List.{IsPrefix}
-use Rattle.rate_types.specs.Requests.{RequestParts}
-use Rattle.rate_types.specs.Sums.{total, times}
-use Rattle.descriptor_tree.specs.Trees.{DomainTree}
 use Rattle.told_list.specs.Lists.{IsOwnedOnce}
-use Rattle.rls_core.specs.Reply.{IsReplyOf}
-use Rattle.rls_core.specs.declared.fault.CheckFault.{CheckFault}
-use Rattle.rls_core.specs.declared.reply.Reply.{Reply}
-use Rattle.http_checks.specs.Checker.{Checker, ChecksBy}
-use Rattle.http_checks.specs.Ledger.{IsByConfig}
 
 module _ {A : Type 0} where
   pub none_some : (y : A) → ◌≡◌ {A = Option A} None (Some y) → ⊥

@@ -1,5 +1,5 @@
 -- The moments of checks never fall along a pass, and each was offered.
-use Rattle.std.proofs.Common.{◌≡◌, ◌⊎◌, inl, inr, ℕ, zero, suc, ◌+◌, ◌≤◌, ◌==◌, cond, max, List, [], ◌∷◌, ◌++◌, length, Bool, true, false, Option, Some, None, Result, Ok, Err, refl, sym, ap, ◌∙◌, subst, arith, append_assoc, eq-eqb}
+use Rattle.std.proofs.Common.{◌≡◌, ◌⊎◌, inl, inr, ℕ, zero, suc, ◌+◌, ◌≤◌, ◌==◌, cond, List, [], ◌∷◌, ◌++◌, length, Bool, true, false, Option, Some, None, Result, Ok, Err, refl, sym, ap, ◌∙◌, subst, arith, append_assoc, eq-eqb}
 use Rattle.std.proofs.lemmas.Bool.Decides.{nat_tests}
 use Rattle.std.specs.Prelude.{IfSome}
 use Rattle.std.specs.List.{AllByRecursion}
@@ -18,13 +18,12 @@ use Rattle.rls_core.specs.declared.reply.Reply.{Reply}
 use Rattle.rate_limiter.specs.Passes.{LimiterView, PassView}
 use Rattle.rate_limiter.specs.PassStep.{HasOffered}
 use Rattle.rate_limiter.specs.Closing.{cells_of}
-use Rattle.http_endpoint.specs.Answers.{Asked}
+use Rattle.rate_limiter.proofs.Places.{all_front, all_back}
 use Rattle.http_checks.specs.Checker.{Checker, checker, ChecksBy}
 use Rattle.http_checks.specs.Deeds.{At, Deed, checked, reloaded, Does, Deeds}
 use Rattle.http_checks.specs.Moments.{MomentsRise, offered_by, IsOffered, HasSource}
 use Rattle.http_checks.specs.Versions.{all_deeds, DeedsEach}
 use Rattle.http_checks.proofs.Grown.{both}
-use Rattle.rate_limiter.proofs.Places.{all_front, all_back}
 
 -- ---- ticks
 

@@ -1,8 +1,8 @@
 -- The deeds that lead from new passes to the closed ones go by one list of versions, and charged just what the passes charged.
-use Rattle.std.proofs.Common.{◌≡◌, ℕ, zero, suc, ◌+◌, ◌≤◌, ◌<◌, List, [], ◌∷◌, ◌++◌, length, map, Option, refl, sym, ap, ◌∙◌, subst, arith}
+use Rattle.std.proofs.Common.{◌≡◌, ℕ, ◌+◌, ◌≤◌, ◌<◌, List, [], ◌∷◌, ◌++◌, length, map, refl, sym, ap, ◌∙◌, subst, arith}
 use Rattle.std.proofs.lemmas.List.Concat.{flat_map-append}
 use Rattle.std.proofs.lemmas.List.Elements.{recursion_from_All}
-use Rattle.std.specs.Prelude.{All, slice_get, Some}
+use Rattle.std.specs.Prelude.{All, slice_get}
 use Rattle.std.specs.List.{AllByRecursion}
 use mathlib.Core.List.{IsPrefix}
 use mathlib.Core.Option.{some}
@@ -28,13 +28,13 @@ use Rattle.rate_limiter.specs.Passes.{LimiterView, PassView, IsNewPass}
 use Rattle.rate_limiter.specs.Named.{AreNamed}
 use Rattle.rate_limiter.specs.Values.{HasSight}
 use Rattle.rate_limiter.specs.Closing.{cells_of, IsOneLedger, AreSightsInIt}
-use Rattle.http_checks.specs.Checker.{Checker, checker}
+use Rattle.rate_limiter.proofs.Places.{below}
+use Rattle.http_checks.specs.Checker.{checker}
 use Rattle.http_checks.specs.Deeds.{Deed, Deeds}
 use Rattle.http_checks.specs.Versions.{charges_of, sights_of, ledger_of, sights_in, installed_by, installs, GoesBy, VersionsRise, all_deeds, AreLawfulDeeds, DeedsEach, HasClosedVersions}
 use Rattle.http_checks.proofs.Grown.{prefix_self, prefix_on, both, named_grows, named_append, sight_grows, weaker}
-use Rattle.http_checks.proofs.Ledger.{none_charged, none_owned, one_known}
+use Rattle.http_checks.proofs.Ledger.{none_charged, none_owned}
 use Rattle.http_checks.proofs.Replied.{prefix_get}
-use Rattle.rate_limiter.proofs.Places.{below}
 use Rattle.http_checks.proofs.OneVersion.{alone_of}
 use Rattle.http_checks.proofs.Owners.{owned_named}
 use Rattle.http_checks.proofs.Caused.{each_caused}
@@ -161,18 +161,21 @@ module _ (size : ℕ) (limiter : LimiterView) (start : ℕ) (claims : List Claim
   all_lawful : (config : List DomainTree) (before : List PassView) (deeds : List (List Deed))
       → AllByRecursion (IsNewPass config start) before → (after : List PassView) → AreLast after → DeedsEach size limiter before deeds after
       → (configs : List (List DomainTree)) × AreLawfulDeeds size limiter config start configs deeds
-  all_lawful config [] [] fresh [] l led = (config ∷ [], record {
-    first = refl;
-    few = omega arith;
-    once = λ n. record { early = λ h. refl; there = λ a b. absurd (omega arith); late = λ h. refl };
-    by_versions = tt;
-    versions_rise = tt;
-    moments_rise = tt;
-    sources = tt;
-    ledger = l.ledger [] tt;
-    sights = tt;
-    causes = tt;
-  })
+  all_lawful config [] [] fresh [] l led = (
+    config ∷ [],
+    record {
+      first = refl;
+      few = omega arith;
+      once = λ n. record { early = λ h. refl; there = λ a b. absurd (omega arith); late = λ h. refl };
+      by_versions = tt;
+      versions_rise = tt;
+      moments_rise = tt;
+      sources = tt;
+      ledger = l.ledger [] tt;
+      sights = tt;
+      causes = tt;
+    },
+  )
   all_lawful config (p ∷ ps) (xs ∷ deeds) fresh (q ∷ qs) l led =
       let before = p ∷ ps in
       let after = q ∷ qs in

@@ -1,10 +1,10 @@
 -- What a pass of a limiter does: it answers checks, and it puts new configurations in force.
-use Rattle.std.specs.Prelude.{◌≡◌, ℕ, List, [], ◌∷◌, Option, Result}
+use Rattle.std.specs.Prelude.{◌≡◌, ℕ, List, [], ◌∷◌, Result}
 use Rattle.descriptor_tree.specs.Trees.{DomainTree}
 use Rattle.rls_core.specs.declared.fault.ReloadFault.{ReloadFault}
 use Rattle.rate_limiter.specs.Passes.{PassView, KeepsAllButVersion}
 use Rattle.rate_limiter.specs.Versions.{Reloads}
-use Rattle.http_endpoint.specs.Answers.{Asked, IsOffered}
+use Rattle.http_endpoint.specs.Answers.{Asked}
 use Rattle.http_checks.specs.Checker.{Checker, ChecksBy}
 
 -- the version and the moment at which a pass is

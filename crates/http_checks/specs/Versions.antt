@@ -1,5 +1,5 @@
 -- By which configuration each check was answered, where new ones were put in force meanwhile, and what closing the limiter tells of it.
-use Rattle.std.specs.Prelude.{◌≡◌, ℕ, ◌-◌, ◌≤◌, ◌<◌, ◌==◌, List, [], ◌∷◌, length, map, All, Bool, Option, Result, Ok, Err, ⊤}
+use Rattle.std.specs.Prelude.{◌≡◌, ℕ, ◌-◌, ◌≤◌, ◌<◌, ◌==◌, List, [], ◌∷◌, length, map, All, Bool, Result, Ok, Err, ⊤}
 use Rattle.std.specs.List.{AllByRecursion, flat_map}
 use Rattle.rate_types.specs.Counters.{same_counter}
 use Rattle.rate_types.specs.Ledger.{Charge, Sight, IsLawfulLedger, IsLawfulSight}

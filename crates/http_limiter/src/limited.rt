@@ -99,14 +99,5 @@ where
 {
     let opened = OpenedCells::make(alloc, setup.cells, setup.workers, Seconds::capped(0))?;
     let config = shared(alloc, config)?;
-    serve_opened::<Brand, R, L>(
-        rt,
-        alloc,
-        seed,
-        config,
-        opened,
-        setup,
-        listen,
-        connections,
-    )
+    serve_opened::<Brand, R, L>(rt, alloc, seed, config, opened, setup, listen, connections)
 }

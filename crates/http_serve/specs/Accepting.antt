@@ -1,5 +1,5 @@
 -- Inside: links that were accepted and served, before they are given back.
-use Rattle.std.specs.Prelude.{◌≡◌, ℕ, ◌<◌, List, ◌++◌, length, Option, Bool, true, false}
+use Rattle.std.specs.Prelude.{◌≡◌, ℕ, ◌<◌, List, ◌++◌, length, Bool, true, false}
 use Rattle.rate_io.specs.Causes.{Rose}
 use Rattle.rate_io.specs.Listeners.{ListenEvent}
 use Rattle.http_endpoint.specs.Answers.{CheckStep, Asked}

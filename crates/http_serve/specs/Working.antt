@@ -1,5 +1,5 @@
 -- Inside: what a worker has served.
-use Rattle.std.specs.Prelude.{◌≡◌, ℕ, ◌+◌, List, [], ◌∷◌, ◌++◌, map, Option, true}
+use Rattle.std.specs.Prelude.{◌≡◌, ℕ, ◌+◌, List, [], ◌∷◌, ◌++◌, map, true}
 use Rattle.rate_types.specs.Sums.{total}
 use Rattle.link_handover.specs.Passes.{TakesFrom, taken_by, numbers_taken, is_end}
 use Rattle.link_handover.specs.declared.handover.Handover.{Handover}

@@ -75,7 +75,15 @@ fn served<R: Wait>(
     most: usize,
     failing: u64,
 ) -> Result<(String, LinkEnd), Fail> {
-    served_between(rt, alloc, bytes, most, failing, Seconds::capped(65), Seconds::capped(65))
+    served_between(
+        rt,
+        alloc,
+        bytes,
+        most,
+        failing,
+        Seconds::capped(65),
+        Seconds::capped(65),
+    )
 }
 
 // The same at a clock that goes on from one moment to another.
@@ -92,7 +100,9 @@ fn served_between<R: Wait>(
 {
     let bytes = Vec::from_slice(alloc, bytes.as_bytes())?;
     let failing = Vec::from_slice(alloc, &[failing])?;
-    let mut link = MemLink::new(alloc, bytes, failing).in_pieces(most.max(1)).in_time(first, last);
+    let mut link = MemLink::new(alloc, bytes, failing)
+        .in_pieces(most.max(1))
+        .in_time(first, last);
     let mut checks = TwoAMinute { before: 0 };
     let mut buffers = Buffers::make(alloc)?;
     let end = serve_link(rt, alloc, &mut checks, &mut link, &mut buffers);

@@ -1,11 +1,11 @@
 -- From what the parts of `serve` answer to what its exit says.
-use Rattle.std.proofs.Common.{◌≡◌, ℕ, zero, suc, ◌+◌, ◌≤◌, ◌<◌, ◌||◌, List, [], ◌∷◌, ◌++◌, length, take, replicate, Bool, true, false, Option, Some, inl, inr}
+use Rattle.std.proofs.Common.{◌≡◌, ℕ, zero, suc, ◌+◌, ◌≤◌, ◌<◌, ◌||◌, List, [], ◌∷◌, ◌++◌, length, take, replicate, Bool, true, false, Option, inl, inr}
 use Rattle.std.proofs.Common.{refl, sym, ap, ◌∙◌, subst, arith, append_assoc}
 use Rattle.std.specs.Prelude.{cond}
-use Rattle.std.specs.List.{concat, filter_map, count_by, list_any}
+use Rattle.std.specs.List.{concat}
 use Rattle.std.proofs.lemmas.List.{append-nil}
 use Rattle.std.proofs.lemmas.List.Elements.{filter_map-append}
-use Rattle.std.proofs.lemmas.List.Sums.{sum_by-append, sum_by-cons}
+use Rattle.std.proofs.lemmas.List.Sums.{sum_by-append}
 use Rattle.std.proofs.lemmas.List.Folds.{list_any-append}
 use Rattle.rate_io.specs.Causes.{Rose}
 use Rattle.rate_io.specs.Content.{Appends}
@@ -23,7 +23,7 @@ use Rattle.ratelimit_cli.specs.World.{World, all_written, WroteUpTo}
 use Rattle.ratelimit_cli.specs.Exits.{Explains, ExplainsCall}
 use Rattle.ratelimit_cli.specs.Served.{Listening, limiter_of, is_listen_failed, has_listen_failed, port_line, end_lines, port_line_written, HasBegun, ExplainsServe, PortWritten}
 use Rattle.ratelimit_cli.specs.Serving.{Found, world_of, EndsServing}
-use Rattle.ratelimit_cli.specs.Parts.{Sinks, Wrote, WroteFront, IsOfOutput}
+use Rattle.ratelimit_cli.specs.Parts.{Sinks, Wrote, IsOfOutput}
 use Rattle.command_words.specs.declared.command.ServeJob.{ServeJob}
 use Rattle.ratelimit_cli.specs.declared.exit.Exit.{Exit}
 use Rattle.ratelimit_cli.specs.declared.exit.Exit.TheVariants.{Done, Usage, ConfigRefused, TooLong, ReadFault, WriteFault, FileFault}

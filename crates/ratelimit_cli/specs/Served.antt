@@ -1,10 +1,10 @@
 -- What the exits of `serve` say.
-use Rattle.std.specs.Prelude.{◌≡◌, ℕ, ◌+◌, ◌<◌, ◌⊎◌, List, [], ◌∷◌, ◌++◌, length, Option, Some, Bool, true, false, Ok}
+use Rattle.std.specs.Prelude.{◌≡◌, ℕ, ◌+◌, ◌<◌, ◌⊎◌, List, [], ◌∷◌, ◌++◌, length, Bool, true, false, Ok}
 use Rattle.std.specs.List.{concat, list_any}
 use Rattle.rate_io.specs.Causes.{Rose}
 use Rattle.rate_io.specs.Content.{Appends}
 use Rattle.rate_io.specs.Events.{Event, Grew}
-use Rattle.rate_io.specs.Listeners.{ListenEvent, IsPortFor, bound, bind_failed, accepted, accept_failed, gave_back}
+use Rattle.rate_io.specs.Listeners.{ListenEvent, IsPortFor, bound, bind_failed, accepted, accept_failed}
 use Rattle.descriptor_tree.specs.Trees.{DomainTree}
 use Rattle.http_endpoint.specs.ServeLines.{listening_line, link_end_line}
 use Rattle.http_endpoint.specs.declared.link_end.LinkEnd.{LinkEnd}
@@ -13,7 +13,6 @@ use Rattle.http_serve.specs.Links.{ends_of}
 use Rattle.http_limiter.specs.Limited.{ServedByLimiter}
 use Rattle.http_limiter.specs.declared.limited.Setup.{Setup}
 use Rattle.ratelimit_cli.specs.Output.{AppendsFront, with_line_feed}
-use Rattle.command_words.specs.Words.{command_of}
 use Rattle.ratelimit_cli.specs.World.{World, NothingRead, NothingWritten, all_written, WroteUpTo}
 use Rattle.ratelimit_cli.specs.Configured.{FilesSay}
 use Rattle.command_words.specs.declared.command.Command.TheVariants.{Threads}

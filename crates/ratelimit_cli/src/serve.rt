@@ -135,15 +135,7 @@ where
         cells: job.cells,
         global_shadow: job.global_shadow,
     };
-    match serve_limited(
-        rt,
-        alloc,
-        seed,
-        config,
-        setup,
-        listen,
-        job.connections,
-    ) {
+    match serve_limited(rt, alloc, seed, config, setup, listen, job.connections) {
         Ok(ends) => write_ends(alloc, &ends, sink),
         Err(LinksFault::Listen) => Err(Exit::ListenFault),
         Err(LinksFault::OutOfMemory) => Err(Exit::OutOfMemory),

@@ -189,14 +189,7 @@ fn setup_of(
 
 // Does the command that the words name.
 #[tactic(auto, using(crate::proofs::Serving::plain_call, crate::proofs::Histories::stays))]
-fn run_command<
-    R: Threads + Wait + Sync,
-    F: Files,
-    S: Source,
-    K: Sink,
-    L: Listen,
-    G: Gate,
->(
+fn run_command<R: Threads + Wait + Sync, F: Files, S: Source, K: Sink, L: Listen, G: Gate>(
     rt: &R,
     alloc: Global,
     seed: RandomState,
@@ -289,14 +282,7 @@ where
 ///
 /// The order of work is: the words, the files in order, the first refusal of a file, the input, the numbers of lines, the
 /// run or the look-ups, the output. Each exit comes where its cause is the first.
-pub fn ratelimit<
-    R: Threads + Wait + Sync,
-    F: Files,
-    S: Source,
-    K: Sink,
-    L: Listen,
-    G: Gate,
->(
+pub fn ratelimit<R: Threads + Wait + Sync, F: Files, S: Source, K: Sink, L: Listen, G: Gate>(
     rt: &R,
     alloc: Global,
     seed: RandomState,
@@ -332,9 +318,7 @@ where
     ensures sink { Continues (K.history sink.old) (K.history sink.new) }
     ensures listen { Continues (L.history listen.old) (L.history listen.new) }
 {
-    match run_command(
-        rt, alloc, seed, words, files, source, sink, listen, gate,
-    ) {
+    match run_command(rt, alloc, seed, words, files, source, sink, listen, gate) {
         Ok(()) => Exit::Done,
         Err(exit) => exit,
     }

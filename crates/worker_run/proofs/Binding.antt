@@ -26,6 +26,8 @@ use Rattle.rls_core.specs.declared.status.Count.TheVariants.{NoCount, Before, Se
 use Rattle.rls_core.specs.declared.status.Status.{Status}
 use Rattle.rate_limiter.specs.Counts.{CountsOne, CountsEach}
 use Rattle.rate_limiter.specs.Passes.{LimiterView, PassView}
+use Rattle.rate_limiter.proofs.CounterLists.{count}
+use Rattle.rate_limiter.proofs.LawfulClaims.{first_claims}
 use Rattle.reply_text.specs.declared.record.Record.{Record}
 use Rattle.reply_text.specs.declared.record.Outcome.{Outcome}
 use Rattle.reply_text.specs.declared.record.Outcome.TheVariants as outcome
@@ -33,8 +35,6 @@ use Rattle.script_run.specs.ScriptLine.{ScriptLine, check, reload, tick, bad}
 use Rattle.script_run.specs.Named.{counters_bound}
 use Rattle.worker_run.specs.LineSteps.{LineStep}
 use Rattle.worker_run.specs.Journal.{Journal}
-use Rattle.rate_limiter.proofs.CounterLists.{count}
-use Rattle.rate_limiter.proofs.LawfulClaims.{first_claims}
 use Rattle.worker_run.proofs.Ledger.{journal_claims, prefix_on}
 use Rattle.worker_run.proofs.Owners.{record_bound}
 use Rattle.worker_run.proofs.Replying.{journal_versions}

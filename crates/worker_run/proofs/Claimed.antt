@@ -19,21 +19,21 @@ use Rattle.counter_directory.specs.Acquired.{Bounds}
 use Rattle.counter_directory.specs.declared.claim.Claim.{Claim}
 use Rattle.line_numbers.specs.Rising.{IsRising}
 use Rattle.rate_limiter.specs.Passes.{LimiterView, PassView}
+use Rattle.rate_limiter.proofs.CounterLists.{count}
+use Rattle.rate_limiter.proofs.OpenClaims.{keys_in, keys_count}
+use Rattle.rate_limiter.proofs.Places.{at_each, below, front_total, here, prefix_at, same_some, take_at}
 use Rattle.reply_text.specs.declared.record.Record.{Record}
 use Rattle.script_run.specs.ScriptLine.{ScriptLine}
 use Rattle.script_run.specs.Named.{all_tried, bound_by}
 use Rattle.worker_run.specs.Journal.{Journal}
 use Rattle.worker_run.specs.Work.{HaveRun}
-use Rattle.rate_limiter.proofs.CounterLists.{count}
 use Rattle.worker_run.proofs.Finding.{Found, found}
 use Rattle.worker_run.proofs.Ledger.{prefix_on, whole, journal_claims}
-use Rattle.rate_limiter.proofs.OpenClaims.{keys_in, keys_count}
 use Rattle.worker_run.proofs.Ordering.{index_at, step_at}
 use Rattle.worker_run.proofs.Owners.{IsMadeIn, own_made, own_before}
 use Rattle.worker_run.proofs.Replying.{journal_versions}
 use Rattle.worker_run.proofs.Splitting.{Placed}
 use Rattle.worker_run.proofs.NamedByLines.{bound_in, tried_in, bound_among, bound_total, tried_total, from_front}
-use Rattle.rate_limiter.proofs.Places.{at_each, below, front_total, here, prefix_at, same_some, take_at}
 
 -- in a journal the lines rise
 pub line_before : (rs : List Record) → IsRising (map (λ (r : Record). r.line - 1) rs) → (i j : ℕ) (e r : Record) → get_elem? rs i ≡ some e → get_elem? rs j ≡ some r → i < j

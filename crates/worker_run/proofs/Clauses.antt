@@ -6,6 +6,7 @@ use mathlib.Core.Option.{some, some-injective}
 use lib.ListN.{get_elem?}
 use Rattle.counter_directory.specs.Acquired.{Bounds}
 use Rattle.rate_limiter.specs.Passes.{LimiterView, PassView}
+use Rattle.rate_limiter.proofs.Places.{all_of_each, at_each, below, here, same_some, take_at, take_length, to_elem}
 use Rattle.reply_text.specs.declared.record.Record.{Record}
 use Rattle.reply_text.specs.declared.record.Outcome.{Outcome}
 use Rattle.reply_text.specs.declared.record.Outcome.TheVariants as outcome
@@ -17,7 +18,6 @@ use Rattle.worker_run.specs.LineSteps.{LineStep, IsRecordStep}
 use Rattle.worker_run.specs.Journal.{Journal}
 use Rattle.worker_run.specs.Work.{HaveRun}
 use Rattle.worker_run.specs.Clauses.{AreInOrder}
-use Rattle.rate_limiter.proofs.Places.{all_of_each, at_each, below, here, same_some, take_at, take_length, to_elem}
 use Rattle.worker_run.proofs.Ordering.{step_at, at_least, in_turn, earlier_line, versions_rise, moments_rise}
 
 kind_of : (b : Bounds) (limiter : LimiterView) (start : ℕ) (l : ScriptLine) (o : Outcome) (p q : PassView) → LineStep b limiter start l p o q → IsOfKind l o

@@ -36,6 +36,7 @@ use Rattle.rate_limiter.specs.Named.{claimed_as}
 use Rattle.rate_limiter.specs.Passes.{LimiterView, PassView}
 use Rattle.rate_limiter.specs.Values.{looks_at, HasValue, HasSight, HasSights}
 use Rattle.rate_limiter.proofs.Naming.{one_claim}
+use Rattle.rate_limiter.proofs.Places.{all_both, append_nil, at_each, none_some, of_elem, same_some, take_at, to_elem}
 use Rattle.reply_text.specs.Answer.{Answer}
 use Rattle.reply_text.specs.declared.record.Record.{Record}
 use Rattle.reply_text.specs.declared.record.Outcome.{Outcome}
@@ -45,7 +46,6 @@ use Rattle.script_run.specs.Values.{value_shown, values_of, values_shown, known_
 use Rattle.worker_run.specs.LineSteps.{LineStep}
 use Rattle.worker_run.specs.Journal.{Journal}
 use Rattle.worker_run.specs.Work.{HaveRun}
-use Rattle.rate_limiter.proofs.Places.{all_both, append_nil, at_each, none_some, of_elem, same_some, take_at, to_elem}
 use Rattle.worker_run.proofs.Clauses.{line_is}
 use Rattle.worker_run.proofs.Finding.{found as find, none_or_some}
 use Rattle.worker_run.proofs.Ledger.{prefix_self, prefix_same, prefix_on, claimed_grows, step_claims}

@@ -9,15 +9,15 @@ use Rattle.rate_types.proofs.Sums.{total_append}
 use Rattle.rate_types.specs.declared.counter_key.CounterKey.{CounterKey}
 use Rattle.rate_types.specs.declared.limits.TheConstants.{MOST_DESCRIPTORS}
 use Rattle.descriptor_tree.specs.Trees.{DomainTree}
+use Rattle.rate_limiter.proofs.RequestCounters.{named_few}
+use Rattle.rate_limiter.proofs.CounterLists.{count}
+use Rattle.rate_limiter.proofs.Places.{take_at}
 use Rattle.reply_text.specs.declared.record.Record.{Record}
 use Rattle.reply_text.specs.declared.record.Outcome.{Outcome}
 use Rattle.reply_text.specs.declared.record.Outcome.TheVariants as outcome
 use Rattle.script_run.specs.ScriptLine.{ScriptLine, check, reload, tick, bad}
 use Rattle.script_run.specs.Named.{counters_tried, counters_bound, all_tried, bound_by}
-use Rattle.rate_limiter.proofs.RequestCounters.{named_few}
-use Rattle.rate_limiter.proofs.CounterLists.{count}
 use Rattle.worker_run.proofs.Ledger.{IsFrom, from_next}
-use Rattle.rate_limiter.proofs.Places.{take_at}
 
 -- a counter that was given a cell is one that the check names
 pub bound_tried : (config : List DomainTree) (l : ScriptLine) (m : ℕ) (o : Outcome) (c : CounterKey) → count c (counters_bound config l m o) ≤ count c (counters_tried config l m)

@@ -16,6 +16,7 @@ use Rattle.config_versions.specs.PassState.{IsFirst}
 use Rattle.counter_directory.specs.Acquired.{Bounds}
 use Rattle.descriptor_tree.specs.Trees.{DomainTree}
 use Rattle.rate_limiter.specs.Passes.{LimiterView, PassView}
+use Rattle.rate_limiter.proofs.Places.{all_of_each, at_each, below, here, prefix_get, prefix_length, take_at, to_elem}
 use Rattle.reply_text.specs.declared.record.Record.{Record}
 use Rattle.reply_text.specs.declared.record.Outcome.{Outcome}
 use Rattle.reply_text.specs.declared.record.Outcome.TheVariants as outcome
@@ -25,7 +26,6 @@ use Rattle.script_run.specs.Versions.{is_installed, installs, installed_or, vers
 use Rattle.worker_run.specs.LineSteps.{LineStep}
 use Rattle.worker_run.specs.Journal.{Journal}
 use Rattle.worker_run.specs.Work.{HaveRun}
-use Rattle.rate_limiter.proofs.Places.{all_of_each, at_each, below, here, prefix_get, prefix_length, take_at, to_elem}
 use Rattle.worker_run.proofs.Clauses.{line_is}
 use Rattle.worker_run.proofs.Ordering.{versions_rise}
 use Rattle.worker_run.proofs.Ledger.{prefix_self, prefix_on, sum_total}

@@ -11,6 +11,7 @@ use Rattle.rate_types.proofs.Sums.{total_none, total_push}
 use Rattle.rate_types.specs.declared.limits.TheConstants.{MOST_VERSIONS}
 use Rattle.descriptor_tree.specs.Trees.{DomainTree}
 use Rattle.told_list.specs.Lists.{IsOwnedOnce}
+use Rattle.rate_limiter.proofs.Places.{all_of_each, at_each, below, front_at, here, of_elem, take_at, take_next, to_elem}
 use Rattle.reply_text.specs.declared.record.Record.{Record}
 use Rattle.reply_text.specs.declared.record.Outcome.{Outcome}
 use Rattle.reply_text.specs.declared.record.Outcome.TheVariants as outcome
@@ -22,7 +23,6 @@ use Rattle.script_run.specs.Moments.{tick_of, moment_after, offer_of, offers, Is
 use Rattle.script_run.specs.Charges.{ledger_of, ChargesFormLedger, SightsLawful}
 use Rattle.script_run.specs.Replies.{RepliesByRule}
 use Rattle.script_run.specs.Values.{ValuesNeverFall}
-use Rattle.rate_limiter.proofs.Places.{all_of_each, at_each, below, front_at, here, of_elem, take_at, take_next, to_elem}
 use Rattle.worker_run.proofs.Counting.{IsFullAt, installed_as, owned_below}
 use Rattle.worker_run.proofs.InTurn.{IsCountedInTurn, CountedWithOneWorker}
 use Rattle.worker_run.proofs.Finding.{none_or_some}

@@ -13,6 +13,8 @@ use Rattle.counter_directory.specs.Acquired.{Bounds}
 use Rattle.counter_directory.specs.declared.claim.Claim.{Claim}
 use Rattle.rls_core.specs.Reply.{counters_named}
 use Rattle.rate_limiter.specs.Passes.{LimiterView, PassView}
+use Rattle.rate_limiter.proofs.CounterLists.{count}
+use Rattle.rate_limiter.proofs.Places.{back_at, here, prefix_at, prefix_get, prefix_length, times_either, times_from}
 use Rattle.reply_text.specs.declared.record.Record.{Record}
 use Rattle.reply_text.specs.declared.record.Outcome.{Outcome}
 use Rattle.reply_text.specs.declared.record.Outcome.TheVariants as outcome
@@ -20,11 +22,9 @@ use Rattle.script_run.specs.ScriptLine.{ScriptLine, check, reload, tick, bad}
 use Rattle.script_run.specs.Named.{counters_bound}
 use Rattle.worker_run.specs.LineSteps.{LineStep, IsRecordStep}
 use Rattle.worker_run.specs.Journal.{Journal}
-use Rattle.rate_limiter.proofs.CounterLists.{count}
 use Rattle.worker_run.proofs.Ledger.{prefix_on, step_claims, journal_claims}
 use Rattle.worker_run.proofs.Replying.{journal_versions}
 use Rattle.worker_run.proofs.NamedByLines.{found_bound, bound_in}
-use Rattle.rate_limiter.proofs.Places.{back_at, here, prefix_at, prefix_get, prefix_length, times_either, times_from}
 
 -- ---- one step
 

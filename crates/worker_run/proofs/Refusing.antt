@@ -22,6 +22,12 @@ use Rattle.counter_directory.specs.declared.claim.Claim.{Claim}
 use Rattle.rls_core.specs.Reply.{counters_named}
 use Rattle.rate_limiter.specs.Passes.{LimiterView, PassView}
 use Rattle.rate_limiter.specs.Refusals.{AreClaimsSpent, AreCountersFull}
+use Rattle.rate_limiter.proofs.RequestCounters.{named_open}
+use Rattle.rate_limiter.proofs.CounterLists.{count, Differ, among_from_count, no_longer, inside}
+use Rattle.rate_limiter.proofs.LawfulClaims.{keys_differ, first_lawful}
+use Rattle.rate_limiter.proofs.OpenClaims.{keys_in, live_few}
+use Rattle.rate_limiter.proofs.WantedCounters.{missing_differ, missing_is, together_differ, together_count, some_open, open_long, open_is, open_differ}
+use Rattle.rate_limiter.proofs.Places.{all_of_each, at_each, below, here, of_elem, to_elem}
 use Rattle.reply_text.specs.declared.record.Record.{Record}
 use Rattle.reply_text.specs.declared.record.Outcome.{Outcome}
 use Rattle.reply_text.specs.declared.record.Outcome.TheVariants as outcome
@@ -32,17 +38,11 @@ use Rattle.script_run.specs.Versions.{installs, VersionsNumbered}
 use Rattle.worker_run.specs.LineSteps.{LineStep}
 use Rattle.worker_run.specs.Work.{HaveRun}
 use Rattle.worker_run.proofs.Claimed.{to_claims, to_versions, line_there, line_is, given, given_named}
-use Rattle.rate_limiter.proofs.RequestCounters.{named_open}
-use Rattle.rate_limiter.proofs.CounterLists.{count, Differ, among_from_count, no_longer, inside}
-use Rattle.rate_limiter.proofs.LawfulClaims.{keys_differ, first_lawful}
 use Rattle.worker_run.proofs.Ledger.{whole}
-use Rattle.rate_limiter.proofs.OpenClaims.{keys_in, live_few}
 use Rattle.worker_run.proofs.Owners.{record_named}
 use Rattle.worker_run.proofs.NamedByLines.{HasFew, all_few, tried_in, found_tried, tried_total}
 use Rattle.worker_run.proofs.Splitting.{Placed, placed}
 use Rattle.worker_run.proofs.DifferentCounters.{there_are}
-use Rattle.rate_limiter.proofs.WantedCounters.{missing_differ, missing_is, together_differ, together_count, some_open, open_long, open_is, open_differ}
-use Rattle.rate_limiter.proofs.Places.{all_of_each, at_each, below, here, of_elem, to_elem}
 
 -- each check of a run has no more descriptors than a request may have
 step_few : (b : Bounds) (limiter : LimiterView) (start : ℕ) (l : ScriptLine) (o : Outcome) (p q : PassView) → LineStep b limiter start l p o q → HasFew l

@@ -9,6 +9,7 @@ use Rattle.counter_directory.specs.Acquired.{Bounds}
 use Rattle.descriptor_tree.specs.Trees.{DomainTree}
 use Rattle.rls_core.specs.Reply.{IsReplyOf}
 use Rattle.rate_limiter.specs.Passes.{LimiterView, PassView}
+use Rattle.rate_limiter.proofs.Places.{at_each, below, here, prefix_get, same_some, to_elem}
 use Rattle.reply_text.specs.Answer.{Answer}
 use Rattle.reply_text.specs.declared.record.Record.{Record}
 use Rattle.reply_text.specs.declared.record.Outcome.{Outcome}
@@ -18,7 +19,6 @@ use Rattle.script_run.specs.Replies.{IsByRule, RepliesByRule}
 use Rattle.worker_run.specs.LineSteps.{LineStep}
 use Rattle.worker_run.specs.Journal.{Journal}
 use Rattle.worker_run.specs.Work.{HaveRun}
-use Rattle.rate_limiter.proofs.Places.{at_each, below, here, prefix_get, same_some, to_elem}
 use Rattle.worker_run.proofs.Ledger.{prefix_same, prefix_on, prefix_added}
 
 -- a configuration that is there, else an empty one

@@ -21,6 +21,12 @@ use Rattle.rls_core.specs.Reply.{counters_named}
 use Rattle.rls_core.specs.Sequential.{IsNumberOf, Wants, HasRoom, LacksRoom}
 use Rattle.rate_limiter.specs.Passes.{LimiterView, PassView}
 use Rattle.rate_limiter.specs.Refusals.{AreCountersFull}
+use Rattle.rate_limiter.proofs.RequestCounters.{named_open}
+use Rattle.rate_limiter.proofs.CounterLists.{count, among, among_from_count, count_from_among, filter_count}
+use Rattle.rate_limiter.proofs.LawfulClaims.{first_claims, first_lawful, keys_differ}
+use Rattle.rate_limiter.proofs.OpenClaims.{keys_in, keys_count, open_in, live_all, live_most}
+use Rattle.rate_limiter.proofs.WantedCounters.{missing_differ, missing_is}
+use Rattle.rate_limiter.proofs.Places.{below, in_either, prefix_at, to_elem}
 use Rattle.reply_text.specs.declared.record.Record.{Record}
 use Rattle.reply_text.specs.declared.record.Outcome.{Outcome}
 use Rattle.reply_text.specs.declared.record.Outcome.TheVariants as outcome
@@ -32,20 +38,14 @@ use Rattle.worker_run.specs.LineSteps.{LineStep}
 use Rattle.worker_run.specs.Work.{HaveRun}
 use Rattle.worker_run.proofs.Binding.{step_claimed, journal_claimed}
 use Rattle.worker_run.proofs.Claimed.{IsBinder, binder, early_binder, any_worker, owner, made_in, to_claims, to_versions, from_versions, line_is, given}
-use Rattle.rate_limiter.proofs.RequestCounters.{named_open}
-use Rattle.rate_limiter.proofs.CounterLists.{count, among, among_from_count, count_from_among, filter_count}
 use Rattle.worker_run.proofs.Journals.{journal_push}
 use Rattle.worker_run.proofs.KeyOrder.{in_order}
 use Rattle.worker_run.proofs.InTurn.{HasRoomInTurn}
-use Rattle.rate_limiter.proofs.LawfulClaims.{first_claims, first_lawful, keys_differ}
 use Rattle.worker_run.proofs.Ledger.{journal_claims}
-use Rattle.rate_limiter.proofs.OpenClaims.{keys_in, keys_count, open_in, live_all, live_most}
 use Rattle.worker_run.proofs.Numbers.{number_of, number_in, among_filter, numbers_fit}
 use Rattle.worker_run.proofs.Ordering.{in_turn, moments_rise}
 use Rattle.worker_run.proofs.Owners.{own_before, record_named}
 use Rattle.worker_run.proofs.Splitting.{Placed, placed, earlier_split}
-use Rattle.rate_limiter.proofs.WantedCounters.{missing_differ, missing_is}
-use Rattle.rate_limiter.proofs.Places.{below, in_either, prefix_at, to_elem}
 
 same_test : (s t : Bool) → (s ≡ true → t ≡ true) → (t ≡ true → s ≡ true) → s ≡ t
 same_test true t f g = sym (f refl)

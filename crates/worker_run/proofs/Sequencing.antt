@@ -22,6 +22,7 @@ use Rattle.rls_core.specs.Sequential.{count_for, charged_under, AreSequential}
 use Rattle.rls_core.specs.declared.status.Count.{Count}
 use Rattle.rls_core.specs.declared.status.Count.TheVariants.{NoCount, Before, Seen}
 use Rattle.rls_core.specs.declared.status.Status.{Status}
+use Rattle.rate_limiter.proofs.Places.{all_back, all_front, append_nil, below, take_front, take_length, to_elem}
 use Rattle.reply_text.specs.declared.record.Record.{Record}
 use Rattle.reply_text.specs.declared.record.Outcome.{Outcome}
 use Rattle.reply_text.specs.declared.record.Outcome.TheVariants as outcome
@@ -29,7 +30,6 @@ use Rattle.script_run.specs.ScriptLine.{ScriptLine, check, reload, tick, bad}
 use Rattle.script_run.specs.Charges.{charges_shown, ledger_of, sights_shown, sights_of, charged_in, ChargesFormLedger, SightsLawful}
 use Rattle.script_run.specs.Replies.{IsByRule, RepliesByRule}
 use Rattle.script_run.specs.Values.{value_shown, values_of, values_shown, known_by, IsFairStatus, AreFair, IsFairLine, ValuesNeverFall}
-use Rattle.rate_limiter.proofs.Places.{all_back, all_front, append_nil, below, take_front, take_length, to_elem}
 use Rattle.worker_run.proofs.Fairness.{limit_of, Allows, status_allows}
 use Rattle.worker_run.proofs.Turns.{Event, event, charges, sights, values, Fair, Turns, turns, charged_more}
 

@@ -18,6 +18,7 @@ use Rattle.counter_directory.specs.declared.claim.Claim.{Claim}
 use Rattle.rate_limiter.specs.Passes.{LimiterView, PassView}
 use Rattle.rate_limiter.specs.Values.{HasValue, HasSight}
 use Rattle.rate_limiter.specs.Closing.{AreSightsInIt}
+use Rattle.rate_limiter.proofs.Places.{at_each, below, here}
 use Rattle.reply_text.specs.Answer.{Answer}
 use Rattle.reply_text.specs.declared.record.Record.{Record}
 use Rattle.reply_text.specs.declared.record.Outcome.{Outcome}
@@ -27,7 +28,6 @@ use Rattle.script_run.specs.Charges.{sights_shown, sights_of, ledger_of, SightsL
 use Rattle.worker_run.specs.LineSteps.{LineStep}
 use Rattle.worker_run.specs.Journal.{Journal}
 use Rattle.worker_run.specs.Work.{HaveRun}
-use Rattle.rate_limiter.proofs.Places.{at_each, below, here}
 use Rattle.worker_run.proofs.Gathering.{index_all}
 use Rattle.worker_run.proofs.Ledger.{prefix_self, prefix_same, prefix_on, claimed_grows, charges_all, step_claims, step_charges, all_named, same_sum, IsFrom, from_next, whole}
 

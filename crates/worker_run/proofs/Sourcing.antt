@@ -14,6 +14,7 @@ use Rattle.counter_cells.specs.declared.view.Tick.{Tick}
 use Rattle.counter_directory.specs.Acquired.{Bounds}
 use Rattle.rate_limiter.specs.Passes.{LimiterView, PassView}
 use Rattle.rate_limiter.specs.PassStep.{HasOffered}
+use Rattle.rate_limiter.proofs.Places.{append_nil, at_each, in_either}
 use Rattle.reply_text.specs.declared.record.Record.{Record}
 use Rattle.reply_text.specs.declared.record.Outcome.{Outcome}
 use Rattle.reply_text.specs.declared.record.Outcome.TheVariants as outcome
@@ -21,7 +22,6 @@ use Rattle.script_run.specs.ScriptLine.{ScriptLine, check, reload, tick, bad}
 use Rattle.script_run.specs.Moments.{offer_of}
 use Rattle.worker_run.specs.LineSteps.{LineStep}
 use Rattle.worker_run.specs.Journal.{Journal}
-use Rattle.rate_limiter.proofs.Places.{append_nil, at_each, in_either}
 use Rattle.worker_run.proofs.Ledger.{prefix_self, prefix_on}
 
 -- a tick offers the start, or the number of the line, or nothing

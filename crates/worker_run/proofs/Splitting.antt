@@ -5,13 +5,13 @@ use native.Mathlib.Decide.{dec_le}
 use lib.ListN.{get_elem?}
 use Rattle.counter_directory.specs.Acquired.{Bounds}
 use Rattle.rate_limiter.specs.Passes.{LimiterView, PassView}
+use Rattle.rate_limiter.proofs.Places.{below, here}
 use Rattle.reply_text.specs.declared.record.Record.{Record}
 use Rattle.reply_text.specs.declared.record.Outcome.{Outcome}
 use Rattle.script_run.specs.ScriptLine.{ScriptLine}
 use Rattle.worker_run.specs.LineSteps.{LineStep, IsRecordStep}
 use Rattle.worker_run.specs.Journal.{Journal}
 use Rattle.worker_run.specs.Work.{HaveRun}
-use Rattle.rate_limiter.proofs.Places.{below, here}
 use Rattle.worker_run.proofs.Ordering.{earlier_line}
 
 -- a journal split at its record with this place

@@ -19,13 +19,13 @@ use Rattle.counter_cells.specs.declared.view.Tick.{Tick}
 use Rattle.counter_directory.specs.Acquired.{Bounds}
 use Rattle.rate_limiter.specs.Closing.{cells_of}
 use Rattle.rate_limiter.specs.Passes.{LimiterView, PassView}
+use Rattle.rate_limiter.proofs.Places.{append_at, at_each, at_map, below, front_at, here, in_either, of_elem, of_map, take_at, take_front, take_next, to_elem}
 use Rattle.reply_text.specs.declared.record.Record.{Record}
 use Rattle.script_run.specs.ScriptLine.{ScriptLine, check, reload, tick, bad}
 use Rattle.script_run.specs.Moments.{tick_of, moment_after, offer_of, offers, MomentsNeverFall}
 use Rattle.worker_run.specs.Clauses.{AreInOrder}
 use Rattle.worker_run.specs.Journal.{Journal}
 use Rattle.worker_run.specs.Work.{HaveRun}
-use Rattle.rate_limiter.proofs.Places.{append_at, at_each, at_map, below, front_at, here, in_either, of_elem, of_map, take_at, take_front, take_next, to_elem}
 use Rattle.worker_run.proofs.Clauses.{line_is, tick_least}
 use Rattle.worker_run.proofs.Finding.{Found, found}
 use Rattle.worker_run.proofs.Journals.{journal_push}

@@ -12,9 +12,9 @@ use Rattle.window_keys.proofs.Counters.{same_is, same_itself}
 use Rattle.rls_core.specs.Sequential.{count_under}
 use Rattle.rls_core.specs.declared.status.Count.{Count}
 use Rattle.rls_core.specs.declared.status.Count.TheVariants.{NoCount, Before, Seen}
+use Rattle.rate_limiter.proofs.Places.{all_back, all_front, all_weaker}
 use Rattle.script_run.specs.Charges.{charged_in}
 use Rattle.script_run.specs.Values.{KnownAtMost}
-use Rattle.rate_limiter.proofs.Places.{all_back, all_front, all_weaker}
 use Rattle.worker_run.proofs.Ledger.{sum_total}
 
 -- what a status shows of a counter under a limit with its hits

@@ -78,7 +78,11 @@ fn links_of(alloc: Global, peers: &[&str]) -> Result<Vec<MemLink>, Fail> {
     let mut links = Vec::new(alloc);
     for peer in peers {
         let bytes = Vec::from_slice(alloc, peer.as_bytes())?;
-        links.push(MemLink::new(alloc, bytes, Vec::new(alloc)).in_pieces(20).in_time(now, now))?;
+        links.push(
+            MemLink::new(alloc, bytes, Vec::new(alloc))
+                .in_pieces(20)
+                .in_time(now, now),
+        )?;
     }
     Ok(links)
 }

@@ -25,6 +25,8 @@ returns-in-NoBody g c =
     let a = g.L.Link.state c.args.link.now in
     let b = g.L.Link.state c.read_head.new.link in
     let e = g.L.Link.state c.rest_front.new.link in
-    let finds = subst (λ (ys : List ℕ). Finds ys c.rest_front.new.inbox b e y.0 c.rest_front.result) bytes y.2 in
-    (x.0 ++ y.0, drew_more c.args.inbox.now c.read_head.new.inbox a b e x.0 y.0 x.2 x.1 y.1,
-      finds_later (c.args.inbox.now ++ given (x.0 ++ y.0)) c.rest_front.new.inbox c.args.inbox.now a b e x.0 y.0 c.rest_front.result x.1 finds)
+    let finds = subst (λ (ys : List ℕ). Finds ys c.rest_front.new.inbox b e y.0 c.rest_front.result) bytes y.2 in (
+      x.0 ++ y.0,
+      drew_more c.args.inbox.now c.read_head.new.inbox a b e x.0 y.0 x.2 x.1 y.1,
+      finds_later (c.args.inbox.now ++ given (x.0 ++ y.0)) c.rest_front.new.inbox c.args.inbox.now a b e x.0 y.0 c.rest_front.result x.1 finds,
+    )

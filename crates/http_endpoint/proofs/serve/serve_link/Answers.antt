@@ -3,7 +3,6 @@ use Rattle.rate_io.specs.Events.{given}
 use Rattle.http_endpoint.specs.Answers.{turn_bytes}
 use Rattle.http_endpoint.specs.Steps.{Goes, printed_bytes}
 use Rattle.http_endpoint.specs.declared.link_end.LinkCause.TheVariants as cause
-use Rattle.http_endpoint.proofs.ToldLaws.{all_tell}
 use Rattle.http_endpoint.proofs.TurnLemmas.{still_few}
 use Rattle.http_endpoint.proofs.LinkLemmas.{goes_first, grown, serves_ended, serves_cut, serves_read_fault, serves_failed, serves_closed, goes_on, next_of}
 use Rattle.http_endpoint.proofs.LinkLemmas.{serves_at, answered}
