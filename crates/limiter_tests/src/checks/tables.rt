@@ -118,6 +118,25 @@ fn give<N: CellNaming>(
     Ok(())
 }
 
+// Plays a table with two of the passes, and gives them back.
+fn play_passes<N: CellNaming, R: Abort + Wait>(
+    rt: &R,
+    alloc: Global,
+    limiter: &Limiter<N>,
+    passes: &mut Vec<Pass<N>>,
+    table: &str,
+) -> Result<(), Fail>
+    requires passes { All (λ p. p.limiter ≡ limiter.now.id) passes.old.items }
+    ensures passes { OnOk result (All (λ p. p.limiter ≡ limiter.now.id) passes.new.items) }
+    ensures count { OnOk result (vec_len passes.new ≡ vec_len passes.old) }
+{
+    let mut other = take(limiter, passes)?;
+    let mut one = take(limiter, passes)?;
+    play(rt, alloc, limiter, &mut one, &mut other, table)?;
+    give(limiter, passes, one)?;
+    give(limiter, passes, other)
+}
+
 // Plays a table, and closes the limiter. The table is a `String`, since a call that picks the name of the cells takes no `&str`.
 fn played<N: CellNaming, R: Abort + RandomSource + Wait>(
     rt: &R,
@@ -131,11 +150,7 @@ fn played<N: CellNaming, R: Abort + RandomSource + Wait>(
     requires claims_max { (1 ≤ setup.claims_max) × (setup.claims_max ≤ MOST_CLAIM_NUMBERS) }
 {
     let (limiter, mut passes) = open::<N, _>(rt, alloc, opened, setup)?;
-    let mut other = take(&limiter, &mut passes)?;
-    let mut one = take(&limiter, &mut passes)?;
-    play(rt, alloc, &limiter, &mut one, &mut other, table)?;
-    give(&limiter, &mut passes, one)?;
-    give(&limiter, &mut passes, other)?;
+    play_passes(rt, alloc, &limiter, &mut passes, table)?;
     Ok(limiter.close(alloc, passes)?)
 }
 
