@@ -20,7 +20,6 @@ use Rattle.http_endpoint.specs.Answers.{Asked}
 use Rattle.http_checks.specs.Deeds.{At, Deed, checked, reloaded}
 use Rattle.http_checks.specs.Named.{IsNamed, AreDifferent}
 use Rattle.http_checks.specs.Causes.{IsCause, HasCause}
-use Rattle.http_checks.specs.Versions.{all_deeds, AreLawfulDeeds}
 use Rattle.http_checks.specs.Room.{counters_by, counters_of, all_counters, HadRoom, HadRoomFor}
 
 module _ (configs : List (List DomainTree)) where
@@ -71,7 +70,7 @@ module _ (configs : List (List DomainTree)) where
   each_had_room cells limiter all enough (reloaded config result ∷ deeds) h = (tt, each_had_room cells limiter all enough deeds h.1)
 
 -- with cells enough nobody is refused for want of room
-pub all_had_room : (cells : ℕ) (limiter : LimiterView) (config : List DomainTree) (start : ℕ) (configs : List (List DomainTree)) (deeds : List (List Deed))
-    → AreLawfulDeeds cells limiter config start configs deeds → MOST_PINS * (limiter.passes - 1) + length (all_counters configs (all_deeds deeds)) ≤ cells
-    → AllByRecursion HadRoomFor (all_deeds deeds)
-all_had_room cells limiter config start configs deeds h enough = each_had_room configs cells limiter (all_deeds deeds) enough (all_deeds deeds) h.causes
+pub all_had_room : (cells : ℕ) (limiter : LimiterView) (configs : List (List DomainTree)) (deeds : List Deed)
+    → AllByRecursion (HasCause cells limiter configs deeds) deeds → MOST_PINS * (limiter.passes - 1) + length (all_counters configs deeds) ≤ cells
+    → AllByRecursion HadRoomFor deeds
+all_had_room cells limiter configs deeds causes enough = each_had_room configs cells limiter deeds enough deeds causes

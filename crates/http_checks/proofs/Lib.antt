@@ -4,8 +4,8 @@ pub mod Replied
 pub mod Ledger
 pub mod Deeds
 pub mod Versions
+pub mod Enough
 pub mod OneVersion
 pub mod Owners
 pub mod Caused
 pub mod Timed
-pub mod Enough

@@ -29,6 +29,7 @@ use Rattle.rate_limiter.specs.Named.{AreNamed}
 use Rattle.rate_limiter.specs.Values.{HasSight}
 use Rattle.rate_limiter.specs.Closing.{cells_of, IsOneLedger, AreSightsInIt}
 use Rattle.rate_limiter.proofs.Places.{below}
+use Rattle.script_run.proofs.Admits.{limit_holds}
 use Rattle.http_checks.specs.Checker.{checker}
 use Rattle.http_checks.specs.Deeds.{Deed, Deeds}
 use Rattle.http_checks.specs.Versions.{charges_of, sights_of, ledger_of, sights_in, installed_by, installs, GoesBy, VersionsRise, all_deeds, AreLawfulDeeds, DeedsEach, HasClosedVersions}
@@ -38,6 +39,7 @@ use Rattle.http_checks.proofs.Replied.{prefix_get}
 use Rattle.http_checks.proofs.OneVersion.{alone_of}
 use Rattle.http_checks.proofs.Owners.{owned_named}
 use Rattle.http_checks.proofs.Caused.{each_caused}
+use Rattle.http_checks.proofs.Enough.{all_had_room}
 use Rattle.http_checks.proofs.Timed.{each_later, have_sources}
 use Rattle.http_checks.proofs.Deeds.{Did, all_did, all_by, all_rise, all_few}
 
@@ -172,8 +174,10 @@ module _ (size : ℕ) (limiter : LimiterView) (start : ℕ) (claims : List Claim
       moments_rise = tt;
       sources = tt;
       ledger = l.ledger [] tt;
+      limits_hold = λ c limit. limit_holds c limit [] (l.ledger [] tt);
       sights = tt;
       causes = tt;
+      room = λ enough. tt;
     },
   )
   all_lawful config (p ∷ ps) (xs ∷ deeds) fresh (q ∷ qs) l led =
@@ -186,7 +190,9 @@ module _ (size : ℕ) (limiter : LimiterView) (start : ℕ) (claims : List Claim
       let few = at_most (length versions) (λ n. installs n (all_deeds all)) (none_past size limiter before all after led) (once MOST_VERSIONS) in
       let claimed = λ (n : ℕ) (x : Claim) (e : get_elem? claims n ≡ some x).
       owned_named size limiter versions claims n x e before all after led (none_claimed config start before fresh) l.versions_known l.claims_known
-      (let o = (l.claims_owned n).there (omega arith) (below claims n x e) in omega arith) in (
+      (let o = (l.claims_owned n).there (omega arith) (below claims n x e) in omega arith) in
+      let causes = each_caused size versions claims limiter.claims_max claims_lawful (all_deeds all) claimed limiter before all after led l.versions_known
+      l.claims_known (λ i d e. (i, e)) in (
         versions,
         record {
           first = first_is size limiter config versions p xs q led.0 fresh.0.version.known l.versions_known.0;
@@ -197,10 +203,11 @@ module _ (size : ℕ) (limiter : LimiterView) (start : ℕ) (claims : List Claim
           moments_rise = each_later size limiter start before all after led (at_start config start before fresh);
           sources = have_sources size limiter start moment before all after led (none_ticked config start before fresh) l.ticks;
           ledger = l.ledger (ledger_of (all_deeds all)) named;
+          limits_hold = λ c limit. limit_holds c limit (ledger_of (all_deeds all)) (l.ledger (ledger_of (all_deeds all)) named);
           sights = all_seen size limiter claims (IsLawfulSight same_counter (ledger_of (all_deeds all))) before all after led l.claims_known
               (l.sights (ledger_of (all_deeds all)) named);
-          causes = each_caused size versions claims limiter.claims_max claims_lawful (all_deeds all) claimed limiter before all after led l.versions_known
-              l.claims_known (λ i d e. (i, e));
+          causes = causes;
+          room = all_had_room size limiter versions (all_deeds all) causes;
         },
       )
   all_lawful config before deeds fresh after l led = absurd led

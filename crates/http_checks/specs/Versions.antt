@@ -1,12 +1,12 @@
 -- By which configuration each check was answered, where new ones were put in force meanwhile, and what closing the limiter tells of it.
-use Rattle.std.specs.Prelude.{◌≡◌, ℕ, ◌-◌, ◌≤◌, ◌<◌, ◌==◌, List, [], ◌∷◌, length, map, All, Bool, Result, Ok, Err, ⊤}
+use Rattle.std.specs.Prelude.{◌≡◌, ℕ, ◌+◌, ◌-◌, ◌*◌, ◌≤◌, ◌<◌, ◌==◌, List, [], ◌∷◌, length, map, All, Bool, Result, Ok, Err, ⊤}
 use Rattle.std.specs.List.{AllByRecursion, flat_map}
 use Rattle.rate_types.specs.Counters.{same_counter}
-use Rattle.rate_types.specs.Ledger.{Charge, Sight, IsLawfulLedger, IsLawfulSight}
+use Rattle.rate_types.specs.Ledger.{Charge, Sight, admitted_in, IsLawfulLedger, IsLawfulSight}
 use Rattle.rate_types.specs.Requests.{RequestParts}
 use Rattle.rate_types.specs.Sums.{total, one_if}
 use Rattle.rate_types.specs.declared.counter_key.CounterKey.{CounterKey}
-use Rattle.rate_types.specs.declared.limits.TheConstants.{MOST_VERSIONS}
+use Rattle.rate_types.specs.declared.limits.TheConstants.{MOST_PINS, MOST_VERSIONS}
 use Rattle.descriptor_tree.specs.Trees.{DomainTree}
 use Rattle.told_list.specs.Lists.{IsOwnedOnce}
 use Rattle.config_versions.specs.PassState.{IsVersion}
@@ -23,6 +23,7 @@ use Rattle.http_checks.specs.Ledger.{charges_shown, sights_shown, LeadEach}
 use Rattle.http_checks.specs.Deeds.{At, Deed, checked, reloaded, Deeds}
 use Rattle.http_checks.specs.Causes.{HasCause}
 use Rattle.http_checks.specs.Moments.{MomentsRise, HasSource}
+use Rattle.http_checks.specs.Room.{all_counters, HadRoomFor}
 
 -- the charges that a deed shows; a reload has none
 abbrev pub charges_of : Deed → List (Charge CounterKey)
@@ -118,7 +119,8 @@ module _ (cells : ℕ) (limiter : LimiterView) where
   -- The deeds of the passes of one limiter, which had so many cells, of which these are all versions. Version 0 is the configuration that it
   -- was made with, and each other one was put in force by one reload, as what was handed to it. Each reply is that of the one version that
   -- it shows; along one pass versions never fall. Nor do moments: each is the start, or was offered. The charges of all replies are one
-  -- lawful ledger, and what they saw are lawful sights in it. Each refused check has its cause.
+  -- lawful ledger, in which no limit admits more than itself, and what they saw are lawful sights in it. Each refused check has its cause;
+  -- where there are cells for all counters that the checks name, none is refused for want of cells.
   pub record AreLawfulDeeds (config : List DomainTree) (start : ℕ) (configs : List (List DomainTree)) (deeds : List (List Deed)) : Type 0 where
     pub first : IsVersion configs 0 config
     pub few : length configs ≤ MOST_VERSIONS
@@ -128,8 +130,11 @@ module _ (cells : ℕ) (limiter : LimiterView) where
     pub moments_rise : AllByRecursion (MomentsRise start) deeds
     pub sources : AllByRecursion (HasSource start (all_deeds deeds)) (all_deeds deeds)
     pub ledger : IsLawfulLedger same_counter (ledger_of (all_deeds deeds))
+    pub limits_hold : (c : CounterKey) (limit : ℕ) → admitted_in same_counter c limit (ledger_of (all_deeds deeds)) ≤ limit
     pub sights : AllByRecursion (IsLawfulSight same_counter (ledger_of (all_deeds deeds))) (sights_in (all_deeds deeds))
     pub causes : AllByRecursion (HasCause cells limiter configs (all_deeds deeds)) (all_deeds deeds)
+    pub room : MOST_PINS * (limiter.passes - 1) + length (all_counters configs (all_deeds deeds)) ≤ cells
+        → AllByRecursion HadRoomFor (all_deeds deeds)
 
   -- These checks, pass by pass, with where each left its pass, are lawful where the limiter had this configuration all the time.
   pub record AreLawfulAlone (config : List DomainTree) (start : ℕ) (asked : List (List Asked)) : Type 0 where

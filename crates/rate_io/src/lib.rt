@@ -2,12 +2,13 @@
 //! a listener for links, and the clock.
 //!
 //! Each object keeps a history of its calls (`specs/Events.antt`), which takes no memory: what each read handed out or that it
-//! answered the end, which pieces were written, which files were asked for with the reads of their content. The real ones keep
+//! answered the end, which pieces were written, which moments a clock told, which files were asked for with the reads of their
+//! content. A link tells moments too, so that its reads, moments and writes stand in one order. The real ones keep
 //! it as those in memory do, so what is proved of a history is proved of the real program. Each has a count of faults
 //! besides that never falls, and a call answers `Failed` only where the count rose in that call.
 //!
 //! What contracts see of a link is one record (`specs/Links.antt`): its history, what is left and was written, and whether it can
-//! still fail. A clock tells two bounds between which it answers; that of the system tells none.
+//! still fail. A clock, and a link, has two bounds between which the moments lie that it tells; that of the system has none.
 //!
 //! What a source has left, what a sink was written and what a file contains are told where the object knows them: the versions
 //! in memory tell, the adapters over the real input, output, files and streams don't. That std's read and write do what they
