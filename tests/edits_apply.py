@@ -1,6 +1,7 @@
 #!/usr/bin/env python3
 """Looks whether each edit of crates/*/must-fail and tests/edits, and each twin there, can be applied to the files as they stand: each text
-behind 'old: ' stands in its file exactly once. A twin has the name of an edit of its crate, and changes no other file than that.
+behind 'old: ' stands in its file exactly once. A twin has the name of an edit of its crate and changes no other file than that; the twins
+of a crate can be applied one after the other.
 usage: tests/edits_apply.py
 It takes no proof and less than a second. Each that can't be applied is printed with its reason; the status is then 1."""
 import glob
@@ -8,12 +9,10 @@ import os
 import sys
 
 
-def applied(path, folder):
+def applied(text, folder):
     """Returns the files that the edit changes, and why it can't be applied, if it can't."""
     texts, was, name, old = {}, {}, None, None
-    with open(path, encoding="utf-8") as it:
-        lines = it.read().split("\n")
-    for line in lines:
+    for line in text.split("\n"):
         if line.startswith("file: "):
             name = line.removeprefix("file: ").strip()
             if not os.path.isfile(f"{folder}/{name}"):
@@ -39,29 +38,37 @@ def applied(path, folder):
 
 def main():
     top = os.path.dirname(os.path.dirname(os.path.abspath(__file__)))
-    found = {}
-    for path in glob.glob(f"{top}/crates/*/must-fail/*") + glob.glob(f"{top}/tests/edits/*/*"):
+    found, twins, failed = {}, {}, []
+    for path in sorted(glob.glob(f"{top}/crates/*/must-fail/*") + glob.glob(f"{top}/tests/edits/*/*")):
         words = os.path.relpath(path, top).split("/")
-        found.setdefault((words[1] if words[0] == "crates" else words[2], words[-1]), []).append(path)
-    failed = 0
-    for (crate, name), paths in sorted(found.items()):
-        texts, why = applied(paths[0], f"{top}/crates/{crate}")
+        crate = words[1] if words[0] == "crates" else words[2]
+        with open(path, encoding="utf-8") as it:
+            found.setdefault((crate, words[-1]), []).append(it.read())
+    for (crate, name), given in sorted(found.items()):
+        folder = f"{top}/crates/{crate}"
+        texts, why = applied(given[0], folder)
         stem, kind = os.path.splitext(name)
         if kind not in (".edit", ".twin"):
             why = "its name ends in neither .edit nor .twin"
-        elif len(paths) > 1:
-            why = "it stands in crates/*/must-fail and in tests/edits"
+        elif len(given) > 1:
+            why = "it stands in must-fail and in tests/edits"
         elif kind == ".twin" and why is None:
+            twins.setdefault(crate, []).append(given[0])
             edit = found.get((crate, f"{stem}.edit"))
             if not edit:
                 why = "it has no edit"
-            elif not texts.keys() <= applied(edit[0], f"{top}/crates/{crate}")[0].keys():
+            elif not texts.keys() <= applied(edit[0], folder)[0].keys():
                 why = "it changes another file than its edit"
         if why:
-            failed += 1
-            print(f"FAILED {crate}/{name}: {why}")
+            failed.append(f"{crate}/{name}: {why}")
+    for crate, given in twins.items():
+        why = applied("".join(given), f"{top}/crates/{crate}")[1]
+        if why:
+            failed.append(f"the twins of {crate}, one after the other: {why}")
+    for it in failed:
+        print(f"FAILED {it}")
     kinds = [os.path.splitext(name)[1] for _, name in found]
-    print(f"{kinds.count('.edit')} edits and {kinds.count('.twin')} twins, {failed} of them can't be applied")
+    print(f"{kinds.count('.edit')} edits and {kinds.count('.twin')} twins, of which {len(failed)} can't be applied")
     return 1 if failed else 0
 
 
