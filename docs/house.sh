@@ -12,7 +12,7 @@ counters window_keys told_list config_versions counter_cells counter_directory o
 checks descriptor_tree config_json rule_lookup rls_core rate_limiter reply_text request_tokens run_lines script_run worker_run drive_run load_gen run_text run_audit
 connections http_front http_endpoint http_checks http_serve http_limiter link_handover
 quota agenda quota_bucket quota_settings quota_settings_json quota_buckets quota_lines quota_stream quota_pools quota_server
-faces command_words ratelimit_cli ratelimit
+faces command_words cli_exits cli_lookup cli_quota cli_audit cli_serve cli_drive ratelimit_cli ratelimit
 GROUPS
 declare -A title_of=([base]='base' [counters]='counters' [checks]='rules and checks' [connections]='connections' [quota]='quota' [faces]='faces')
 declare -A colour_of=([base]='#e8e8e8' [counters]='#dbe9f6' [checks]='#e3f1dc' [connections]='#e6e1f4' [quota]='#fbeed5' [faces]='#f3dfe9')

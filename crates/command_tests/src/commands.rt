@@ -13,9 +13,10 @@ mod workers;
 
 ghost use Rattle.std.specs.Prelude.{◌≡◌, []};
 
+use cli_exits::Exit;
 use rate_io::{Listen, MemFile, MemFiles, MemListen, MemSink, MemSource};
 use rate_types::{Blob, Names, Word};
-use ratelimit_cli::{Exit, ratelimit};
+use ratelimit_cli::ratelimit;
 use std::alloc::Global;
 use std::hash::RandomState;
 use std::random::RandomSource;

@@ -4,11 +4,12 @@
 
 ghost use Rattle.std.specs.Prelude.{◌≡◌};
 ghost use Rattle.std.specs.Process.{exit_status};
-ghost use Rattle.ratelimit_cli.specs.Reports.{status_of};
+ghost use Rattle.cli_exits.specs.Reports.{status_of};
 
+use cli_exits::Exit;
 use rate_io::{HostFiles, ReaderSource, StreamListen, WriterSink};
 use rate_types::{Names, Word};
-use ratelimit_cli::{Exit, ratelimit};
+use ratelimit_cli::ratelimit;
 use std::alloc::Global;
 use std::hash::RandomState;
 use std::io::BufWriter;

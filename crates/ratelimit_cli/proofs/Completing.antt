@@ -16,22 +16,22 @@ use Rattle.quota_stream.specs.Runs.{HasTooLong}
 use Rattle.quota_pools.specs.Pools.{AllPools}
 use Rattle.http_serve.specs.Links.{ends_of}
 use Rattle.command_words.specs.Words.{command_of}
-use Rattle.ratelimit_cli.specs.Jobs.{AskedFile, files_of, configs_among, ReadsConfigs}
+use Rattle.cli_exits.specs.Jobs.{AskedFile, files_of, configs_among, ReadsConfigs}
 use Rattle.command_words.specs.declared.command.Command.{Command}
 use Rattle.command_words.specs.declared.command.Command.TheVariants.{Plain, Quota, Pool, Audit, Threads, Help, Version}
 use Rattle.command_words.specs.declared.command.ThreadJob.TheVariants.{Drive, Serve, Gen}
 use Rattle.command_words.specs.declared.command.QuotaJob.{QuotaJob}
 use Rattle.command_words.specs.declared.command.PoolJob.{PoolJob}
-use Rattle.ratelimit_cli.specs.World.{World, AreFilesOf, AreWithin, StopsAt, IsLong, IsUnread, all_written, WroteUpTo}
-use Rattle.ratelimit_cli.specs.Configured.{FilesSay}
+use Rattle.cli_exits.specs.World.{World, AreFilesOf, AreWithin, StopsAt, IsLong, IsUnread, all_written, WroteUpTo}
+use Rattle.cli_exits.specs.Configured.{FilesSay}
 use Rattle.ratelimit_cli.specs.Exits.{HasNoCause, Explains, ExplainsCall, IsExitOf, AreLawful}
-use Rattle.ratelimit_cli.specs.Served.{Listening, has_listen_failed, port_line, end_lines, ExplainsServe}
+use Rattle.cli_serve.specs.Served.{Listening, has_listen_failed, port_line, end_lines, ExplainsServe}
 use Rattle.command_words.specs.declared.command.ServeJob.{ServeJob}
-use Rattle.ratelimit_cli.specs.Replayed.{QuotaSays, AreReplayable}
-use Rattle.ratelimit_cli.specs.Pooled.{PoolSays, ArePoolable}
-use Rattle.ratelimit_cli.specs.declared.exit.Exit.{Exit}
-use Rattle.ratelimit_cli.specs.declared.exit.Exit.TheVariants.{Done, Usage, ConfigRefused, TooLong, ReadFault, WriteFault, FileFault}
-use Rattle.ratelimit_cli.specs.declared.exit.Exit.TheVariants.{OutOfMemory, ListenFault, SettingsRefused}
+use Rattle.cli_quota.specs.Replayed.{QuotaSays, AreReplayable}
+use Rattle.cli_quota.specs.Pooled.{PoolSays, ArePoolable}
+use Rattle.cli_exits.specs.declared.exit.Exit.{Exit}
+use Rattle.cli_exits.specs.declared.exit.Exit.TheVariants.{Done, Usage, ConfigRefused, TooLong, ReadFault, WriteFault, FileFault}
+use Rattle.cli_exits.specs.declared.exit.Exit.TheVariants.{OutOfMemory, ListenFault, SettingsRefused}
 
 -- the bytes of the files are those that their reads handed out
 same_files : (content : List ℕ → Option (List ℕ)) (asked : List AskedFile) (calls : List FileEvent) (files : List (List ℕ)) → AreFilesOf content asked calls files

@@ -4,23 +4,23 @@ use Rattle.rate_types.specs.declared.limits.TheConstants.{MOST_BYTES}
 use Rattle.rate_types.specs.declared.refused.At.{At}
 use Rattle.descriptor_tree.specs.Trees.{DomainTree}
 use Rattle.rate_io.specs.Events.{given}
-use Rattle.quota_settings.specs.Covering.{AllSettings}
-use Rattle.ratelimit_cli.specs.Quota.{settings_of}
 use Rattle.command_words.specs.Words.{command_of}
-use Rattle.ratelimit_cli.specs.Jobs.{asked, files_of, configs_among, ReadsConfigs, command_with}
-use Rattle.ratelimit_cli.specs.World.{World, AreFilesOf, NothingRead, NothingWritten}
-use Rattle.ratelimit_cli.specs.Configured.{FilesSay, HasRead}
-use Rattle.ratelimit_cli.specs.Replayed.{QuotaSays}
+use Rattle.cli_exits.specs.Jobs.{asked, files_of, configs_among, ReadsConfigs}
+use Rattle.ratelimit_cli.specs.Parts.{command_with, IsOfWork}
+use Rattle.cli_exits.specs.World.{World, AreFilesOf, NothingRead, NothingWritten}
+use Rattle.cli_exits.specs.Configured.{FilesSay, HasRead}
+use Rattle.cli_quota.specs.Replayed.{QuotaSays}
 use Rattle.ratelimit_cli.specs.Exits.{IsOutput, Explains}
-use Rattle.ratelimit_cli.specs.Parts.{IsOfFiles, IsOfConfig, IsOfInput, IsOfOutput, IsOfWork, IsOfSettings, IsOfStreams, IsOfReplay, Replays, Sinks}
+use Rattle.cli_exits.specs.Parts.{IsOfFiles, IsOfConfig, IsOfInput, IsOfOutput, Sinks}
+use Rattle.cli_quota.specs.Parts.{IsOfReplay, Replays}
 use Rattle.command_words.specs.declared.command.Command.{Command}
 use Rattle.command_words.specs.declared.command.Command.TheVariants.{Quota}
 use Rattle.command_words.specs.declared.command.QuotaJob.{QuotaJob}
 use Rattle.ratelimit_cli.specs.declared.work.Work.{Work}
 use Rattle.ratelimit_cli.specs.declared.work.Work.TheVariants.{Lookup, Drive}
-use Rattle.ratelimit_cli.specs.declared.exit.Exit.{Exit}
-use Rattle.ratelimit_cli.specs.declared.exit.Exit.TheVariants.{Done, Usage, ConfigRefused, TooLong, ReadFault, WriteFault, FileFault}
-use Rattle.ratelimit_cli.specs.declared.exit.Exit.TheVariants.{OutOfMemory, ListenFault, SettingsRefused}
+use Rattle.cli_exits.specs.declared.exit.Exit.{Exit}
+use Rattle.cli_exits.specs.declared.exit.Exit.TheVariants.{Done, Usage, ConfigRefused, TooLong, ReadFault, WriteFault, FileFault}
+use Rattle.cli_exits.specs.declared.exit.Exit.TheVariants.{OutOfMemory, ListenFault, SettingsRefused}
 
 -- a command by its work reads these files
 pub configs_same : (configs : List (List ℕ)) (work : Work) → map (asked MOST_BYTES) configs ≡ files_of (command_with configs work)
@@ -116,32 +116,6 @@ made_output w configs (Drive setup) config bytes read are pieces made = record {
   read = read;
   made = subst (λ (b : List ℕ). IsOfWork (Drive setup) config b pieces) (sym are) made;
 }
-
--- what a settings file says, and what its streams say
-pub settings_fault : (file : List ℕ) (streams : List (List ℕ)) (e : Exit) → IsOfSettings (settings_of file) e → IsOfReplay file streams e
-settings_fault file streams (SettingsRefused refused) h = h
-settings_fault file streams OutOfMemory h = h
-settings_fault file streams TooLong h = absurd h
-settings_fault file streams Done h = absurd h
-settings_fault file streams Usage h = absurd h
-settings_fault file streams (ConfigRefused at) h = absurd h
-settings_fault file streams ReadFault h = absurd h
-settings_fault file streams ListenFault h = absurd h
-settings_fault file streams WriteFault h = absurd h
-settings_fault file streams (FileFault index) h = absurd h
-
-pub streams_fault : (file : List ℕ) (streams : List (List ℕ)) (settings : AllSettings) → settings_of file ≡ Ok (Some settings)
-    → (e : Exit) → IsOfStreams streams e → IsOfReplay file streams e
-streams_fault file streams settings spells TooLong h = (settings, spells, h)
-streams_fault file streams settings spells OutOfMemory h = h
-streams_fault file streams settings spells (SettingsRefused refused) h = absurd h
-streams_fault file streams settings spells Done h = absurd h
-streams_fault file streams settings spells Usage h = absurd h
-streams_fault file streams settings spells (ConfigRefused at) h = absurd h
-streams_fault file streams settings spells ReadFault h = absurd h
-streams_fault file streams settings spells ListenFault h = absurd h
-streams_fault file streams settings spells WriteFault h = absurd h
-streams_fault file streams settings spells (FileFault index) h = absurd h
 
 -- `quota` read its settings file and its streams
 module _ (w : World) (job : QuotaJob) (is : command_of w.words ≡ Some (Quota job)) (file : List ℕ) (streams : List (List ℕ))

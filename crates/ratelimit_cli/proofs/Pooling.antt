@@ -1,29 +1,16 @@
 -- From what the parts of `pool` answer to what its exit says.
 use Rattle.std.proofs.Common.{◌≡◌, ℕ, List, [], ◌∷◌, Option, Some, Ok, Err, inl, inr}
-use Rattle.quota_pools.specs.Pools.{AllPools}
 use Rattle.command_words.specs.Words.{command_of}
-use Rattle.ratelimit_cli.specs.Jobs.{files_of}
-use Rattle.ratelimit_cli.specs.World.{World, AreFilesOf, NothingRead, NothingWritten}
-use Rattle.ratelimit_cli.specs.Pooled.{PoolSays, pools_of}
+use Rattle.cli_exits.specs.Jobs.{files_of}
+use Rattle.cli_exits.specs.World.{World, AreFilesOf, NothingRead, NothingWritten}
+use Rattle.cli_quota.specs.Pooled.{PoolSays}
 use Rattle.ratelimit_cli.specs.Exits.{IsOutput, Explains}
-use Rattle.ratelimit_cli.specs.Parts.{IsOfSettings, IsOfSharing, Answers}
+use Rattle.cli_quota.specs.Parts.{IsOfSharing, Answers}
 use Rattle.command_words.specs.declared.command.Command.TheVariants.{Pool}
 use Rattle.command_words.specs.declared.command.PoolJob.{PoolJob}
-use Rattle.ratelimit_cli.specs.declared.exit.Exit.{Exit}
-use Rattle.ratelimit_cli.specs.declared.exit.Exit.TheVariants.{Done, Usage, ConfigRefused, TooLong, ReadFault, WriteFault, FileFault}
-use Rattle.ratelimit_cli.specs.declared.exit.Exit.TheVariants.{OutOfMemory, ListenFault, SettingsRefused}
-
-pub pools_fault : (file events : List ℕ) (e : Exit) → IsOfSettings (pools_of file) e → IsOfSharing file events e
-pools_fault file events (SettingsRefused refused) h = h
-pools_fault file events OutOfMemory h = h
-pools_fault file events TooLong h = absurd h
-pools_fault file events Done h = absurd h
-pools_fault file events Usage h = absurd h
-pools_fault file events (ConfigRefused at) h = absurd h
-pools_fault file events ReadFault h = absurd h
-pools_fault file events ListenFault h = absurd h
-pools_fault file events WriteFault h = absurd h
-pools_fault file events (FileFault index) h = absurd h
+use Rattle.cli_exits.specs.declared.exit.Exit.{Exit}
+use Rattle.cli_exits.specs.declared.exit.Exit.TheVariants.{Done, Usage, ConfigRefused, TooLong, ReadFault, WriteFault, FileFault}
+use Rattle.cli_exits.specs.declared.exit.Exit.TheVariants.{OutOfMemory, ListenFault, SettingsRefused}
 
 -- `pool` read its pools and its events
 module _ (w : World) (job : PoolJob) (is : command_of w.words ≡ Some (Pool job)) (file events : List ℕ)

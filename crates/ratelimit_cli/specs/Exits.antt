@@ -6,25 +6,25 @@ use Rattle.rate_io.specs.Causes.{Rose}
 use Rattle.rate_io.specs.Content.{Told, Appends}
 use Rattle.rate_io.specs.Events.{given, has_failed, has_write_failed}
 use Rattle.config_json.specs.Reading.{reading_of}
-use Rattle.ratelimit_cli.specs.Output.{AppendsFront}
+use Rattle.cli_exits.specs.Output.{AppendsFront}
 use Rattle.command_words.specs.Words.{command_of}
-use Rattle.ratelimit_cli.specs.Jobs.{files_of, configs_among}
+use Rattle.cli_exits.specs.Jobs.{files_of, configs_among}
 use Rattle.command_words.specs.declared.command.Command.{Command}
 use Rattle.command_words.specs.declared.command.Command.TheVariants.{Quota, Pool, Audit, Threads, Help, Version}
 use Rattle.command_words.specs.declared.command.ThreadJob.TheVariants.{Serve, Gen}
 use Rattle.command_words.specs.declared.command.ServeJob.{ServeJob}
 use Rattle.command_words.specs.declared.help.TheConstants.{HELP, VERSION}
-use Rattle.ratelimit_cli.specs.declared.exit.Exit.{Exit}
-use Rattle.ratelimit_cli.specs.declared.exit.Exit.TheVariants.{Done, Usage, ConfigRefused, TooLong, ReadFault, WriteFault, FileFault}
-use Rattle.ratelimit_cli.specs.declared.exit.Exit.TheVariants.{OutOfMemory, ListenFault, SettingsRefused}
-use Rattle.ratelimit_cli.specs.World.{World, IsTooLong, HasLongFile, FileFails, AreWithin}
-use Rattle.ratelimit_cli.specs.World.{NoFileAsked, NothingRead, NothingWritten, IsCommand, all_written, WroteUpTo}
-use Rattle.ratelimit_cli.specs.Configured.{AreRefused, IsConfigured, IsMade}
-use Rattle.ratelimit_cli.specs.Served.{Listening, NothingListened, has_listen_failed, ExplainsServe}
-use Rattle.ratelimit_cli.specs.Replayed.{IsSettingsRefused, HasLongStream, IsReplayed, AreReplayable}
-use Rattle.ratelimit_cli.specs.Generated.{load_text}
-use Rattle.ratelimit_cli.specs.Audited.{IsAudited}
-use Rattle.ratelimit_cli.specs.Pooled.{ArePoolsRefused, HasLongEvents, IsPooled, ArePoolable}
+use Rattle.cli_exits.specs.declared.exit.Exit.{Exit}
+use Rattle.cli_exits.specs.declared.exit.Exit.TheVariants.{Done, Usage, ConfigRefused, TooLong, ReadFault, WriteFault, FileFault}
+use Rattle.cli_exits.specs.declared.exit.Exit.TheVariants.{OutOfMemory, ListenFault, SettingsRefused}
+use Rattle.cli_exits.specs.World.{World, IsTooLong, HasLongFile, FileFails, AreWithin, NoFileAsked, NothingRead, NothingWritten, IsCommand, all_written, WroteUpTo}
+use Rattle.cli_exits.specs.Configured.{AreRefused, IsConfigured}
+use Rattle.ratelimit_cli.specs.Made.{IsMade}
+use Rattle.cli_serve.specs.Served.{Listening, NothingListened, has_listen_failed, ExplainsServe}
+use Rattle.cli_quota.specs.Replayed.{IsSettingsRefused, HasLongStream, IsReplayed, AreReplayable}
+use Rattle.cli_drive.specs.Generated.{load_text}
+use Rattle.cli_audit.specs.Audited.{IsAudited}
+use Rattle.cli_quota.specs.Pooled.{ArePoolsRefused, HasLongEvents, IsPooled, ArePoolable}
 
 -- a text that a command has, whatever files and input hold
 pub record IsFixed (w : World) (command : Command) (text : List ℕ) (pieces : List (List ℕ)) : Type 0 where

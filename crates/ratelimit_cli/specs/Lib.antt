@@ -1,15 +1,3 @@
-pub mod Output
-pub mod Jobs
-pub mod Lookup
-pub mod Quota
-pub mod World
-pub mod Configured
-pub mod Replayed
-pub mod Pooled
-pub mod Audited
-pub mod Generated
-pub mod Served
+pub mod Made
 pub mod Exits
 pub mod Parts
-pub mod Serving
-pub mod Reports

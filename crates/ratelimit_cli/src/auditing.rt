@@ -1,135 +1,16 @@
 // `audit`: a printed run of a script, judged.
-ghost use Rattle.std.specs.Prelude.{◌≡◌, ℕ, ◌≤◌, List, ◌∷◌, [], ◌++◌, Some, length, map, IfOk, IfErr, string_bytes};
-ghost use Rattle.rate_types.specs.declared.limits.TheConstants.{MOST_LINES};
-ghost use Rattle.rate_io.specs.Events.{Continues, Grew, since};
-ghost use Rattle.descriptor_tree.specs.Views.{config_view};
-ghost use Rattle.text_lines.specs.Lines.{cut};
-ghost use Rattle.drive_run.specs.Script.{script_of};
-ghost use Rattle.run_audit.specs.Verdict.{IsVerdict};
-ghost use Rattle.ratelimit_cli.specs.Jobs.{files_of};
-ghost use Rattle.ratelimit_cli.specs.World.{AreFilesOf, exit_of};
+ghost use Rattle.std.specs.Prelude.{◌≡◌, ℕ, List, Some};
+ghost use Rattle.rate_io.specs.Events.{Continues, since};
+ghost use Rattle.cli_exits.specs.World.{exit_of};
 ghost use Rattle.ratelimit_cli.specs.Exits.{Explains};
-ghost use Rattle.ratelimit_cli.specs.Output.{with_line_feed};
-ghost use Rattle.ratelimit_cli.specs.Parts.{IsOfFiles, IsOfOutput, IsOfVerdict};
-ghost use Rattle.ratelimit_cli.specs.Audited as spec;
 ghost use Rattle.command_words.specs.Words.{command_of};
 ghost use Rattle.command_words.specs.declared.command.Command.TheVariants.{Audit};
 
-use crate::Exit;
-use crate::configs::{configuration, read_files};
-use crate::input::read_input;
-use crate::limits::MOST_RUN_BYTES;
-use crate::output::write_line;
+use cli_audit::{judge_and_write, read_run_files};
+use cli_exits::{Exit, configuration, read_input};
 use command_words::AuditJob;
-use descriptor_tree::Config;
-use drive_run::{Script, ScriptFault};
-use rate_io::{FileFault, Files, Sink, Source};
-use rate_types::{Blob, Blobs, OutOfMemory};
-use run_audit::{Setup, Verdict, audit};
+use rate_io::{Files, Sink, Source};
 use std::alloc::Global;
-use std::sync::Arc;
-
-// What the files of a job hold: its configuration files, and the run behind them.
-#[derive(Drop)]
-struct RunFiles {
-    configs: Blobs,
-    run: Blob,
-}
-
-// Reads the files of a job, in order.
-fn read_run_files<F: Files>(alloc: Global, files: &mut F, job: &AuditJob) -> Result<RunFiles, Exit>
-    ensures contents { IfOk result (λ r. Grew (F.history files.old) (F.history files.new)
-        (λ calls. AreFilesOf (F.content files.old) (files_of (Audit job.now)) calls (r.configs ++ r.run ∷ []))) }
-    ensures fault { IfErr result (λ exit. Grew (F.history files.old) (F.history files.new)
-        (IsOfFiles (F.content files.old) (files_of (Audit job.now)) (F.faults files.old, F.faults files.new) exit)) }
-{
-    let configs = match read_files(alloc, files, job.configs.items()) {
-        Ok(configs) => configs,
-        Err(exit) => return Err(exit),
-    };
-    let run = match files.read(alloc, job.run.as_str(), MOST_RUN_BYTES) {
-        Ok(run) => run,
-        Err(FileFault::Failed) => return Err(Exit::FileFault(job.configs.items().len() as u64)),
-        Err(FileFault::TooLong { .. }) => return Err(Exit::TooLong),
-        Err(FileFault::OutOfMemory) => return Err(Exit::OutOfMemory),
-    };
-    Ok(RunFiles {
-        configs,
-        run: Blob::of(run),
-    })
-}
-
-// The verdict on a run of an input as a script.
-fn verdict_of(
-    alloc: Global,
-    job: &AuditJob,
-    config: Config,
-    bytes: &[u8],
-    run: &[u8],
-) -> Result<Verdict, OutOfMemory>
-    requires { length (cut bytes.now) ≤ MOST_LINES }
-    ensures { IfOk result (IsVerdict (config_view config) (spec.setup_of job.now) (script_of bytes.now) run.now) }
-{
-    let script = match Script::read(alloc, bytes) {
-        Ok(script) => script,
-        Err(ScriptFault::TooManyLines { .. }) => unreachable!(),
-        Err(ScriptFault::OutOfMemory) => return Err(OutOfMemory),
-    };
-    let lines = script.read_lines(alloc)?;
-    let first = Arc::new(alloc, config)?;
-    let setup = Setup {
-        workers: job.workers,
-        cells: job.cells,
-        start: job.start,
-        global_shadow: job.global_shadow,
-    };
-    audit(alloc, &first, setup, &lines, run)
-}
-
-// The line of a verdict, with its line feed.
-#[tactic(auto, unfolding(crate::specs::Audited::verdict_text))]
-fn verdict_line(alloc: Global, verdict: Verdict) -> Result<String, OutOfMemory>
-    ensures { IfOk result (λ t. string_bytes t ≡ with_line_feed (spec.verdict_text verdict)) }
-{
-    let mut text = match verdict {
-        Verdict::Lawful { records } => format!(in alloc;
-            "{{\"lawful\":true,\"records\":{records}}}"
-        )?,
-        Verdict::Form { line } => format!(in alloc; "{{\"lawful\":false,\"line\":{line}}}")?,
-        Verdict::Breaks(clause) => {
-            let number = clause.number();
-            format!(in alloc; "{{\"clause\":{number},\"lawful\":false}}")?
-        }
-    };
-    text.push('\n')?;
-    Ok(text)
-}
-
-// Judges a run and writes the line of the verdict.
-fn judge_and_write<K: Sink>(
-    alloc: Global,
-    job: &AuditJob,
-    config: Config,
-    bytes: &[u8],
-    run: &[u8],
-    sink: &mut K,
-) -> Result<(), Exit>
-    requires { length (cut bytes.now) ≤ MOST_LINES }
-    ensures { Grew (K.history sink.old) (K.history sink.new)
-        (IsOfOutput (IsOfVerdict (config_view config) (spec.setup_of job.now) bytes.now run.now) (record {
-          written = K.written sink.old;
-          after = K.written sink.new;
-          faults = (K.faults sink.old, K.faults sink.new);
-        }) (exit_of result)) }
-{
-    let Ok(verdict) = verdict_of(alloc, job, config, bytes, run) else {
-        return Err(Exit::OutOfMemory);
-    };
-    let Ok(line) = verdict_line(alloc, verdict) else {
-        return Err(Exit::OutOfMemory);
-    };
-    write_line(alloc, line, sink)
-}
 
 /// Judges the run of a job: the steps in their order, up to the first that fails. The configuration files are read, then the run, then the
 /// script from the source; the verdict is written as one line. It takes no threads and waits for nobody.

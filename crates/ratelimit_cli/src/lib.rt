@@ -10,24 +10,10 @@
 #![tactic(auto)]
 
 mod auditing;
-mod configs;
-mod exit;
-mod found_json;
-mod generated;
-mod input;
-mod limits;
-mod lookup;
-mod making;
-mod output;
-mod output_lines;
-mod output_pieces;
 mod pool;
 mod quota;
-mod report;
 mod serve;
 mod top;
 mod work;
 
-pub use exit::Exit;
-pub use limits::MOST_RUN_BYTES;
 pub use top::ratelimit;

@@ -4,25 +4,22 @@ ghost use Rattle.rate_io.specs.Events.{Continues, Grew, since};
 ghost use Rattle.descriptor_tree.specs.Views.{config_view};
 ghost use Rattle.http_serve.specs.Links.{IsUnused};
 ghost use Rattle.text_lines.specs.Lines.{cut};
-ghost use Rattle.ratelimit_cli.specs.World.{exit_of};
+ghost use Rattle.cli_exits.specs.World.{exit_of};
 ghost use Rattle.ratelimit_cli.specs.Exits.{Explains, ExplainsCall, IsExitOf};
-ghost use Rattle.ratelimit_cli.specs.Jobs.{command_with};
+ghost use Rattle.ratelimit_cli.specs.Parts.{command_with, IsOfWork};
 ghost use Rattle.command_words.specs.Words.{command_of};
-ghost use Rattle.ratelimit_cli.specs.Parts.{IsOfOutput, IsOfWork};
-ghost use Rattle.ratelimit_cli.specs.Configured.{IsRunText};
-ghost use Rattle.ratelimit_cli.specs.Lookup.{lookup_output};
+ghost use Rattle.cli_exits.specs.Parts.{IsOfOutput};
+ghost use Rattle.cli_drive.specs.Driven.{IsRunText};
+ghost use Rattle.cli_lookup.specs.Lookup.{lookup_output};
 
-use crate::Exit;
 use crate::auditing::audit_files;
-use crate::configs::{configuration, read_files};
-use crate::generated::run_gen;
-use crate::input::read_input;
-use crate::making::{driven_lines, found_lines};
-use crate::output::{write_all, write_line, write_lines};
 use crate::pool::run_pool;
 use crate::quota::run_quota;
 use crate::serve::run_serve;
 use crate::work::Work;
+use cli_drive::{drive_and_write, run_gen};
+use cli_exits::{Exit, configuration, read_files, read_input, write_text};
+use cli_lookup::find_and_write;
 use command_words::{Command, HELP, ThreadJob, VERSION, WordsFault, read_words};
 use descriptor_tree::Config;
 use drive_run::Setup;
@@ -33,57 +30,6 @@ use std::hash::RandomState;
 use std::sync::Wait;
 use std::thread::Threads;
 use worker_run::Gate;
-
-// Looks the requests of an input up, writes the lines of what is found, and flushes.
-fn find_and_write<K: Sink>(
-    alloc: Global,
-    config: Config,
-    bytes: &[u8],
-    sink: &mut K,
-) -> Result<(), Exit>
-    requires { length (cut bytes.now) ≤ MOST_LINES }
-    ensures { Grew (K.history sink.old) (K.history sink.new)
-        (IsOfOutput (λ pieces. pieces ≡ lookup_output (config_view config) bytes.now) (record {
-          written = K.written sink.old;
-          after = K.written sink.new;
-          faults = (K.faults sink.old, K.faults sink.new);
-        }) (exit_of result)) }
-{
-    let Ok(lines) = found_lines(alloc, config, bytes) else {
-        return Err(Exit::OutOfMemory);
-    };
-    match write_lines(sink, &lines) {
-        Ok(()) => Ok(()),
-        Err(_) => Err(Exit::WriteFault),
-    }
-}
-
-// Runs an input as a script, writes the lines of the run, and flushes. All memory is taken before the first line is written.
-fn drive_and_write<R: Threads + Wait + Sync, K: Sink, G: Gate>(
-    rt: &R,
-    alloc: Global,
-    setup: Setup,
-    config: Config,
-    bytes: &[u8],
-    sink: &mut K,
-    gate: &G,
-) -> Result<(), Exit>
-    requires { length (cut bytes.now) ≤ MOST_LINES }
-    ensures { Grew (K.history sink.old) (K.history sink.new)
-        (IsOfOutput (IsRunText (config_view config) setup.workers setup.cells setup.start setup.global_shadow bytes.now) (record {
-          written = K.written sink.old;
-          after = K.written sink.new;
-          faults = (K.faults sink.old, K.faults sink.new);
-        }) (exit_of result)) }
-{
-    let Ok(mut lines) = driven_lines(rt, alloc, config, bytes, setup, gate) else {
-        return Err(Exit::OutOfMemory);
-    };
-    match write_all(sink, &mut lines) {
-        Ok(()) => Ok(()),
-        Err(_) => Err(Exit::WriteFault),
-    }
-}
 
 // Makes the lines of the output of this work, writes them, and flushes.
 fn make_and_write<R: Threads + Wait + Sync, K: Sink, G: Gate>(
@@ -106,20 +52,6 @@ fn make_and_write<R: Threads + Wait + Sync, K: Sink, G: Gate>(
         Work::Lookup => find_and_write(alloc, config, bytes, sink),
         Work::Drive(setup) => drive_and_write(rt, alloc, setup, config, bytes, sink, gate),
     }
-}
-
-// Writes a text, and flushes.
-fn write_text<K: Sink>(alloc: Global, text: &str, sink: &mut K) -> Result<(), Exit>
-    ensures { Grew (K.history sink.old) (K.history sink.new) (IsOfOutput (λ pieces. pieces ≡ text.now ∷ []) (record {
-      written = K.written sink.old;
-      after = K.written sink.new;
-      faults = (K.faults sink.old, K.faults sink.new);
-    }) (exit_of result)) }
-{
-    let Ok(text) = String::from_str(alloc, text) else {
-        return Err(Exit::OutOfMemory);
-    };
-    write_line(alloc, text, sink)
 }
 
 // Does this work by the configuration files of these names: the steps in their order, up to the first that fails.
@@ -188,7 +120,7 @@ fn setup_of(
 }
 
 // Does the command that the words name.
-#[tactic(auto, using(crate::proofs::Serving::plain_call, crate::proofs::Histories::stays))]
+#[tactic(auto, using(crate::proofs::Listening::plain_call, cli_exits::proofs::Histories::stays))]
 fn run_command<R: Threads + Wait + Sync, F: Files, S: Source, K: Sink, L: Listen, G: Gate>(
     rt: &R,
     alloc: Global,

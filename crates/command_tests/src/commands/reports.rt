@@ -1,6 +1,6 @@
 // The status and the text of each exit.
+use cli_exits::Exit;
 use rate_types::{At, Place, Refused};
-use ratelimit_cli::Exit;
 use std::alloc::Global;
 use std::test::Fail;
 

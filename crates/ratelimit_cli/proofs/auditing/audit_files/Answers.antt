@@ -2,13 +2,13 @@ use Rattle.std.proofs.Common.{◌≡◌, ◌∷◌, [], ◌++◌, Ok, refl, sym,
 use Rattle.rate_io.specs.Events.{since, given}
 use Rattle.descriptor_tree.specs.Views.{config_view}
 use Rattle.config_json.specs.Reading.{reading_of}
-use Rattle.ratelimit_cli.specs.Jobs.{files_of}
-use Rattle.ratelimit_cli.specs.World.{World, AreFilesOf, exit_of}
-use Rattle.ratelimit_cli.specs.Configured.{IsInput}
-use Rattle.ratelimit_cli.specs.Audited.{setup_of}
-use Rattle.ratelimit_cli.specs.Parts.{IsOfFiles, IsOfInput, IsOfOutput, IsOfVerdict}
+use Rattle.cli_exits.specs.Jobs.{files_of}
+use Rattle.cli_exits.specs.World.{World, AreFilesOf, exit_of}
+use Rattle.cli_exits.specs.Configured.{IsInput}
+use Rattle.cli_audit.specs.Audited.{setup_of, IsOfVerdict}
+use Rattle.cli_exits.specs.Parts.{IsOfFiles, IsOfInput, IsOfOutput}
 use Rattle.command_words.specs.declared.command.Command.TheVariants.{Audit}
-use Rattle.ratelimit_cli.proofs.Histories.{none_since, grew_since}
+use Rattle.cli_exits.proofs.Histories.{none_since, grew_since}
 use Rattle.ratelimit_cli.proofs.Explaining.{explain_files, explain_config, explain_input, explain_output, sinks}
 use Rattle.ratelimit_cli.proofs.Audits.{run_says, verdict_output}
 use Rattle.ratelimit_cli.proofs.auditing.audit_files.Goals as goal

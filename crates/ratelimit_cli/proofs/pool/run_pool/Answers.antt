@@ -1,12 +1,13 @@
 use Rattle.std.proofs.Common.{◌≡◌, ℕ, List, [], ◌∷◌, map, string_bytes, refl, sym, ap, subst, ◌∙◌}
 use Rattle.rate_types.specs.declared.limits.TheConstants.{MOST_BYTES}
 use Rattle.rate_io.specs.Events.{since}
-use Rattle.ratelimit_cli.specs.Jobs.{AskedFile, asked, files_of}
-use Rattle.ratelimit_cli.specs.World.{World, AreFilesOf, exit_of}
-use Rattle.ratelimit_cli.specs.Parts.{IsOfOutput, Answers}
-use Rattle.ratelimit_cli.specs.Pooled.{IsPooled}
+use Rattle.cli_exits.specs.Jobs.{AskedFile, asked, files_of}
+use Rattle.cli_exits.specs.World.{World, AreFilesOf, exit_of}
+use Rattle.cli_exits.specs.Parts.{IsOfOutput}
+use Rattle.cli_quota.specs.Parts.{Answers}
+use Rattle.cli_quota.specs.Pooled.{IsPooled}
 use Rattle.command_words.specs.declared.command.Command.TheVariants.{Pool}
-use Rattle.ratelimit_cli.proofs.Histories.{none_since, grew_since}
+use Rattle.cli_exits.proofs.Histories.{none_since, grew_since}
 use Rattle.ratelimit_cli.proofs.Explaining.{explain_output, sinks}
 use Rattle.ratelimit_cli.proofs.Pooling.{explain_sharing, sharing_output}
 use Rattle.ratelimit_cli.proofs.pool.run_pool.Goals as goal

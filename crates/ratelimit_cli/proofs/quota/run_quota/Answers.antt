@@ -1,13 +1,14 @@
 use Rattle.std.proofs.Common.{◌≡◌, ℕ, List, [], ◌∷◌, map, refl, sym, ap, subst, ◌∙◌}
 use Rattle.rate_types.specs.declared.limits.TheConstants.{MOST_BYTES}
 use Rattle.rate_io.specs.Events.{since}
-use Rattle.ratelimit_cli.specs.Jobs.{AskedFile, asked, files_of}
-use Rattle.ratelimit_cli.specs.World.{World, AreFilesOf, exit_of}
-use Rattle.ratelimit_cli.specs.Parts.{IsOfFiles, IsOfOutput, Replays}
-use Rattle.ratelimit_cli.specs.Replayed.{IsReplayed}
-use Rattle.ratelimit_cli.specs.Quota.{in_order}
+use Rattle.cli_exits.specs.Jobs.{AskedFile, asked, files_of}
+use Rattle.cli_exits.specs.World.{World, AreFilesOf, exit_of}
+use Rattle.cli_exits.specs.Parts.{IsOfFiles, IsOfOutput}
+use Rattle.cli_quota.specs.Parts.{Replays}
+use Rattle.cli_quota.specs.Replayed.{IsReplayed}
+use Rattle.cli_quota.specs.Quota.{in_order}
 use Rattle.command_words.specs.declared.command.Command.TheVariants.{Quota}
-use Rattle.ratelimit_cli.proofs.Histories.{none_since, grew_since}
+use Rattle.cli_exits.proofs.Histories.{none_since, grew_since}
 use Rattle.ratelimit_cli.proofs.Explaining.{explain_files, explain_replay, explain_output, replay_output, sinks}
 use Rattle.ratelimit_cli.proofs.quota.run_quota.Goals as goal
 

@@ -3,14 +3,14 @@ use Rattle.rate_types.specs.declared.limits.TheConstants.{MOST_BYTES}
 use Rattle.rate_io.specs.Events.{since}
 use Rattle.descriptor_tree.specs.Views.{config_view}
 use Rattle.config_json.specs.Reading.{reading_of}
-use Rattle.ratelimit_cli.specs.Jobs.{AskedFile, asked, files_of}
-use Rattle.ratelimit_cli.specs.World.{World, AreFilesOf}
-use Rattle.ratelimit_cli.specs.Configured.{FilesSay}
-use Rattle.ratelimit_cli.specs.Parts.{IsOfFiles}
-use Rattle.ratelimit_cli.specs.Serving.{Found}
+use Rattle.cli_exits.specs.Jobs.{AskedFile, asked, files_of}
+use Rattle.cli_exits.specs.World.{World, AreFilesOf}
+use Rattle.cli_exits.specs.Configured.{FilesSay}
+use Rattle.cli_exits.specs.Parts.{IsOfFiles}
+use Rattle.cli_serve.specs.Serving.{Found}
 use Rattle.command_words.specs.declared.command.Command.TheVariants.{Threads}
 use Rattle.command_words.specs.declared.command.ThreadJob.TheVariants.{Serve}
-use Rattle.ratelimit_cli.proofs.Histories.{none_since, grew_since}
+use Rattle.cli_exits.proofs.Histories.{none_since, grew_since}
 use Rattle.ratelimit_cli.proofs.Explaining.{explain_files, explain_config}
 use Rattle.ratelimit_cli.proofs.serve.run_serve.Goals as goal
 

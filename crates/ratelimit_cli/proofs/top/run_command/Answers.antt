@@ -1,15 +1,15 @@
 use Rattle.std.proofs.Common.{◌≡◌, [], ◌∷◌, Some, inl, ap, ◌∙◌}
 use Rattle.rate_io.specs.Events.{since}
-use Rattle.ratelimit_cli.specs.World.{World, exit_of}
+use Rattle.cli_exits.specs.World.{World, exit_of}
 use Rattle.command_words.specs.Words.{command_of}
-use Rattle.ratelimit_cli.specs.Parts.{IsOfOutput}
-use Rattle.ratelimit_cli.specs.Generated.{load_text}
+use Rattle.cli_exits.specs.Parts.{IsOfOutput}
+use Rattle.cli_drive.specs.Generated.{load_text}
 use Rattle.command_words.specs.declared.command.Command.{Command}
 use Rattle.command_words.specs.declared.command.Command.TheVariants.{Threads, Help}
 use Rattle.command_words.specs.declared.command.ThreadJob.{ThreadJob}
 use Rattle.command_words.specs.declared.command.ThreadJob.TheVariants.{Gen}
 use Rattle.command_words.specs.declared.help.TheConstants.{HELP}
-use Rattle.ratelimit_cli.proofs.Histories.{none_since, grew_since}
+use Rattle.cli_exits.proofs.Histories.{none_since, grew_since}
 use Rattle.ratelimit_cli.proofs.Explaining.{explain_output, sinks}
 use Rattle.ratelimit_cli.proofs.top.run_command.Goals as goal
 

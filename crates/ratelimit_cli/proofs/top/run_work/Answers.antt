@@ -3,11 +3,12 @@ use Rattle.rate_types.specs.declared.limits.TheConstants.{MOST_BYTES}
 use Rattle.rate_io.specs.Events.{since, given}
 use Rattle.descriptor_tree.specs.Views.{config_view}
 use Rattle.config_json.specs.Reading.{reading_of}
-use Rattle.ratelimit_cli.specs.Jobs.{AskedFile, asked, files_of, command_with}
-use Rattle.ratelimit_cli.specs.World.{World, AreFilesOf, exit_of}
-use Rattle.ratelimit_cli.specs.Configured.{FilesSay, IsInput, HasRead}
-use Rattle.ratelimit_cli.specs.Parts.{IsOfFiles, IsOfInput, IsOfOutput, IsOfWork}
-use Rattle.ratelimit_cli.proofs.Histories.{none_since, grew_since}
+use Rattle.cli_exits.specs.Jobs.{AskedFile, asked, files_of}
+use Rattle.ratelimit_cli.specs.Parts.{command_with, IsOfWork}
+use Rattle.cli_exits.specs.World.{World, AreFilesOf, exit_of}
+use Rattle.cli_exits.specs.Configured.{FilesSay, IsInput, HasRead}
+use Rattle.cli_exits.specs.Parts.{IsOfFiles, IsOfInput, IsOfOutput}
+use Rattle.cli_exits.proofs.Histories.{none_since, grew_since}
 use Rattle.ratelimit_cli.proofs.Explaining.{explain_files, explain_config, explain_input, explain_output, made_output, reads_configs, configs_same, configs_all, sinks}
 use Rattle.ratelimit_cli.proofs.top.run_work.Goals as goal
 

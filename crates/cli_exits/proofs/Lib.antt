@@ -1,0 +1,5 @@
+pub mod Writing
+pub mod Flushing
+pub mod Told
+pub mod Histories
+pub mod Lines

@@ -1,0 +1,4 @@
+pub mod Quota
+pub mod Replayed
+pub mod Pooled
+pub mod Parts

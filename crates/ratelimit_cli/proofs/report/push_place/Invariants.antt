@@ -1,7 +1,0 @@
-use Rattle.std.proofs.Common.{◌≡◌, ◌++◌, string_bytes}
-use Rattle.std.specs.List.{flat_map}
-use Rattle.ratelimit_cli.specs.Reports.{shown}
-use Rattle.ratelimit_cli.proofs.report.push_place.Given as goal
-
-abbrev pub invariant-loop-c : goal.invariant-loop-c
-invariant-loop-c l = string_bytes l.text ≡ string_bytes l.fn.text ++ flat_map shown l.yielded
