@@ -1,6 +1,6 @@
 // Printed runs, judged: which clause each tampered run breaks.
 use config_json::read_config;
-use drive_run::Script;
+use script_text::Script;
 use rate_types::{Blob, Blobs, Seconds};
 use run_audit::{Clause, Setup, Verdict, audit};
 use std::alloc::Global;

@@ -2,7 +2,7 @@
 use Rattle.std.specs.Prelude.{◌≡◌, ℕ, List, [], ◌∷◌, ◌++◌, length, Some, slice_get, codes, decimal}
 use Rattle.rate_io.specs.Events.{given}
 use Rattle.descriptor_tree.specs.Trees.{DomainTree}
-use Rattle.drive_run.specs.Script.{script_of}
+use Rattle.script_text.specs.Script.{script_of}
 use Rattle.run_audit.specs.declared.setup.Setup.{Setup}
 use Rattle.run_audit.specs.declared.verdict.Verdict.{Verdict}
 use Rattle.run_audit.specs.declared.verdict.Verdict.TheVariants.{Lawful, Form, Breaks}

@@ -4,7 +4,7 @@ ghost use Rattle.rate_types.specs.declared.limits.TheConstants.{MOST_LINES};
 ghost use Rattle.rate_io.specs.Events.{Grew};
 ghost use Rattle.descriptor_tree.specs.Views.{config_view};
 ghost use Rattle.text_lines.specs.Lines.{cut};
-ghost use Rattle.drive_run.specs.Script.{script_of};
+ghost use Rattle.script_text.specs.Script.{script_of};
 ghost use Rattle.run_audit.specs.Verdict.{IsVerdict};
 ghost use Rattle.cli_exits.specs.Jobs.{files_of};
 ghost use Rattle.cli_exits.specs.World.{AreFilesOf, exit_of};
@@ -17,7 +17,7 @@ ghost use Rattle.command_words.specs.declared.command.Command.TheVariants.{Audit
 use cli_exits::{Exit, MOST_RUN_BYTES, read_files, write_line};
 use command_words::AuditJob;
 use descriptor_tree::Config;
-use drive_run::{Script, ScriptFault};
+use script_text::{Script, ScriptFault};
 use rate_io::{FileFault, Files, Sink};
 use rate_types::{Blob, Blobs, OutOfMemory};
 use run_audit::{Setup, Verdict, audit};

@@ -4,7 +4,7 @@ use Rattle.rls_core.specs.declared.totals.Total.{Total}
 use Rattle.reply_text.specs.declared.record.Record.{Record}
 use Rattle.reply_text.specs.Texts.{record_text_of, total_text_of}
 use Rattle.descriptor_tree.specs.Trees.{DomainTree}
-use Rattle.drive_run.specs.Script.{script_of}
+use Rattle.script_text.specs.Script.{script_of}
 use Rattle.script_run.specs.Totals.{AreTotalsOf}
 use Rattle.script_run.specs.Run.{IsRun}
 use Rattle.cli_exits.specs.Output.{with_line_feed}

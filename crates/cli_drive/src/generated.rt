@@ -6,8 +6,8 @@ ghost use Rattle.cli_exits.specs.World.{exit_of};
 ghost use Rattle.cli_exits.specs.Parts.{IsOfOutput};
 ghost use Rattle.cli_drive.specs.Generated.{load_text};
 
+use crate::load_run::run_load;
 use cli_exits::{Exit, write_line};
-use load_gen::run_load;
 use rate_io::Sink;
 use rate_types::OutOfMemory;
 use std::alloc::Global;

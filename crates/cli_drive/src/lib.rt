@@ -8,6 +8,7 @@
 
 mod driving;
 mod generated;
+mod load_run;
 mod run_pieces;
 
 pub use driving::drive_and_write;

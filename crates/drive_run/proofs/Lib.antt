@@ -1,6 +1,1 @@
-pub mod Plain
-pub mod Reloads
 pub mod Firsts
-mod Lines
-mod UsualLine
-mod LineStarts

@@ -12,13 +12,14 @@ use rate_limiter::{Limiter, Limits};
 use rate_types::limits::MOST_CLAIMS;
 use rate_types::{OutOfMemory, Seconds};
 use rls_core::Totals;
+use script_lines::ScriptLines;
 use script_run::RunJournals;
 use std::alloc::Global;
 use std::hash::RandomState;
 use std::marker::Brand;
 use std::sync::{Arc, Wait};
 use std::thread::Threads;
-use worker_run::{Gate, ScriptLines, run_script};
+use worker_run::{Gate, run_script};
 
 /// How a script is run.
 #[derive(Clone, Copy)]

@@ -4,7 +4,7 @@ ghost use Rattle.counter_cells.specs.Opened.{table_of, setup_of};
 
 use crate::configs::config;
 use counter_cells::{CellNaming, OpenedCells};
-use drive_run::Script;
+use script_text::Script;
 use rate_limiter::{Limiter, Limits};
 use rate_types::Seconds;
 use rate_types::limits::MOST_CLAIMS;

@@ -10,9 +10,9 @@ use arrayvec::ArrayString;
 use itoa::Buffer;
 use json::Scratch;
 use rate_types::{Descriptor, Entries, Entry, OutOfMemory, Request, Text};
+use script_lines::ScriptLines;
 use script_run::Line;
 use std::alloc::Global;
-use worker_run::ScriptLines;
 
 // Room for a value's text: a letter and the digits of a u32.
 const LONGEST_VALUE: usize = 11;

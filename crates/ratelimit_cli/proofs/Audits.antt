@@ -8,7 +8,7 @@ use Rattle.rate_types.specs.declared.refused.At.{At}
 use Rattle.rate_io.specs.Events.{FileEvent, given}
 use Rattle.descriptor_tree.specs.Trees.{DomainTree}
 use Rattle.config_json.specs.Reading.{reading_of}
-use Rattle.drive_run.specs.Script.{script_of}
+use Rattle.script_text.specs.Script.{script_of}
 use Rattle.run_audit.specs.Verdict.{IsVerdict}
 use Rattle.cli_exits.specs.declared.limits.TheConstants.{MOST_RUN_BYTES}
 use Rattle.command_words.specs.Words.{command_of}

@@ -4,7 +4,8 @@ ghost use Rattle.rate_types.specs.declared.limits.TheConstants.{MOST_CELLS};
 ghost use Rattle.std.specs.Prelude.{◌≤◌, IfOk};
 
 use descriptor_tree::{Config, Forest, Node, Policy, Texts, Tree};
-use drive_run::{Script, Setup, drive_script};
+use drive_run::{Setup, drive_script};
+use script_text::Script;
 use rate_types::{RuleId, Seconds, Text, Unit};
 use reply_text::{Outcome, Record};
 use rls_core::{Count, Total, status_for};

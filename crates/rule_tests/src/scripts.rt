@@ -1,4 +1,4 @@
-use drive_run::Script;
+use script_text::Script;
 use script_run::Line;
 use std::alloc::Global;
 use std::test::Fail;

@@ -9,11 +9,11 @@ ghost use Rattle.worker_run.specs.Clauses.{first_version};
 
 use crate::gate::Gate;
 use crate::running::run_lines;
-use crate::script_lines::ScriptLines;
 use counter_cells::CellNaming;
 use rate_limiter::{Limiter, Pass};
 use rate_types::{OutOfMemory, Seconds};
 use rls_core::Totals;
+use script_lines::ScriptLines;
 use script_run::RunJournals;
 use std::alloc::Global;
 use std::sync::Wait;

@@ -1,6 +1,6 @@
 //! Workers that run the lines of a script side by side on one limiter.
 //!
-//! Each [`Worker`] owns a pass and a drawer of line numbers. It draws a line, reads it ([`ScriptLines`]), runs it through its pass, and
+//! Each [`Worker`] owns a pass and a drawer of line numbers. It draws a line, reads it (`script_lines`), runs it through its pass, and
 //! writes the record into its own journal, until there are no more lines ([`work`]). A [`Gate`] is told before and after each line.
 //!
 //! [`run_lines`] runs a worker for each pass, each in a thread of its own where threads can be made, joins them, and puts the
@@ -18,11 +18,9 @@ mod finishing;
 mod gate;
 mod lines;
 mod running;
-mod script_lines;
 mod working;
 
 pub use finishing::{Finished, run_script};
 pub use gate::{Gate, Open};
 pub use running::run_lines;
-pub use script_lines::ScriptLines;
 pub use working::{Shared, Worked, Worker, work};

@@ -9,12 +9,12 @@ ghost use Rattle.std.specs.List.{AllByRecursion};
 ghost use Rattle.worker_run.specs.Parts.{IsReady, IsDone, AreWorkers, AreDone};
 
 use crate::gate::Gate;
-use crate::script_lines::ScriptLines;
 use crate::working::{Shared, Worked, Worker, work};
 use counter_cells::CellNaming;
 use line_numbers::{BatchDrawer, Batches};
 use rate_limiter::{Limiter, Pass};
 use rate_types::{OutOfMemory, Seconds};
+use script_lines::ScriptLines;
 use script_run::{Journal, RunJournals, merge};
 use std::alloc::{AllocError, Global};
 use std::sync::Wait;

@@ -9,7 +9,6 @@ ghost use Rattle.worker_run.specs.Journal.{HasWorked};
 
 use crate::gate::Gate;
 use crate::lines::run_line;
-use crate::script_lines::ScriptLines;
 use counter_cells::CellNaming;
 use json::Scratch;
 use line_numbers::{BatchDrawer, Batches};
@@ -17,6 +16,7 @@ use rate_limiter::{Limiter, Pass};
 use rate_types::{OutOfMemory, Seconds};
 use reply_text::Record;
 use rls_core::Reply;
+use script_lines::ScriptLines;
 use script_run::Journal;
 use std::alloc::Global;
 use std::sync::Wait;

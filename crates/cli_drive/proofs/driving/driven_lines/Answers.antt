@@ -3,8 +3,8 @@ use Rattle.std.specs.Arc.{arc_value}
 use Rattle.descriptor_tree.specs.Trees.{DomainTree}
 use Rattle.descriptor_tree.specs.Views.{config_view}
 use Rattle.script_run.specs.ScriptLine.{ScriptLine}
-use Rattle.drive_run.specs.Script.{script_of}
-use Rattle.drive_run.specs.Views.{script_view}
+use Rattle.script_text.specs.Script.{script_of}
+use Rattle.script_text.specs.Views.{script_view}
 use Rattle.script_run.specs.Run.{IsRun}
 use Rattle.script_run.specs.Totals.{AreTotalsOf}
 use Rattle.cli_drive.specs.Driven.{lines_of}

@@ -1,9 +1,0 @@
-use Rattle.std.proofs.Common.{◌≡◌, ◌++◌, ◌∷◌, take, string_bytes}
-use Rattle.drive_run.specs.Pointers.{IsStep}
-use Rattle.drive_run.proofs.within.behind.Given as goal
-
-abbrev pub invariant-steps : goal.invariant-steps
-invariant-steps l = record {
-  far : l.place ++ 47 ∷ string_bytes l.step ≡ l.fn.base ++ 47 ∷ take l.index l.steps;
-  step : IsStep (string_bytes l.step);
-}

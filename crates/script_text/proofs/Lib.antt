@@ -1,0 +1,5 @@
+pub mod Plain
+pub mod Reloads
+mod Lines
+mod UsualLine
+mod LineStarts
