@@ -1,4 +1,5 @@
 pub mod Quota
+pub mod Allowances
 pub mod Replayed
 pub mod Pooled
 pub mod Parts

@@ -8,6 +8,7 @@ use Rattle.quota_stream.specs.Runs.{HasTooLong}
 use Rattle.command_words.specs.Words.{command_of}
 use Rattle.cli_exits.specs.Jobs.{files_of}
 use Rattle.cli_quota.specs.Quota.{settings_of, streams_output}
+use Rattle.cli_quota.specs.Allowances.{KeepAllowances}
 use Rattle.command_words.specs.declared.command.Command.TheVariants.{Quota}
 use Rattle.command_words.specs.declared.command.QuotaJob.{QuotaJob}
 use Rattle.cli_exits.specs.World.{World, AreFilesOf, NothingRead}
@@ -29,13 +30,15 @@ abbrev pub HasLongStream : World → Type 0
 HasLongStream w = (job : QuotaJob) × ((settings : AllSettings) × ((says : QuotaSays w job (Ok (Some settings)))
     × ((read : ℕ) × HasTooLong says.streams read)))
 
--- the outputs of the streams of `quota` by its settings, one after the other; the input wasn't read
+-- The outputs of the streams of `quota` by its settings, one after the other, in which no bucket lets more pass than its strategy in
+-- force has; the input wasn't read.
 pub record IsReplayed (w : World) (job : QuotaJob) (pieces : List (List ℕ)) : Type 0 where
   pub settings : AllSettings
   pub says : QuotaSays w job (Ok (Some settings))
   pub short : All IsShort says.streams
   pub unread : NothingRead w
   pub replayed : pieces ≡ streams_output settings says.streams
+  pub allowances : KeepAllowances settings 0 says.streams
 
 -- a settings file without refusal, and streams that aren't too long
 abbrev pub AreReplayable : List (List ℕ) → Type 0

@@ -13,6 +13,7 @@ use Rattle.cli_quota.specs.Replayed.{QuotaSays}
 use Rattle.ratelimit_cli.specs.Exits.{IsOutput, Explains}
 use Rattle.cli_exits.specs.Parts.{IsOfFiles, IsOfConfig, IsOfInput, IsOfOutput, Sinks}
 use Rattle.cli_quota.specs.Parts.{IsOfReplay, Replays}
+use Rattle.cli_quota.proofs.Allowing.{allowances_kept}
 use Rattle.command_words.specs.declared.command.Command.{Command}
 use Rattle.command_words.specs.declared.command.Command.TheVariants.{Quota}
 use Rattle.command_words.specs.declared.command.QuotaJob.{QuotaJob}
@@ -142,4 +143,5 @@ module _ (w : World) (job : QuotaJob) (is : command_of w.words ≡ Some (Quota j
     short = h.short;
     unread = unread;
     replayed = h.replayed;
+    allowances = allowances_kept h.settings 0 streams;
   }
