@@ -4,24 +4,7 @@ top=$(cd "$(dirname "${BASH_SOURCE[0]}")/.." && pwd)
 work=$(mktemp -d)
 trap 'rm -rf "$work"' EXIT
 
-# The libraries that crates.txt lists for a crate.
-listed() {
-    sed -n "s/^$1\( [^:]*\)\{0,1\}://p" "$top/crates.txt"
-}
-
-# Copies a crate of the repository, with those that it stands on and what earlier checks kept, into the script's folder.
-take_crate() {
-    local crate=$1 low part
-    [ ! -d "$work/crates/$crate" ] || return 0
-    mkdir -p "$work/crates/$crate"
-    for part in src specs proofs out; do
-        [ ! -d "$top/crates/$crate/$part" ] || cp -r "$top/crates/$crate/$part" "$work/crates/$crate/"
-    done
-    grep "^$crate[: ]" "$top/crates.txt" >>"$work/crates.txt"
-    for low in $(listed "$crate"); do
-        [ ! -d "$top/crates/$low" ] || take_crate "$low"
-    done
-}
+. "$top/tools/crates.sh"
 
 # bench_program NAME LIBRARY..: begins a program of the script's own over these crates and libraries. The script then writes
 # $work/crates/NAME/src/main.rt and what proofs it needs.
@@ -30,7 +13,7 @@ bench_program() {
     shift
     cp "$top/HANDLES" "$work/"
     for low in "$@"; do
-        [ ! -d "$top/crates/$low" ] || take_crate "$low"
+        [ ! -d "$top/crates/$low" ] || take_crates "$top" "$low" "$work" src specs proofs || exit 1
     done
     printf '%s: %s\n' "$name" "$*" >>"$work/crates.txt"
     mkdir -p "$work/crates/$name/src"
