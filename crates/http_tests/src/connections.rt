@@ -68,7 +68,7 @@ impl Checks for TwoAMinute {
 }
 
 // What is written for these bytes, given in pieces of so many, and how the connection ends.
-fn served<R: Wait>(
+pub fn served<R: Wait>(
     rt: &R,
     alloc: Global,
     bytes: &str,
@@ -110,22 +110,22 @@ fn served_between<R: Wait>(
     Ok((String::from_utf8(Vec::from_slice(alloc, written)?)?, end))
 }
 
-const CHECK: &str =
+pub const CHECK: &str =
     "POST /json HTTP/1.1\r\nContent-Length: 68\r\n\r\n{\"domain\":\"d\",\"descriptors\":[{\"entries\":[{\"key\":\"k\",\"value\":\"a\"}]}]}";
 
-const HEALTH: &str = "GET /healthcheck HTTP/1.1\r\n\r\n";
+pub const HEALTH: &str = "GET /healthcheck HTTP/1.1\r\n\r\n";
 
-const FIRST: &str =
+pub const FIRST: &str =
     "HTTP/1.1 200 OK\r\nContent-Type: application/json\r\nContent-Length: 146\r\n\r\n\
     {\"overallCode\":\"OK\",\"statuses\":[{\"code\":\"OK\",\"currentLimit\":{\"requestsPerUnit\":2,\"unit\":\"MINUTE\"},\
     \"durationUntilReset\":\"55s\",\"limitRemaining\":1}]}";
 
-const SECOND: &str =
+pub const SECOND: &str =
     "HTTP/1.1 200 OK\r\nContent-Type: application/json\r\nContent-Length: 127\r\n\r\n\
     {\"overallCode\":\"OK\",\"statuses\":[{\"code\":\"OK\",\"currentLimit\":{\"requestsPerUnit\":2,\"unit\":\"MINUTE\"},\
     \"durationUntilReset\":\"55s\"}]}";
 
-const THIRD: &str =
+pub const THIRD: &str =
     "HTTP/1.1 429 Too Many Requests\r\nContent-Type: application/json\r\nContent-Length: 143\r\n\r\n\
     {\"overallCode\":\"OVER_LIMIT\",\"statuses\":[{\"code\":\"OVER_LIMIT\",\"currentLimit\":{\"requestsPerUnit\":2,\"unit\":\
     \"MINUTE\"},\"durationUntilReset\":\"55s\"}]}";
@@ -133,7 +133,8 @@ const THIRD: &str =
 const FULL: &str =
     "HTTP/1.1 503 Service Unavailable\r\nContent-Type: text/plain\r\nContent-Length: 19\r\n\r\nService Unavailable";
 
-const HEALTHY: &str = "HTTP/1.1 200 OK\r\nContent-Type: text/plain\r\nContent-Length: 2\r\n\r\nOK";
+pub const HEALTHY: &str =
+    "HTTP/1.1 200 OK\r\nContent-Type: text/plain\r\nContent-Length: 2\r\n\r\nOK";
 
 #[test]
 fn requests_are_answered_in_order(rt: HostRuntime) -> Result<(), Fail> {

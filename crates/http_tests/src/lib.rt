@@ -5,3 +5,5 @@
 mod connections;
 #[cfg(test)]
 mod fronts;
+#[cfg(test)]
+mod hostile;
