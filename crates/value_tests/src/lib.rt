@@ -7,6 +7,8 @@ mod fields;
 #[cfg(test)]
 mod lines;
 #[cfg(test)]
+mod numbers;
+#[cfg(test)]
 mod values;
 #[cfg(test)]
 mod windows;
