@@ -107,7 +107,7 @@ run --version </dev/null >"$out" 2>"$err"
 judge version $? 0 "$work/version"
 
 run --help </dev/null >"$out" 2>"$err"
-judge help $? 0 -
+judge help $? 0 "$here/help.out"
 
 run --help drive </dev/null >"$out" 2>"$err"
 judge help-with-a-word $? 1 "$none" 'ratelimit: usage'
@@ -228,6 +228,122 @@ printf '{"domain":"d","descriptors":[{"key":"a","rateLimit":{"unit":"DAY","reque
     >"$work/key.json"
 run drive "$work/key.json" <"$script" >"$out" 2>"$err"
 judge empty-key $? 2 "$none" 'config 0: refused 12 at /descriptors/1'
+
+# Deep, wide, long and cut input (docs/CASES.md).
+
+# repeated PIECE COUNT
+repeated() {
+    printf '%0*d' "$2" 0 | sed "s|0|$1|g"
+}
+
+# record LINE PLACE NUMBER: the record of a refused line
+record() {
+    printf '{"line":%s,"moment":0,"refused":{"at":"%s","number":%s},"version":0,"worker":0}\n' "$1" "$2" "$3"
+}
+
+{ repeated '[' 1000; repeated ']' 1000; } >"$work/brackets"
+run drive "$work/brackets" <"$script" >"$out" 2>"$err"
+judge file-of-1000-brackets $? 2 "$none" 'config 0: refused 1 at'
+
+# levels COUNT: a file of nodes each below the one before
+levels() {
+    printf '{"domain":"d"%s%s}' "$(repeated ',"descriptors":[{"key":"k"' "$1")" "$(repeated '}]' "$1")"
+}
+levels 32 >"$work/levels.json"
+run drive "$work/levels.json" </dev/null >"$out" 2>"$err"
+judge 32-levels $? 0 "$none"
+
+levels 33 >"$work/levels.json"
+run drive "$work/levels.json" <"$script" >"$out" 2>"$err"
+judge 33-levels $? 2 "$none" "config 0: refused 16 at $(repeated '/descriptors/X' 33 | tr X 0)"
+
+# nodes COUNT: a file of nodes with different keys in one list
+nodes() {
+    printf '{"domain":"d","descriptors":[%s]}' "$(seq "$1" | sed 's/.*/{"key":"k&"}/' | paste -sd,)"
+}
+nodes 65536 >"$work/nodes.json"
+run drive "$work/nodes.json" </dev/null >"$out" 2>"$err"
+judge 65536-nodes $? 0 "$none"
+
+nodes 65537 >"$work/nodes.json"
+run drive "$work/nodes.json" <"$script" >"$out" 2>"$err"
+judge 65537-nodes $? 2 "$none" 'config 0: refused 17 at /descriptors/65536'
+
+printf '{"domain":"d","descriptors":[{"key":"%s"}]}' "$(repeated k 1025)" >"$work/key.json"
+run drive "$work/key.json" <"$script" >"$out" 2>"$err"
+judge key-of-1025-bytes $? 2 "$none" 'config 0: refused 18 at /descriptors/0/key'
+
+# check DESCRIPTORS: a line
+check() {
+    printf '{"check":{"domain":"shop","descriptors":[%s]}}\n' "$1"
+}
+user='{"entries":[{"key":"user","value":"ann"}]}'
+{
+    cat "$work/brackets"
+    printf '\n'
+    check "{\"entries\":[{\"key\":\"$(repeated k 1025)\",\"value\":\"ann\"}]}"
+    check "{\"entries\":[{\"key\":\"user\",\"value\":\"$(repeated v 1025)\"}]}"
+    check "$user$(repeated ",$user" 32)"
+    check "{\"entries\":[{\"key\":\"user\"}$(repeated ',{"key":"user"}' 32)]}"
+    check "$user"
+} >"$work/long.jsonl"
+{
+    record 1 '' 1
+    record 2 /check/descriptors/0/entries/0/key 26
+    record 3 /check/descriptors/0/entries/0/value 26
+    record 4 /check/descriptors 22
+    record 5 /check/descriptors/0/entries 25
+    printf '{"counts":[{"before":0}],"line":6,"moment":0,"reply":{"overallCode":"OK","statuses":[{"code":"OK","currentLimit":%s,%s}]},%s}\n' \
+        '{"requestsPerUnit":2,"unit":"MINUTE"}' '"durationUntilReset":"60s","limitRemaining":1' '"version":0,"worker":0'
+    printf '{"charged":1,"counter":{"domain":"shop","entries":[{"key":"user","value":"ann"}],"start":0,"unit":"MINUTE"}}\n'
+} >"$work/long.out"
+run drive "$config" <"$work/long.jsonl" >"$out" 2>"$err"
+judge lines-above-each-limit $? 0 "$work/long.out"
+
+# 32 descriptors of one counter, and 32 entries, are taken.
+{ check "$user$(repeated ",$user" 31)"; check "{\"entries\":[{\"key\":\"user\"}$(repeated ',{"key":"user"}' 31)]}"; } |
+    run drive "$config" 2>"$err" | grep -o '"before":[0-9]*\|"seen":[0-9]*\|null\|refused' >"$out"
+status=${PIPESTATUS[1]}
+{ printf '"before":0\n"before":1\n"before":2\n'; repeated '"seen":3X' 29 | tr X '\n'; printf 'null\n'; } >"$work/counts"
+judge lines-at-each-limit "$status" 0 "$work/counts"
+
+# cut NAME LINES FILE WANTED WORD..: the command over a file that is cut after each of its LINES has WANTED lines of the whole output,
+# of which each cut adds one but where WANTED, a list of LINE:COUNT, says another number. The word FILE stands for the cut file.
+cut_after_each_line() {
+    local name=$1 file=$2 whole=$3 more=$4 status=0 wrong= line wanted=0
+    shift 4
+    for line in $(seq 0 "$(wc -l <"$file")"); do
+        case $more in
+        *" $line:"*) wanted=${more#* "$line":} wanted=${wanted%% *} ;;
+        *) [ "$line" = 0 ] || wanted=$((wanted + 1)) ;;
+        esac
+        head -n "$line" "$file" >"$work/cut"
+        run "$@" "$work/cut" </dev/null >"$out" 2>"$err" || status=$?
+        head -n "$wanted" "$whole" | cmp -s - "$out" || wrong="$wrong $line"
+    done
+    printf '%s' "$wrong" >"$out"
+    judge "$name" "$status" 0 "$none"
+}
+# The first report of a bucket stands behind its first decision, and one that falls due before the decision of its line.
+cut_after_each_line stream-cut-after-each-line "$top/examples/quota.jsonl" "$here/quota.out" ' 1:2 13:15 ' \
+    quota --settings "$top/examples/quota.json"
+cut_after_each_line reports-cut-after-each-line "$top/examples/reports.jsonl" "$here/pool.out" ' ' pool --pools "$top/examples/pool.json"
+
+# A script whose last line is cut after each of its bytes: that line alone is refused, and the line before it has its record.
+printf '{"tick":65}' >"$work/tick"
+: >"$out"
+: >"$work/ticks"
+status=0
+for bytes in $(seq 0 11); do
+    { printf '{"tick":7}\n'; head -c "$bytes" "$work/tick"; } | run drive "$config" >>"$out" 2>"$err" || status=$?
+    printf '{"line":1,"moment":7,"ticked":7,"version":0,"worker":0}\n' >>"$work/ticks"
+    case $bytes in
+    0) ;;
+    11) printf '{"line":2,"moment":65,"ticked":65,"version":0,"worker":0}\n' ;;
+    *) record 2 '' 1 | sed 's/"moment":0/"moment":7/' ;;
+    esac >>"$work/ticks"
+done
+judge script-cut-inside-its-last-line "$status" 0 "$work/ticks"
 
 # Runs that succeed.
 

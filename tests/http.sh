@@ -27,7 +27,8 @@ while [ $(($(date +%s) % 86400)) -ge 86340 ]; do sleep 1; done
 cat >"$work/limits.json" <<'END'
 {"domain":"d","descriptors":[
   {"key":"k","rateLimit":{"unit":"DAY","requestsPerUnit":2}},
-  {"key":"many","rateLimit":{"unit":"DAY","requestsPerUnit":5000}}]}
+  {"key":"many","rateLimit":{"unit":"DAY","requestsPerUnit":5000}},
+  {"key":"second","rateLimit":{"unit":"SECOND","requestsPerUnit":1}}]}
 END
 
 # same NAME WANTED FOUND
@@ -40,12 +41,13 @@ same() {
     fi
 }
 
-# start CONNECTIONS WORD..: the server, and its port
+# start CONNECTIONS WORD..: the server at $asked, and the port that it tells
+asked=0
 start() {
     local connections=$1
     shift
     : >"$work/out"
-    timeout 120 "$program" serve --port 0 --connections "$connections" "$@" "$work/limits.json" \
+    timeout 120 "$program" serve --port "$asked" --connections "$connections" "$@" "$work/limits.json" \
         </dev/null >"$work/out" 2>"$work/err" &
     server=$!
     port=
@@ -100,6 +102,58 @@ same "the connections with two requests" 2 "$(grep -c '"answers":2,' "$work/out"
 same "the connection that was cut" 1 "$(grep -c '"end":"CUT_SHORT"' "$work/out")"
 same "the last line" '{"answers":0,"connection":14,"end":"CUT_SHORT"}' "$(tail -1 "$work/out")"
 
+# A window of a second ends on a connection that is kept.
+start 1
+same "a limit of one hit a second" '200 429 200' "$(timeout 60 python3 "$here/http_client.py" window "$port")"
+ended "the server of one window" 2
+
+# Two requests of 29 and 114 bytes, cut after each of their bytes.
+start 144
+same "the answers of connections that are cut" '29 114 1' "$(timeout 60 python3 "$here/http_client.py" cut "$port")"
+ended "the server of cut connections" 145
+same "the connections that end between requests" '0 29 143' \
+    "$(sed -n 's/.*"connection":\([0-9]*\),"end":"ENDED".*/\1/p' "$work/out" | tr '\n' ' ' | sed 's/ $//')"
+same "those that end inside one" 141 "$(grep -c '"end":"CUT_SHORT"' "$work/out")"
+
+# Requests whose answer closes the connection: what stands behind has no answer.
+long() {
+    printf '%0*d' "$1" 0
+}
+start 8
+same "16384 bytes without an end" 'HTTP/1.1 431 ' \
+    "$(printf 'GET / HTTP/1.1\r\nA: %s' "$(long 16365)" | timeout 20 python3 "$here/http_client.py" raw "$port" | grep -o 'HTTP/1.1 [0-9]* ')"
+for request in \
+    "413 POST /json HTTP/1.1\r\nContent-Length: 1048577\r\n\r\n" \
+    "400 POST /json HTTP/1.1\r\nContent-Length: 99999999999\r\n\r\n" \
+    "411 POST /json HTTP/1.1\r\n\r\n" \
+    "431 GET / HTTP/1.1$(long 65 | sed 's/0/\\nA:/g')\n\n" \
+    "400 GET /healthcheck\r\n\r\n" \
+    "404 GET / HTTP/1.0\r\n\r\n" \
+    "404 GET / HTTP/1.1\r\nConnection: close\r\n\r\n"; do
+    same "an answer that closes: ${request:0:40}" "HTTP/1.1 ${request:0:3} " \
+        "$(printf "${request:4}GET /healthcheck HTTP/1.1\r\n\r\n" | timeout 20 python3 "$here/http_client.py" raw "$port" | grep -o 'HTTP/1.1 [0-9]* ')"
+done
+ended "the server of closing answers" 9
+same "their connections" 8 "$(grep -c '"answers":1,"connection":[0-7],"end":"CLOSED"' "$work/out")"
+
+# The port that is asked for, of which the loopback address alone is listened on.
+for _ in $(seq 5); do
+    asked=$(python3 -c 'import socket; s = socket.socket(); s.bind(("127.0.0.1", 0)); print(s.getsockname()[1])')
+    start 1
+    [ -n "$port" ] && break
+    wait "$server"
+done
+same "the port that is asked for" "$asked" "$port"
+same "the addresses that are listened on" 0100007F \
+    "$(awk -v port="$(printf '%04X' "$asked")" '$4 == "0A" && sub(":" port "$", "", $2) { print $2 }' /proc/net/tcp /proc/net/tcp6 | tr '\n' ' ' | sed 's/ $//')"
+timeout 20 "$program" serve --port "$asked" --connections 1 "$work/limits.json" </dev/null >"$work/taken" 2>"$work/taken.err"
+same "a port that is taken" 8 "$?"
+same "its output" '' "$(cat "$work/taken")"
+same "its text" 'ratelimit: listen failed' "$(cat "$work/taken.err")"
+same "the server that has the port" 200 "$(status "$url/healthcheck")"
+ended "the server of the asked port" 2
+asked=0
+
 start 2 --cells 1
 same "the counter that has the one cell" 200 "$(status -d "$ask" "$url/json")"
 same "the counter that finds none" 503 "$(status -d "${ask/\"a\"/\"b\"}" "$url/json")"
@@ -109,6 +163,10 @@ start 4 --workers 2
 same "a kept idle connection doesn't hold up others with two workers" '3 1' "$(timeout 60 python3 "$here/http_client.py" idle "$port" 1 3)"
 ended "the server of two workers" 5
 same "the lines stand in the order of accepting" '0 1 2 3' "$(sed -n 's/.*"connection":\([0-9]*\).*/\1/p' "$work/out" | tr '\n' ' ' | sed 's/ $//')"
+
+start 4
+same "by default three kept idle connections don't hold up another one" '1 3' "$(timeout 60 python3 "$here/http_client.py" idle "$port" 3 1)"
+ended "the server of the default workers" 5
 
 start 64 --workers 64
 same "64 connections at once" 64 "$(timeout 60 python3 "$here/http_client.py" beside "$port" 64)"

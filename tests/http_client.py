@@ -5,10 +5,16 @@ beside PORT N        N connections that are open at once ask for the health chec
 idle PORT K N        K connections are kept open and ask nothing, while N others, one after the other, ask for the health check, each within
                      5 seconds; then each of the K asks too. Prints how many of the N and of the K are answered 200
 many PORT N M        N connections ask M times each on one key, in pieces of 100; prints how many answers are 200
+cut PORT             a health check and a check are sent on connections of their own, cut after each of their bytes; prints how many
+                     connections got so many answers, none, one and two
+window PORT          one connection asks for a limit of one hit a second: twice in one second, and again in a later one; prints the three
+                     statuses
 """
+import re
 import socket
 import sys
 import threading
+import time
 
 BODY = b'{"domain":"d","descriptors":[{"entries":[{"key":"many","value":"a"}]}]}'
 CHECK = b"POST /json HTTP/1.1\r\nContent-Length: %d\r\n\r\n" % len(BODY) + BODY
@@ -52,6 +58,39 @@ def idle(port, kept, count):
     print(answered, sum(read_all(link).startswith(b"HTTP/1.1 200 ") for link in links))
 
 
+def cut(port):
+    whole = b"GET /healthcheck HTTP/1.1\r\n\r\n" + CHECK
+    found = [0, 0, 0]
+    for length in range(len(whole) + 1):
+        with connected(port) as link:
+            link.sendall(whole[:length])
+            link.shutdown(socket.SHUT_WR)
+            statuses = re.findall(rb"HTTP/1\.1 (\d+) ", read_all(link))
+            if statuses == [b"200"] * len(statuses):
+                found[len(statuses)] += 1
+    print(*found)
+
+
+def window(port):
+    with connected(port) as link:
+        file = link.makefile("rb")
+
+        def status(value):
+            body = b'{"domain":"d","descriptors":[{"entries":[{"key":"second","value":"%d"}]}]}' % value
+            link.sendall(b"POST /json HTTP/1.1\r\nContent-Length: %d\r\n\r\n" % len(body) + body)
+            return read_answer(file)
+
+        # Another counter each time, until both requests were answered in the second in which the first was sent.
+        for value in range(60):
+            second = int(time.time())
+            statuses = [status(value), status(value)]
+            if int(time.time()) == second:
+                break
+        while int(time.time()) == second:
+            time.sleep(0.01)
+        print(*statuses, status(value))
+
+
 def ask(port, times, found, at):
     with connected(port) as link:
         for _ in range(times // 100):
@@ -62,15 +101,18 @@ def ask(port, times, found, at):
 def read_answers(link, count):
     """How many of so many answers have status 200."""
     file = link.makefile("rb")
-    admitted = 0
-    for _ in range(count):
-        admitted += file.readline().startswith(b"HTTP/1.1 200 ")
-        length = 0
-        while (line := file.readline().strip().lower()) != b"":
-            if line.startswith(b"content-length:"):
-                length = int(line.split(b":")[1])
-        file.read(length)
-    return admitted
+    return sum(read_answer(file) == 200 for _ in range(count))
+
+
+def read_answer(file):
+    """The status of the next answer, which is read whole."""
+    status = int(file.readline().split(b" ")[1])
+    length = 0
+    while (line := file.readline().strip().lower()) != b"":
+        if line.startswith(b"content-length:"):
+            length = int(line.split(b":")[1])
+    file.read(length)
+    return status
 
 
 def many(port, count, times):
@@ -84,4 +126,4 @@ def many(port, count, times):
 
 
 if __name__ == "__main__":
-    {"raw": raw, "beside": beside, "idle": idle, "many": many}[sys.argv[1]](*map(int, sys.argv[2:]))
+    {"raw": raw, "beside": beside, "idle": idle, "many": many, "cut": cut, "window": window}[sys.argv[1]](*map(int, sys.argv[2:]))
