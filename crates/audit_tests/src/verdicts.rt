@@ -1,8 +1,8 @@
 // Printed runs, judged: which clause each tampered run breaks.
 use config_json::read_config;
-use script_text::Script;
 use rate_types::{Blob, Blobs, Seconds};
 use run_audit::{Clause, Setup, Verdict, audit};
+use script_text::Script;
 use std::alloc::Global;
 use std::sync::Arc;
 use std::test::Fail;

@@ -17,10 +17,10 @@ ghost use Rattle.command_words.specs.declared.command.Command.TheVariants.{Audit
 use cli_exits::{Exit, MOST_RUN_BYTES, read_files, write_line};
 use command_words::AuditJob;
 use descriptor_tree::Config;
-use script_text::{Script, ScriptFault};
 use rate_io::{FileFault, Files, Sink};
 use rate_types::{Blob, Blobs, OutOfMemory};
 use run_audit::{Setup, Verdict, audit};
+use script_text::{Script, ScriptFault};
 use std::alloc::Global;
 use std::sync::Arc;
 

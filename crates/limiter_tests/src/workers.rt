@@ -4,13 +4,13 @@ ghost use Rattle.counter_cells.specs.Opened.{table_of, setup_of};
 
 use crate::configs::config;
 use counter_cells::{CellNaming, OpenedCells};
-use script_text::Script;
 use rate_limiter::{Limiter, Limits};
 use rate_types::Seconds;
 use rate_types::limits::MOST_CLAIMS;
 use reply_text::{Outcome, Record};
 use rls_core::{Count, Status};
 use script_run::RunRecords;
+use script_text::Script;
 use std::alloc::Global;
 use std::hash::RandomState;
 use std::marker::Brand;

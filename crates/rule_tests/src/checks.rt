@@ -5,12 +5,12 @@ ghost use Rattle.std.specs.Prelude.{◌≤◌, IfOk};
 
 use descriptor_tree::{Config, Forest, Node, Policy, Texts, Tree};
 use drive_run::{Setup, drive_script};
-use script_text::Script;
 use rate_types::{RuleId, Seconds, Text, Unit};
 use reply_text::{Outcome, Record};
 use rls_core::{Count, Total, status_for};
 use rule_lookup::Found;
 use script_run::RunJournals;
+use script_text::Script;
 use std::alloc::Global;
 use std::hash::RandomState;
 use std::random::RandomSource;

@@ -1,5 +1,5 @@
-use script_text::Script;
 use script_run::Line;
+use script_text::Script;
 use std::alloc::Global;
 use std::test::Fail;
 
