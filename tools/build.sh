@@ -11,34 +11,39 @@ fail() {
     printf '%s\n' "$1" >&2
     exit 1
 }
-[ "$#" -ge 1 ] || fail 'usage: tools/build.sh PROGRAM [TOP]'
-program=$1
-top=$(cd "${2:-$here/..}" && pwd -P) || exit 1
-closure_of "$top" "$program" >/dev/null || fail "$program: crates.txt has no such crate"
-[ -f "$top/crates/$program/src/main.rt" ] || fail "$program is a library, and this builds programs: rt ci $program proves it"
 
-room=$(mktemp -d) && room=$(realpath "$room") || exit 1
-trap 'rm -rf "$room"' EXIT
-# (rt takes it for the top of a repository)
-mkdir -p "$room/copy/.git"
-touch "$room/begun"
-[ ! -e "$top/HANDLES" ] || cp "$top/HANDLES" "$room/copy/"
-take_crates "$top" "$program" "$room/copy" src specs proofs stdin stdout args status data || fail 'the crates could not be copied'
-python3 "$here/build_lines.py" "$room/copy" "$top" "$program" &
-lines=$!
-trap 'kill "$lines" 2>/dev/null' INT TERM HUP
-wait "$lines"
-status=$?
-# (a signal ends the wait before the process)
-while kill -0 "$lines" 2>/dev/null; do
+# (a function, so that a change of this file meanwhile is of no matter)
+main() {
+    [ "$#" -ge 1 ] || fail 'usage: tools/build.sh PROGRAM [TOP]'
+    program=$1
+    top=$(cd "${2:-$here/..}" && pwd -P) || exit 1
+    closure_of "$top" "$program" >/dev/null || fail "$program: crates.txt has no such crate"
+    [ -f "$top/crates/$program/src/main.rt" ] || fail "$program is a library, and this builds programs: rt ci $program proves it"
+
+    room=$(mktemp -d) && room=$(realpath "$room") || exit 1
+    trap 'rm -rf "$room"' EXIT
+    # (rt takes it for the top of a repository)
+    mkdir -p "$room/copy/.git"
+    touch "$room/begun"
+    [ ! -e "$top/HANDLES" ] || cp "$top/HANDLES" "$room/copy/"
+    take_crates "$top" "$program" "$room/copy" src specs proofs stdin stdout args status data || fail 'the crates could not be copied'
+    python3 "$here/build_lines.py" "$room/copy" "$top" "$program" &
+    lines=$!
+    trap 'kill "$lines" 2>/dev/null' INT TERM HUP
     wait "$lines"
     status=$?
-done
-[ "$status" -eq 0 ] || exit "$status"
+    # (a signal ends the wait before the process)
+    while kill -0 "$lines" 2>/dev/null; do
+        wait "$lines"
+        status=$?
+    done
+    [ "$status" -eq 0 ] || exit "$status"
 
-# A source that was changed meanwhile is newer than the program.
-out=$top/crates/$program/out
-mkdir -p "$out"
-cp "$room/copy/crates/$program/out/$program" "$out/$program.$$" || exit 1
-touch -r "$room/begun" "$out/$program.$$"
-mv -f "$out/$program.$$" "$out/$program"
+    # A source that was changed meanwhile is newer than the program.
+    out=$top/crates/$program/out
+    mkdir -p "$out"
+    cp "$room/copy/crates/$program/out/$program" "$out/$program.$$" || exit 1
+    touch -r "$room/begun" "$out/$program.$$"
+    mv -f "$out/$program.$$" "$out/$program"
+}
+main "$@"; exit
