@@ -1,5 +1,5 @@
 // `drive`: a script, run by several workers.
-ghost use Rattle.std.specs.Prelude.{◌≡◌, ◌≤◌, IfOk, length};
+ghost use Rattle.std.specs.Prelude.{◌≤◌, IfOk, length};
 ghost use Rattle.rate_types.specs.declared.limits.TheConstants.{MOST_LINES};
 ghost use Rattle.rate_io.specs.Events.{Grew};
 ghost use Rattle.descriptor_tree.specs.Views.{config_view};

@@ -4,7 +4,7 @@ use Rattle.std.specs.List.{concat, list_any}
 use Rattle.rate_io.specs.Causes.{Rose}
 use Rattle.rate_io.specs.Content.{Appends}
 use Rattle.rate_io.specs.Events.{Event, Grew}
-use Rattle.rate_io.specs.Listeners.{ListenEvent, IsPortFor, bound, bind_failed, accepted, accept_failed}
+use Rattle.rate_io.specs.Listeners.{ListenEvent, IsPortFor, bound, bind_failed, accept_failed}
 use Rattle.descriptor_tree.specs.Trees.{DomainTree}
 use Rattle.http_endpoint.specs.ServeLines.{listening_line, link_end_line}
 use Rattle.http_endpoint.specs.declared.link_end.LinkEnd.{LinkEnd}

@@ -1,5 +1,5 @@
 -- From what the parts of `pool` answer to what its exit says.
-use Rattle.std.proofs.Common.{◌≡◌, ℕ, List, [], ◌∷◌, Option, Some, Ok, Err, inl, inr}
+use Rattle.std.proofs.Common.{◌≡◌, ℕ, List, [], ◌∷◌, Some, Ok, inl, inr}
 use Rattle.command_words.specs.Words.{command_of}
 use Rattle.cli_exits.specs.Jobs.{files_of}
 use Rattle.cli_exits.specs.World.{World, AreFilesOf, NothingRead, NothingWritten}

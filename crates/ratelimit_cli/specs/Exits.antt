@@ -1,5 +1,5 @@
 -- What each exit of the program says.
-use Rattle.std.specs.Prelude.{◌≡◌, ℕ, ◌≤◌, ◌⊎◌, List, [], ◌∷◌, map, true, false, None, Some, Err}
+use Rattle.std.specs.Prelude.{◌≡◌, ℕ, ◌⊎◌, List, [], ◌∷◌, map, true, false, None, Some, Err}
 use Rattle.std.specs.List.{concat}
 use Rattle.rate_types.specs.declared.refused.At.{At}
 use Rattle.rate_io.specs.Causes.{Rose}

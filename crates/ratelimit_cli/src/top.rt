@@ -1,4 +1,4 @@
-ghost use Rattle.std.specs.Prelude.{◌≡◌, ◌≤◌, ◌∷◌, [], List, ℕ, Some, length};
+ghost use Rattle.std.specs.Prelude.{◌≡◌, ◌≤◌, List, ℕ, Some, length};
 ghost use Rattle.rate_types.specs.declared.limits.TheConstants.{MOST_CELLS, MOST_LINES, MOST_WORKERS};
 ghost use Rattle.rate_io.specs.Events.{Continues, Grew, since};
 ghost use Rattle.descriptor_tree.specs.Views.{config_view};
@@ -9,8 +9,6 @@ ghost use Rattle.ratelimit_cli.specs.Exits.{Explains, ExplainsCall, IsExitOf};
 ghost use Rattle.ratelimit_cli.specs.Parts.{command_with, IsOfWork};
 ghost use Rattle.command_words.specs.Words.{command_of};
 ghost use Rattle.cli_exits.specs.Parts.{IsOfOutput};
-ghost use Rattle.cli_drive.specs.Driven.{IsRunText};
-ghost use Rattle.cli_lookup.specs.Lookup.{lookup_output};
 
 use crate::auditing::audit_files;
 use crate::pool::run_pool;

@@ -1,15 +1,15 @@
-use Rattle.std.proofs.Common.{◌≡◌, ℕ, List, [], ◌∷◌, ◌++◌, inl, inr, refl, sym, ap, ◌∙◌, subst, append_assoc}
+use Rattle.std.proofs.Common.{◌≡◌, [], ◌∷◌, ◌++◌, inl, inr, refl, sym, ap, ◌∙◌, subst, append_assoc}
 use Rattle.std.specs.List.{concat}
 use Rattle.rate_io.specs.Events.{since}
-use Rattle.rate_io.specs.Listeners.{ListenEvent, bound}
+use Rattle.rate_io.specs.Listeners.{bound}
 use Rattle.http_serve.specs.Links.{IsUnused}
 use Rattle.descriptor_tree.specs.Views.{config_view}
 use Rattle.cli_exits.specs.World.{exit_of, WroteUpTo}
 use Rattle.cli_exits.specs.Output.{AppendsFront}
 use Rattle.cli_exits.specs.Parts.{Sinks}
 use Rattle.cli_serve.specs.Served.{Listening, port_line, ExplainsServe, HasBegun}
-use Rattle.cli_serve.specs.Serving.{Found, world_of}
-use Rattle.cli_exits.proofs.Histories.{since_is, grew_since}
+use Rattle.cli_serve.specs.Serving.{world_of}
+use Rattle.cli_exits.proofs.Histories.{since_is}
 use Rattle.cli_serve.proofs.Serving.{unused_bound, serve_exit}
 use Rattle.cli_serve.proofs.serve.listen_and_serve.Goals as goal
 

@@ -1,4 +1,4 @@
-use Rattle.std.proofs.Common.{◌≡◌, ℕ, List, [], map, Ok, inl, inr, refl, ap, subst, rules}
+use Rattle.std.proofs.Common.{◌≡◌, List, [], map, Ok, inl, inr, refl, ap, subst, rules}
 use Rattle.rate_types.specs.declared.limits.TheConstants.{MOST_BYTES}
 use Rattle.rate_io.specs.Events.{since}
 use Rattle.descriptor_tree.specs.Views.{config_view}
