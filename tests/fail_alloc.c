@@ -1,20 +1,23 @@
-/* Preloaded into the program, it fails the one allocation whose number, from 1, FAIL_ALLOC says; 0 fails none. Where ALLOCATIONS names a
-   file, the number of all allocations is written to it when the program ends. For tests/memory.sh. */
+/* Preloaded into the program, it fails the one allocation whose number, from 1, FAIL_ALLOC says; 0 fails none. It counts the allocations in
+   the first eight bytes of the file that ALLOCATIONS names. For tests/memory.sh. */
 #include <errno.h>
+#include <fcntl.h>
 #include <stdatomic.h>
-#include <stdio.h>
 #include <stdlib.h>
+#include <sys/mman.h>
+#include <unistd.h>
 
 extern void *__libc_malloc(size_t size);
 extern void *__libc_calloc(size_t count, size_t size);
 extern void *__libc_realloc(void *old, size_t size);
 extern void *__libc_memalign(size_t align, size_t size);
 
-static atomic_ulong made;
+static atomic_ulong before;
+static atomic_ulong *made = &before;
 static unsigned long failing;
 
 static int fails(void) {
-    if (atomic_fetch_add(&made, 1) + 1 != failing) return 0;
+    if (atomic_fetch_add(made, 1) + 1 != failing) return 0;
     errno = ENOMEM;
     return 1;
 }
@@ -35,16 +38,12 @@ int posix_memalign(void **out, size_t align, size_t size) {
 }
 
 __attribute__((constructor)) static void begin(void) {
-    const char *number = getenv("FAIL_ALLOC");
+    const char *name = getenv("ALLOCATIONS"), *number = getenv("FAIL_ALLOC");
+    int file = name == NULL ? -1 : open(name, O_RDWR | O_CREAT | O_TRUNC, 0600);
+    if (file < 0 || ftruncate(file, sizeof *made) != 0) abort();
+    void *shared = mmap(NULL, sizeof *made, PROT_READ | PROT_WRITE, MAP_SHARED, file, 0);
+    if (shared == MAP_FAILED) abort();
+    close(file);
+    made = shared;
     failing = number == NULL ? 0 : strtoul(number, NULL, 10);
-    atomic_store(&made, 0);
-}
-
-__attribute__((destructor)) static void end(void) {
-    unsigned long count = atomic_load(&made);
-    const char *name = getenv("ALLOCATIONS");
-    FILE *file = name == NULL ? NULL : fopen(name, "w");
-    if (file == NULL) return;
-    fprintf(file, "%lu\n", count);
-    fclose(file);
 }

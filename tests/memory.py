@@ -1,7 +1,7 @@
 #!/usr/bin/env python3
 """Runs the program with one allocation refused, for each of its allocations in turn; tests/memory.sh runs it.
 
-Usage: memory.py PROGRAM LIBRARY    LIBRARY is tests/fail_alloc.c, built
+Usage: memory.py PROGRAM LIBRARY [COMMAND..]    LIBRARY is tests/fail_alloc.c, built
 
 A run ends with status 7 after a prefix of its output in whole lines, or it did without that allocation and its output is whole. A server
 goes on: in the place of one answer stands 500, and the same check is then answered with the counts that it would have had; a cell that it
@@ -19,6 +19,8 @@ import time
 import run_check
 
 HERE = os.path.dirname(os.path.abspath(__file__))
+# After so many seconds without an answer there is none.
+WAITS = 3
 EXAMPLES = os.path.join(HERE, "..", "examples")
 
 
@@ -68,8 +70,8 @@ class Program:
         return child.returncode, out, err
 
     def allocations(self):
-        with open(os.path.join(self.folder, "allocations"), encoding="ascii") as file:
-            return int(file.read())
+        with open(os.path.join(self.folder, "allocations"), "rb") as file:
+            return int.from_bytes(file.read(), sys.byteorder)
 
     def runs(self, words, given=""):
         """The whole output, and how each run ends that lacks one allocation."""
@@ -128,7 +130,7 @@ def asked(port, value):
     head = f"POST /json HTTP/1.1\r\nConnection: close\r\nContent-Length: {len(body)}\r\n\r\n"
     out = b""
     try:
-        with socket.create_connection(("127.0.0.1", port), 10) as link:
+        with socket.create_connection(("127.0.0.1", port), WAITS) as link:
             link.sendall((head + body).encode())
             while piece := link.recv(65536):
                 out += piece
@@ -202,14 +204,15 @@ def serving(program, unit, words):
     whole = Served(program, words, 0, unit)
     want(whole.status == 0 and whole.statuses == [200] * 3, f"with all memory {whole.statuses}, status {whole.status}")
     count = program.allocations()
-    replaced = ended = 0
+    replaced, ended, faults = 0, 0, []
     for failing in range(1, count + 1):
         try:
             served = Served(program, words, failing, unit)
             replaced += judge_served(served, unit)
             ended += served.status == 7
         except Fault as fault:
-            raise Fault(f"allocation {failing}: {fault}") from None
+            faults.append(f"allocation {failing}: {fault}")
+    want(not faults, "; ".join(faults))
     want(replaced > 0, "500 stood nowhere")
     return f"{count} allocations, {replaced} answered 500, {ended} ended the server before its first answer"
 
@@ -240,9 +243,12 @@ def scenarios(program):
 
 def main():
     failed = 0
+    words = sys.argv[3:]
     with tempfile.TemporaryDirectory() as folder:
         program = Program(os.path.abspath(sys.argv[1]), os.path.abspath(sys.argv[2]), folder)
         for name, run in scenarios(program):
+            if words and name.split(",")[0] not in words:
+                continue
             try:
                 print(f"ok {name}: {run()}", flush=True)
             except Fault as fault:

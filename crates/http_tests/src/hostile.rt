@@ -98,20 +98,32 @@ fn each_read_and_each_write_can_fail(rt: HostRuntime) -> Result<(), Fail> {
     Ok(())
 }
 
+// These answers, one behind the other.
+fn joined(alloc: Global, answers: &[&str]) -> Result<String, Fail> {
+    let mut out = String::new(alloc);
+    for answer in answers {
+        out.push_str(answer)?;
+    }
+    Ok(out)
+}
+
+// The call that fails, of a read of two requests, two writes and a read that finds the end, and what is written before.
+const PIPELINED: &[(u64, LinkCause, &[&str])] = &[
+    (1, LinkCause::ReadFault, &[]),
+    (2, LinkCause::WriteFault, &[]),
+    (3, LinkCause::WriteFault, &[HEALTHY]),
+    (4, LinkCause::ReadFault, &[HEALTHY, HEALTHY]),
+    (5, LinkCause::Ended, &[HEALTHY, HEALTHY]),
+];
+
 #[test]
 fn two_requests_of_one_read_are_answered_by_two_writes(rt: HostRuntime) -> Result<(), Fail> {
     let bytes = format!(in rt.alloc(); "{HEALTH}{HEALTH}")?;
-    let both = format!(in rt.alloc(); "{HEALTHY}{HEALTHY}")?;
-    for (call, cause, answers, length) in [
-        (1, LinkCause::ReadFault, 0, 0),
-        (2, LinkCause::WriteFault, 0, 0),
-        (3, LinkCause::WriteFault, 1, HEALTHY.len()),
-        (4, LinkCause::ReadFault, 2, both.len()),
-        (5, LinkCause::Ended, 2, both.len()),
-    ] {
+    for &(call, cause, wants) in PIPELINED {
         let (out, end) = served(&rt, rt.alloc(), &bytes, 5_000, call)?;
+        let answers = wants.len() as u32;
         assert!(rt; end == LinkEnd { cause, answers }, "call {call} fails");
-        assert_eq!(rt; Some(out.as_str()), both.get(..length), "call {call} fails");
+        assert_eq!(rt; out, joined(rt.alloc(), wants)?, "call {call} fails");
     }
     Ok(())
 }
@@ -137,66 +149,52 @@ fn head_of(alloc: Global, piece: &str, times: usize, last: &str) -> Result<Strin
     Ok(bytes)
 }
 
+// The end of a head, and a health check behind it.
+const BEHIND: &str = "\n\nGET /healthcheck HTTP/1.1\r\n\r\n";
+
 // 16,384 bytes with their end and 66 line feeds are taken; without an end, or with one line feed more, the answer closes.
+const HEADS: &[(&str, usize, &str, LinkCause, &[&str])] = &[
+    ("x", 16_366, "", LinkCause::CutShort, &[]),
+    ("x", 16_367, "", LinkCause::Closed, &[TOO_LARGE]),
+    ("x", 16_365, BEHIND, LinkCause::Ended, &[NOT_FOUND, HEALTHY]),
+    ("x", 16_366, BEHIND, LinkCause::Closed, &[TOO_LARGE]),
+    ("\nb:", 63, BEHIND, LinkCause::Ended, &[NOT_FOUND, HEALTHY]),
+    ("\nb:", 64, BEHIND, LinkCause::Closed, &[TOO_LARGE]),
+];
+
 #[test]
 fn a_head_that_is_too_long_is_answered_and_closes(rt: HostRuntime) -> Result<(), Fail> {
-    let behind = format!(in rt.alloc(); "\n\n{HEALTH}")?;
-    let both = format!(in rt.alloc(); "{NOT_FOUND}{HEALTHY}")?;
-    for (piece, times, last, want, cause, answers) in [
-        ("x", 16_366, "", "", LinkCause::CutShort, 0),
-        ("x", 16_367, "", TOO_LARGE, LinkCause::Closed, 1),
-        (
-            "x",
-            16_365,
-            behind.as_str(),
-            both.as_str(),
-            LinkCause::Ended,
-            2,
-        ),
-        (
-            "x",
-            16_366,
-            behind.as_str(),
-            TOO_LARGE,
-            LinkCause::Closed,
-            1,
-        ),
-        (
-            "\nb:",
-            63,
-            behind.as_str(),
-            both.as_str(),
-            LinkCause::Ended,
-            2,
-        ),
-        ("\nb:", 64, behind.as_str(), TOO_LARGE, LinkCause::Closed, 1),
-    ] {
+    for &(piece, times, last, cause, wants) in HEADS {
         let bytes = head_of(rt.alloc(), piece, times, last)?;
         let (out, end) = served(&rt, rt.alloc(), &bytes, 5_000, 0)?;
+        let answers = wants.len() as u32;
         assert!(rt; end == LinkEnd { cause, answers }, "{times} pieces");
-        assert_eq!(rt; out.as_str(), want, "{times} pieces");
+        assert_eq!(rt; out, joined(rt.alloc(), wants)?, "{times} pieces");
     }
     Ok(())
 }
 
 // Nothing behind a length that can't be is answered, and a body of the greatest length that doesn't come has no answer.
+const LENGTHS: &[(&str, LinkCause, &[&str])] = &[
+    ("99999999999", LinkCause::Closed, &[NO_LENGTH]),
+    ("-1", LinkCause::Closed, &[NO_LENGTH]),
+    ("", LinkCause::Closed, &[NO_LENGTH]),
+    ("1, 1", LinkCause::Closed, &[NO_LENGTH]),
+    ("9999999999", LinkCause::Closed, &[TOO_LONG]),
+    ("1048577", LinkCause::Closed, &[TOO_LONG]),
+    ("1048576", LinkCause::CutShort, &[]),
+];
+
 #[test]
 fn a_length_that_is_out_of_bounds_is_answered_and_closes(rt: HostRuntime) -> Result<(), Fail> {
-    for (length, want, cause, answers) in [
-        ("99999999999", NO_LENGTH, LinkCause::Closed, 1),
-        ("-1", NO_LENGTH, LinkCause::Closed, 1),
-        ("", NO_LENGTH, LinkCause::Closed, 1),
-        ("1, 1", NO_LENGTH, LinkCause::Closed, 1),
-        ("9999999999", TOO_LONG, LinkCause::Closed, 1),
-        ("1048577", TOO_LONG, LinkCause::Closed, 1),
-        ("1048576", "", LinkCause::CutShort, 0),
-    ] {
+    for &(length, cause, wants) in LENGTHS {
         let bytes = format!(in rt.alloc();
             "POST /json HTTP/1.1\r\nContent-Length: {length}\r\n\r\n{HEALTH}"
         )?;
         let (out, end) = served(&rt, rt.alloc(), &bytes, 5_000, 0)?;
+        let answers = wants.len() as u32;
         assert!(rt; end == LinkEnd { cause, answers }, "a length of {length}");
-        assert_eq!(rt; out.as_str(), want, "a length of {length}");
+        assert_eq!(rt; out, joined(rt.alloc(), wants)?, "a length of {length}");
     }
     Ok(())
 }
