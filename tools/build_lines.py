@@ -12,6 +12,27 @@ import sys
 import threading
 import time
 
+# The memory that a check takes at most.
+EACH = 3_000_000_000
+
+
+def number_in(file, pattern, default):
+    try:
+        with open(file, encoding="utf-8") as it:
+            found = re.search(pattern, it.read())
+        return int(found[1]) if found else default
+    except OSError:
+        return default
+
+
+def lanes():
+    """Returns how many checks run side by side, each with one job: as many as there are processors, and memory."""
+    found = len(os.sched_getaffinity(0))
+    period = number_in("/sys/fs/cgroup/cpu.max", r"^\d+ (\d+)", 1)
+    found = min(found, number_in("/sys/fs/cgroup/cpu.max", r"^(\d+) ", found * period) // period)
+    free = 1024 * number_in("/proc/meminfo", r"MemAvailable:\s+(\d+)", 0)
+    return max(1, min(found, free // EACH))
+
 
 def say(text):
     print(text, file=sys.stderr, flush=True)
@@ -92,6 +113,7 @@ class Build:
 
 
 def main(copy, top, program):
+    os.environ.setdefault("RT_JOBS", str(lanes()))
     build, lines, parent, stopped = Build(copy, top, program), queue.Queue(), os.getppid(), []
     how = {"cwd": copy, "stdin": subprocess.DEVNULL, "stdout": subprocess.PIPE, "stderr": subprocess.STDOUT, "text": True, "errors": "replace"}
     try:
