@@ -48,3 +48,25 @@ fn a_newer_version_comes_before_a_counter_that_is_not_known(rt: HostRuntime) -> 
     let _closed = play_table(&rt, rt.alloc(), SETUP, TWO_PASSES)?;
     Ok(())
 }
+
+const TWO_CELLS: Setup = Setup {
+    limit: 2,
+    cells: 2,
+    claims_max: 100,
+    start: 0,
+};
+
+// Neither a check of a counter that the pass doesn't know yet nor a refused one makes it forget the others.
+const NONE_FORGOTTEN: &str = "\
+one checks 5 k=a => ok before 0
+one checks 5 k=b => ok before 0
+one opens 5 k=a => ok before 1
+one checks 6 k=c => CountersFull { moment: Seconds { value: 6 }, live: 2, held: 0, wanted: 1 }
+one opens 6 k=b => ok before 1
+one opens 6 k=a => over before 2";
+
+#[test]
+fn a_pass_forgets_no_counter(rt: HostRuntime) -> Result<(), Fail> {
+    let _closed = play_table(&rt, rt.alloc(), TWO_CELLS, NONE_FORGOTTEN)?;
+    Ok(())
+}
