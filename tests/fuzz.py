@@ -6,7 +6,7 @@ Usage: fuzz.py PROGRAM CASES SEED [KIND..]
 A case is a line of a script, of a stream or of reports, a file, a connection, or a printed run. Each is read by tests/fuzz_model.py too,
 so that each refusal is compared with its number and its place; runs are judged by tests/run_check.py as well. Of each process
 it is asked that it ends by itself with a status that the README lists, with no output where a refusal leaves none, after at most 2 seconds of
-the processor's time, and with at most 20 times the bytes of its input in memory above what it has with an empty one.
+the processor's time, and with at most 20 times the bytes of its input in memory above what it has with a small one.
 
 It prints a line for each kind, and for each fault the folder in which the input stands, and ends with 1 if there was any.
 """
@@ -104,7 +104,7 @@ class Program:
         command = words[0]
         floor = self.floors.setdefault(command, ran.memory)
         most = floor + MOST_TIMES * size + SLACK
-        want(ran.memory <= most, f"{ran.memory} bytes of memory for {size} of input, where an empty one takes {floor}")
+        want(ran.memory <= most, f"{ran.memory} bytes of memory for {size} of input, where a small one takes {floor}")
 
 
 def compact(value):
@@ -482,7 +482,7 @@ def judge_answers(data, out):
         data = front.rest
 
 
-def exchanged(port, data, pieces):
+def exchanged(port, pieces):
     """What comes back for these bytes, and whether the connection was reset."""
     out, was_reset = b"", False
     with socket.create_connection(("127.0.0.1", port), 30) as link:
@@ -506,33 +506,38 @@ def exchanged(port, data, pieces):
 def heads(program, rng, count):
     """Requests on connections, one after the other."""
     datas = [mutate.connection(rng) for _ in range(count)]
-    words = ["serve", "--port", "0", "--connections", str(count), "--workers", rng.choice("12"), "--cells", rng.choice(("2", "64")), "config.json"]
     program.file("config.json", compact(CONFIG))
+    # Where all comes in one piece, nothing is left unread when the connection closes, so that no answer is lost by a reset.
+    cut = lambda data: [data] if len(data) <= 4096 and rng.random() < 0.7 else mutate.pieces(rng, data)
+    serve(program, datas, ["--workers", rng.choice("12"), "--cells", rng.choice(("2", "64")), "config.json"], cut)
+    return count
+
+
+def serve(program, datas, words, cut):
+    """Serves these connections, of which each sends its bytes in pieces, and judges what each gets."""
+    words = ["serve", "--port", "0", "--connections", str(len(datas)), *words]
     program.file("in", b"")
-    child = program.start(words)
+    child, found = program.start(words), []
     try:
-        found = []
         port = port_of(program, child)
         for data in datas:
             program.file("connection", data)
-            # Where all comes in one piece, nothing is left unread when the connection closes, so that no answer is lost by a reset.
-            in_one = len(data) <= 4096 and rng.random() < 0.7
-            pieces = [data] if in_one else mutate.pieces(rng, data)
-            out, was_reset = exchanged(port, data, pieces)
-            found.append(None if was_reset and not in_one else judge_answers(data, out))
+            pieces = cut(data)
+            out, was_reset = exchanged(port, pieces)
+            is_small = len(pieces) == 1 and len(data) <= 4096
+            found.append(None if was_reset and not is_small else judge_answers(data, out))
         ran = program.end(child)
     finally:
         if child.returncode is None:
-            child.kill()
+            os.killpg(child.pid, signal.SIGKILL)
             program.end(child)
     ends_done(ran)
     program.bounds(ran, words, sum(map(len, datas)))
     lines = printed(ran.out)
-    want(lines[0] == {"listening": port} and len(lines) == count + 1, "not one line a connection")
+    want(lines[0] == {"listening": port} and len(lines) == len(datas) + 1, "not one line a connection")
     for index, (line, said) in enumerate(zip(lines[1:], found)):
         if said is not None:
             want(line == {"answers": said[0], "connection": index, "end": said[1]}, f"{line}, not {said}, for {datas[index]!r}")
-    return count
 
 
 def port_of(program, child):
@@ -557,14 +562,17 @@ KINDS = {
 
 
 def measure_floors(program):
-    """What each command has in memory with an empty input."""
-    config, pools = {"config.json": b'{"domain":"d"}'}, {"settings": compact(POOLS), "events": b""}
-    program.run(["drive", "--cells", "64", "--workers", "4", "config.json"], config)
-    program.run(["lookup", "config.json"], config)
-    program.run(["audit", "--run", "run", "config.json"], {**config, "run": b""})
-    program.run(["quota", "--settings", "settings", "stream"], {"settings": compact(SETTINGS), "stream": b""})
-    program.run(["pool", "--pools", "settings", "events"], pools)
-    program.run(["serve", "--port", "0", "--connections", "0", "--cells", "64", "config.json"], config)
+    """What each command has in memory with a small input of each kind, so that the code that it runs is among it."""
+    script = b"\n".join(map(compact, [*mutate.LINES, *mutate.RELOADS, {}, *mutate.REPORTS]))
+    files = {"config.json": compact(CONFIG), "settings": compact(SETTINGS), "pools": compact(POOLS)}
+    files.update(stream=b"\n".join(map(compact, mutate.STREAM)), events=b"\n".join(map(compact, [*mutate.REPORTS, {}])))
+    drive = ["--cells", "64", "--workers", "4", "config.json"]
+    files["run"] = program.run(["drive", *drive], files, script).out
+    program.run(["audit", "--run", "run", *drive], files, script)
+    program.run(["lookup", "config.json"], files, b"\n".join(map(compact, [*mutate.REQUESTS, {}])))
+    program.run(["quota", "--settings", "settings", "stream", "stream"], files)
+    program.run(["pool", "--pools", "pools", "events"], files)
+    serve(program, [mutate.ORDINARY] * 8, ["--workers", "2", "--cells", "64", "config.json"], lambda data: [data])
 
 
 def main():
@@ -574,7 +582,7 @@ def main():
     try:
         measure_floors(program)
     except Fault as fault:
-        print(f"FAILED an empty input: {fault}")
+        print(f"FAILED a small input: {fault}")
         return 1
     shares = sum(KINDS[kind][1] for kind in kinds)
     for kind in kinds:

@@ -228,6 +228,12 @@ HEAD_BYTES = [
 ]
 
 
+ORDINARY = b"".join(
+    b"POST /json HTTP/1.1\r\nContent-Length: %d\r\n\r\n%s" % (len(body), body) for body in (json.dumps(it).encode() for it in [*REQUESTS, {}])
+)
+ORDINARY += b"GET /healthcheck HTTP/1.1\r\n\r\nGET / HTTP/1.1\r\nA: b\r\n\r\n"
+
+
 def asked(rng):
     """A request, mostly one that is answered."""
     method = rng.choice(("POST",) * 6 + ("GET", "GET", "PUT", "HEAD", "get", "OPTIONS"))
