@@ -89,17 +89,18 @@ class Program:
         self.slowest = max(self.slowest, ran.seconds)
         return ran
 
-    def run(self, words, files, given=b"", extra=0):
+    def run(self, words, files, given=b""):
         """Runs these words over these files by name, and asks for the bounds that hold of every input."""
         for name, data in files.items():
             self.file(name, data)
         self.file("in", given)
         ran = self.end(self.start(words))
-        self.bounds(ran, words, sum(map(len, files.values())) + len(given) + extra)
+        self.bounds(ran, words, sum(map(len, files.values())) + len(given))
         return ran
 
     def bounds(self, ran, words, size):
-        want(ran.status >= 0, f"stopped by signal {-ran.status}, {'after ' + str(HANGS) + ' seconds' if ran.status == -signal.SIGKILL else ''}")
+        want(ran.status != -signal.SIGKILL, f"killed, or not ended after {HANGS} seconds")
+        want(ran.status >= 0, f"stopped by signal {-ran.status}")
         want(ran.seconds <= MOST_SECONDS, f"{ran.seconds:.1f} seconds of the processor's time")
         command = words[0]
         floor = self.floors.setdefault(command, ran.memory)
@@ -592,12 +593,13 @@ def main():
         while done * shares < cases * share and faults < MOST_FAULTS:
             try:
                 done += judge(program, random.Random(f"{seed} {kind} {batch}"), size)
-            except Fault as fault:
+            # What is printed out of form can fault the judge too.
+            except (Fault, ValueError, LookupError, TypeError, AttributeError) as fault:
                 faults += 1
                 done += size
                 kept = tempfile.mkdtemp(prefix="fuzz-fault-")
                 shutil.copytree(folder, kept, dirs_exist_ok=True)
-                print(f"FAILED {kind}, batch {batch} of seed {seed}: {fault}\n  its files: {kept}", flush=True)
+                print(f"FAILED {kind}, batch {batch} of seed {seed}: {type(fault).__name__}: {fault}\n  its files: {kept}", flush=True)
             batch += 1
         print(f"{'ok' if faults == before else 'FAULTS'} {kind}: {done} cases in {time.monotonic() - begun:.0f} seconds", flush=True)
     print(f"{program.runs} processes, the slowest {program.slowest:.2f} seconds; {faults} faults")

@@ -16,6 +16,10 @@ if [ ! -x "$program" ]; then
     printf 'FAILED program: there is none at %s\n' "$program"
     exit 1
 fi
+if [ ! -x /usr/bin/time ]; then
+    printf 'FAILED /usr/bin/time: there is none\n'
+    exit 1
+fi
 cases=${1:-100000}
 seed=${2:-1}
 shift $(($# > 2 ? 2 : $#))
