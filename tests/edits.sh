@@ -32,7 +32,7 @@ done
 
 # For rt the twins are an edit too, which fails there where it is proved; what it says of each is read below.
 log=$work/log
-(cd "$work" && rt ci "$@") 2>&1 | tee "$log" | grep --line-buffered -E '^rt: [a-z_]+: trying|( |NOT )(proved|PROVED)$'
+(cd "$work" && rt ci "$@") 2>&1 | tee "$log" | grep --line-buffered -E '^rt: [a-z_]+(: trying| proved$| NOT PROVED)'
 edits=0 twins=0 failed=0
 for crate in "$@"; do
     for path in "$work/crates/$crate/must-fail"/*; do
