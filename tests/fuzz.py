@@ -5,8 +5,8 @@ Usage: fuzz.py PROGRAM CASES SEED [KIND..]
 
 A case is a line of a script, of a stream or of reports, a file, a connection, or a printed run. Each is read by tests/fuzz_model.py too,
 so that each refusal is compared with its number and its place; runs are judged by tests/run_check.py as well. Of each process
-it is asked that it ends by itself with a status that the README lists, with no output where a refusal leaves none, after at most 2 seconds of
-the processor's time, and with at most 20 times the bytes of its input in memory above what it has with a small one.
+it is asked that it ends by itself with a status that docs/COMMANDS.md lists, with no output where a refusal leaves none, after at most 2
+seconds of the processor's time, and with at most 20 times the bytes of its input in memory above what it has with a small one.
 
 It prints a line for each kind, and for each fault the folder in which the input stands, and ends with 1 if there was any.
 """
