@@ -23,6 +23,7 @@ chmod 755 "$work"
 server=
 gateway=
 app=
+one=
 trap 'for one in $server $gateway $app; do kill "$one" 2>/dev/null; done; wait 2>/dev/null; rm -rf "$work"' EXIT
 failed=0
 
