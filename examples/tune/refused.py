@@ -1,4 +1,4 @@
-"""refused.py SCRIPT RUN: what `drive` printed for a script, as a table: for each caller and path how many checks were refused, of how many."""
+"""refused.py SCRIPT RUN: what `drive` printed for a script, as a table: of each caller and path, how many checks were refused."""
 import collections, json, sys
 asked, over, refused, checks = collections.Counter(), collections.Counter(), 0, 0
 for line, record in zip(open(sys.argv[1]), map(json.loads, open(sys.argv[2]))):

@@ -1,4 +1,4 @@
-"""Reads an access log (nginx's combined format, HAProxy's httplog) and prints a script: a tick for each new second, a check for each line."""
+"""Reads an access log (nginx's combined format, HAProxy's httplog) and prints a script: a tick a second, a check a line."""
 import calendar, json, re, sys, time
 LINE = re.compile(r'^(?:.*?(\S+):\d+ |(\S+) .*?)\[(\d+/\w+/\d+:\d+:\d+:\d+)[^]]*\][^"]*"[A-Z]+ ([^ ?"]+)')
 last = None
