@@ -25,7 +25,8 @@ ratelimit: a rate limiter after Envoy's rate limit service, over recorded traffi
         --pools F          the file of pools
   audit --run F [--workers N] [--cells N] [--start T] [--global-shadow] CONFIG..
       Reads configuration files, a printed run of drive and then its script from standard input, and prints whether the run is
-      lawful, or its first line that is no record or total, or the first clause that it breaks. The options are those of the run.
+      lawful, or its first line that is no record or total, or the first clause that it breaks. Whether there were cells for a check
+      that was answered isn't judged. The options are those of the run.
         --run F            the file of the run
         --workers N        workers: 1 to 64 (default 1)
         --cells N          cells for counters: 1 to 1048576 (default 262144)
