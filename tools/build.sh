@@ -2,7 +2,9 @@
 # Proves and builds a program with all crates that it stands on, as the gate does: `rt ci` runs on a copy of their files, without wrong bodies,
 # tests and other crates, one job a check where several crates are ready, and builds the libraries as statements, without their proofs. It prints one
 # line a crate, and the log of a crate that fails.
-# What is proved is kept beside the toolchain on this machine: an interrupted build goes on where it was, and the gate proves none of it again.
+# What is proved is kept beside the toolchain on this machine: an interrupted build goes on where it was, and the gate proves none of it again but
+# the program's own crate: this ends when LLVM's program is linked, and the gate has Rattle's own compiler build it too and runs both.
+# A program of another TOP, which no gate builds, is waited for until it is kept too, so that it isn't proved again when it is built once more.
 # usage: tools/build.sh PROGRAM [TOP], with crates.txt and crates/ in TOP (this repository unless given)
 set -u
 here=$(cd "$(dirname "${BASH_SOURCE[0]}")" && pwd)
@@ -26,8 +28,10 @@ main() {
     mkdir -p "$room/copy/.git"
     touch "$room/begun"
     [ ! -e "$top/HANDLES" ] || cp "$top/HANDLES" "$room/copy/"
-    take_crates "$top" "$program" "$room/copy" src specs proofs stdin stdout args status data || fail 'the crates could not be copied'
-    python3 "$here/build_lines.py" "$room/copy" "$top" "$program" &
+    take_crates "$top" "$program" "$room/copy" src specs proofs || fail 'the crates could not be copied'
+    until=linked
+    [ "$#" -eq 1 ] || until=kept
+    python3 "$here/build_lines.py" "$room/copy" "$room/first" "$top" "$program" "$until" &
     lines=$!
     trap 'kill "$lines" 2>/dev/null' INT TERM HUP
     wait "$lines"
