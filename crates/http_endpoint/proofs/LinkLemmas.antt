@@ -60,7 +60,8 @@ answers_are n bytes [] rest x = x
 answers_are n bytes (t ∷ turns) rest x =
     (record { front = x.0.front_is; settled = x.0.settled; turn = x.1 }, x.2, answers_are (n + 1) (drop (used_of t.front) bytes) turns rest x.3)
 
-one_more : {X : Type 0} (f : Turn → List X) (turns : List Turn) (t : Turn) → flat_map f (turns ++ t ∷ []) ≡ flat_map f turns ++ f t
+-- what is listed for one answer more
+pub one_more : {X : Type 0} (f : Turn → List X) (turns : List Turn) (t : Turn) → flat_map f (turns ++ t ∷ []) ≡ flat_map f turns ++ f t
 one_more f turns t = flat_map-append f turns (t ∷ []) ∙ ap (λ xs. flat_map f turns ++ xs) (append-nil (f t))
 
 -- ---- what was written

@@ -15,7 +15,8 @@ use Rattle.http_front.specs.declared.front.Front.TheVariants.{Ended, CutShort, F
 use Rattle.http_endpoint.specs.Answers.{Asked, Turn, GivesResult, closing, MayAsk, IsTurn, CheckStep, Lead}
 use Rattle.rate_io.specs.Links.{LinkState, IsLinkNow}
 use Rattle.http_endpoint.proofs.ReadLemmas.{stays_same}
-use Rattle.http_endpoint.specs.Steps.{Tells, Awaits, Prints, PrintsResult, TurnsOut, TakesTurn}
+use Rattle.http_endpoint.specs.Printing.{Prints, PrintsResult}
+use Rattle.http_endpoint.specs.Steps.{Tells, Awaits, TurnsOut, TakesTurn}
 use Rattle.http_endpoint.specs.declared.turn.Printed.{Printed}
 use Rattle.http_endpoint.specs.declared.turn.Printed.TheVariants.{Text, NoMemory}
 
@@ -31,7 +32,7 @@ tells_none a = record {
 }
 
 -- one moment was told
-tells_one : (a b : LinkState) (asked : Asked) → IsLinkNow a b asked.now → Tells a b (Some asked)
+pub tells_one : (a b : LinkState) (asked : Asked) → IsLinkNow a b asked.now → Tells a b (Some asked)
 tells_one a b asked n = record {
   history = n.history;
   within = n.within;
@@ -96,7 +97,7 @@ check_turn answers is_last request closes used now result a b checks after out (
 }
 
 -- no check need be made
-may_not : (front : Front) → MayAsk front None
+pub may_not : (front : Front) → MayAsk front None
 may_not Ended = tt
 may_not CutShort = tt
 may_not (Fixed answer used) = tt
@@ -136,7 +137,7 @@ or_true : (t : Bool) → t || true ≡ true
 or_true true = refl
 or_true false = refl
 
-given_closes : (result : Result Reply CheckFault) (closes : Bool) (answer : HttpAnswer) → GivesResult result closes answer → answer.closes ≡ closes
+pub given_closes : (result : Result Reply CheckFault) (closes : Bool) (answer : HttpAnswer) → GivesResult result closes answer → answer.closes ≡ closes
 given_closes (Ok reply) closes answer is = ap (λ a. a.closes) is
 given_closes (Err (fault.CountersFull moment live held wanted)) closes answer is = ap (λ a. a.closes) is
 given_closes (Err (fault.ClaimsSpent claims wanted)) closes answer is = ap (λ a. a.closes) is

@@ -1,20 +1,17 @@
--- Inside: what the steps of serving say.
-use Rattle.std.specs.Prelude.{◌≡◌, ℕ, ◌+◌, ◌<◌, ◌≤◌, ◌==◌, Bool, true, false, List, [], ◌∷◌, ◌++◌, length, drop, Option, None}
-use Rattle.std.specs.Prelude.{option_to_list, Result}
+-- Inside: what the steps of serving a connection say, whether they wait for its peer or are polled.
+use Rattle.std.specs.Prelude.{◌≡◌, ℕ, ◌+◌, ◌<◌, ◌≤◌, ◌==◌, Bool, true, false, List, [], ◌∷◌, ◌++◌, length, drop, Option}
+use Rattle.std.specs.Prelude.{option_to_list}
 use Rattle.std.specs.Io.KnownBytes.{Consumes, IsAtEnd}
-use Rattle.rls_core.specs.declared.reply.Reply.{Reply}
-use Rattle.rls_core.specs.declared.fault.CheckFault.{CheckFault}
 use Rattle.rate_io.specs.Causes.{Rose}
 use Rattle.rate_io.specs.Events.{Event, given, has_ended, has_failed, has_write_failed, pieces_written}
 use Rattle.rate_io.specs.Links.{LinkState, StaysLink}
 use Rattle.http_endpoint.specs.Order.{Waits, ReadsOn, told_for, OffersWithin, Calls}
-use Rattle.http_front.specs.Front.{IsFront, sends, used_of, plain}
+use Rattle.http_front.specs.Front.{IsFront, sends, used_of}
 use Rattle.http_front.specs.Part.{Stands, EndsAt}
-use Rattle.http_front.specs.Printed.{answer_bytes}
-use Rattle.http_front.specs.declared.answer.HttpAnswer.{HttpAnswer}
 use Rattle.http_front.specs.declared.front.Front.{Front}
 use Rattle.http_front.specs.declared.front.Front.TheVariants.{Ended as FrontEnded, CutShort as FrontCutShort}
-use Rattle.http_endpoint.specs.Answers.{answers_max, Asked, Turn, IsTurn, GivesResult, CheckStep, Lead, asked_in}
+use Rattle.http_endpoint.specs.Answers.{answers_max, Asked, Turn, IsTurn, CheckStep, Lead, asked_in}
+use Rattle.http_endpoint.specs.Printing.{PrintsTurn}
 use Rattle.http_endpoint.specs.Served.{Wrote}
 use Rattle.http_endpoint.specs.declared.inbox.Filled.{Filled}
 use Rattle.http_endpoint.specs.declared.inbox.Filled.TheVariants.{More, End, Failed}
@@ -23,7 +20,6 @@ use Rattle.http_endpoint.specs.declared.next.HeadRead.TheVariants as head
 use Rattle.http_endpoint.specs.declared.next.Next.{Next}
 use Rattle.http_endpoint.specs.declared.next.Next.TheVariants as next
 use Rattle.http_endpoint.specs.declared.turn.Printed.{Printed}
-use Rattle.http_endpoint.specs.declared.turn.Printed.TheVariants.{Text, NoMemory}
 use Rattle.http_endpoint.specs.declared.serve.NextAnswer.{NextAnswer}
 use Rattle.http_endpoint.specs.declared.serve.NextAnswer.TheVariants as answer
 
@@ -110,31 +106,6 @@ Finds bytes unread old new events next.CutShort = IsFront bytes FrontCutShort ×
 Finds bytes unread old new events next.ReadFault = FailedToRead old new events
 
 -- ---- answers
-
--- the bytes of what was printed into this text
-abbrev pub printed_bytes : List ℕ → Printed → List ℕ
-printed_bytes out (Text closes) = out
-printed_bytes out (NoMemory sends_body) = answer_bytes (plain 500 None sends_body true)
-
--- the connection closes after it
-abbrev pub printed_closes : Printed → Bool
-printed_closes (Text closes) = closes
-printed_closes (NoMemory sends_body) = true
-
--- the bytes of this answer, or 500 in its place
-abbrev pub Prints : HttpAnswer → List ℕ → Printed → Type 0
-Prints answer out (Text closes) = (out ≡ answer_bytes answer) × (closes ≡ answer.closes)
-Prints answer out (NoMemory sends_body) = sends_body ≡ answer.sends_body
-
--- what was printed for a check that came to this
-abbrev pub PrintsResult : Bool → Result Reply CheckFault → List ℕ → Printed → Type 0
-PrintsResult closes result out (Text closed) = (a : HttpAnswer) × GivesResult result closes a × (out ≡ answer_bytes a) × (closed ≡ a.closes)
-PrintsResult closes result out (NoMemory sends_body) = sends_body ≡ true
-
--- what was printed is that answer
-pub record PrintsTurn (t : Turn) (out : List ℕ) (printed : Printed) : Type 0 where
-  pub bytes : printed_bytes out printed ≡ answer_bytes t.answer
-  pub closes : printed_closes printed ≡ t.answer.closes
 
 -- what the clock told for a check, and nothing else
 pub record Tells (old new : LinkState) (asked : Option Asked) : Type 0 where

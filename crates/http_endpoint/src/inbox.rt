@@ -1,5 +1,5 @@
 // The bytes of a connection that were read and not used yet.
-ghost use Rattle.std.specs.Prelude.{◌≡◌, ◌≤◌, ◌<◌, ◌+◌, ◌++◌, [], List, length, drop, IfOk};
+ghost use Rattle.std.specs.Prelude.{◌≡◌, ◌≤◌, ◌<◌, ◌+◌, ◌++◌, [], true, List, length, drop, IfOk};
 ghost use Rattle.rate_io.specs.Events.{Event, given};
 ghost use Rattle.http_endpoint.specs.Order.{Waits};
 ghost use Rattle.http_endpoint.specs.Steps.{Drew, FillsTo};
@@ -56,6 +56,13 @@ impl Inbox {
         &self.bytes[self.start..]
     }
 
+    /// How many there are.
+    pub fn count(&self) -> usize
+        ensures { result ≡ length self.now }
+    {
+        self.bytes.len() - self.start
+    }
+
     /// All are used.
     pub fn clear(&mut self)
         ensures { self.new ≡ [] }
@@ -80,16 +87,16 @@ impl Inbox {
         ROOM - (self.bytes.len() - self.start)
     }
 
-    /// Bytes that were read, for which there is room.
-    fn add(&mut self, bytes: &[u8])
-        requires { length self.old + length bytes.now ≤ 16384 }
-        ensures { self.new ≡ self.old ++ bytes.now }
+    /// Bytes that were read. False where there is no memory for them, and then they aren't kept. For a head there always is.
+    pub fn add(&mut self, bytes: &[u8]) -> bool
+        ensures kept { result ≡ true → self.new ≡ self.old ++ bytes.now }
+        ensures room { length self.old + length bytes.now ≤ 16384 → result ≡ true }
     {
         let count = self.bytes.len() - self.start;
         self.bytes.copy_within(self.start.., 0);
         self.bytes.truncate(count);
         self.start = 0;
-        let _kept = self.bytes.extend_from_slice(bytes).is_ok();
+        self.bytes.extend_from_slice(bytes).is_ok()
     }
 }
 
@@ -109,6 +116,6 @@ pub fn fill<L: Link>(inbox: &mut Inbox, link: &mut L) -> Filled
     if count == 0 {
         return Filled::End;
     }
-    inbox.add(&buf[..count]);
+    let _kept = inbox.add(&buf[..count]);
     Filled::More
 }

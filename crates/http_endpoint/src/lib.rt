@@ -23,6 +23,8 @@ mod turn;
 
 pub use buffers::Buffers;
 pub use checks::Checks;
+pub use inbox::Inbox;
 pub use lines::{link_end_line, listening_line};
 pub use link_end::{LinkCause, LinkEnd};
 pub use serve::serve_link;
+pub use turn::{Printed, answer_fixed, closes_after, print_result};

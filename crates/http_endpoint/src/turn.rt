@@ -2,6 +2,7 @@
 ghost use Rattle.std.specs.Prelude.{◌≡◌, ◌||◌, false, true, None, Ok, Err, IfOk, string_bytes, if◌then◌else◌};
 ghost use Rattle.http_front.specs.Front.{is_waiting, plain};
 ghost use Rattle.http_endpoint.specs.Answers as answers;
+ghost use Rattle.http_endpoint.specs.Printing as printing;
 ghost use Rattle.http_endpoint.specs.Steps as steps;
 
 use crate::Checks;
@@ -24,7 +25,7 @@ pub enum Printed {
 impl Printed {
     /// The bytes to write, where this is what was printed into the text.
     pub fn bytes<'a>(&self, out: &'a str) -> &'a [u8]
-        ensures { result.now ≡ steps.printed_bytes out.now self.now }
+        ensures { result.now ≡ printing.printed_bytes out.now self.now }
     {
         match self {
             Printed::Text { .. } => out.as_bytes(),
@@ -34,7 +35,7 @@ impl Printed {
 
     /// The connection closes after it.
     pub fn closes(&self) -> bool
-        ensures { result ≡ steps.printed_closes self.now }
+        ensures { result ≡ printing.printed_closes self.now }
     {
         match self {
             Printed::Text { closes } => *closes,
@@ -45,7 +46,7 @@ impl Printed {
 
 // The answer printed, or want of memory in its place.
 fn print(out: &mut String, answer: &HttpAnswer) -> Printed
-    ensures { steps.Prints answer.now (string_bytes out.new) result }
+    ensures { printing.Prints answer.now (string_bytes out.new) result }
 {
     match print_answer(out, answer) {
         Ok(()) => Printed::Text {
@@ -78,7 +79,7 @@ fn reply_answer(alloc: Global, reply: &Reply, closes: bool) -> Result<HttpAnswer
 }
 
 fn print_reply(alloc: Global, out: &mut String, reply: &Reply, closes: bool) -> Printed
-    ensures { steps.PrintsResult closes (Ok reply.now) (string_bytes out.new) result }
+    ensures { printing.PrintsResult closes (Ok reply.now) (string_bytes out.new) result }
 {
     match reply_answer(alloc, reply, closes) {
         Ok(answer) => print(out, &answer),
@@ -88,7 +89,7 @@ fn print_reply(alloc: Global, out: &mut String, reply: &Reply, closes: bool) -> 
 
 // The answer where the counters are full.
 fn print_full(out: &mut String, closes: bool) -> Printed
-    ensures { steps.Prints (plain 503 None true closes) (string_bytes out.new) result }
+    ensures { printing.Prints (plain 503 None true closes) (string_bytes out.new) result }
 {
     let answer = HttpAnswer::plain(StatusCode::SERVICE_UNAVAILABLE, true, closes);
     print(out, &answer)
@@ -97,7 +98,7 @@ fn print_full(out: &mut String, closes: bool) -> Printed
 // The answer to a check that was refused.
 #[tactic(auto, using(crate::proofs::TurnLemmas::full_prints, crate::proofs::TurnLemmas::spent_prints))]
 fn print_fault(out: &mut String, fault: CheckFault, closes: bool) -> Printed
-    ensures { steps.PrintsResult closes (Err fault) (string_bytes out.new) result }
+    ensures { printing.PrintsResult closes (Err fault) (string_bytes out.new) result }
 {
     match fault {
         CheckFault::CountersFull { .. } => print_full(out, closes),
@@ -106,14 +107,14 @@ fn print_fault(out: &mut String, fault: CheckFault, closes: bool) -> Printed
     }
 }
 
-// The answer to what came of a check.
-fn print_result(
+/// The answer to what came of a check, printed into the text.
+pub fn print_result(
     alloc: Global,
     out: &mut String,
     came: Result<Reply, CheckFault>,
     closes: bool,
 ) -> Printed
-    ensures { steps.PrintsResult closes came (string_bytes out.new) result }
+    ensures { printing.PrintsResult closes came (string_bytes out.new) result }
 {
     match came {
         Ok(reply) => print_reply(alloc, out, &reply, closes),
@@ -121,16 +122,16 @@ fn print_result(
     }
 }
 
-// The connection closes after an answer that says so, and after the last that may come.
-fn closes_after(closes: bool, is_last: bool) -> bool
+/// The connection closes after an answer that says so, and after the last that may come.
+pub fn closes_after(closes: bool, is_last: bool) -> bool
     ensures { result ≡ (closes || is_last) }
 {
     closes || is_last
 }
 
-// The answer to a fixed front.
-fn answer_fixed(out: &mut String, mut answer: HttpAnswer, is_last: bool) -> Printed
-    ensures { steps.Prints (answers.closing is_last answer) (string_bytes out.new) result }
+/// The answer to a fixed front, printed into the text.
+pub fn answer_fixed(out: &mut String, mut answer: HttpAnswer, is_last: bool) -> Printed
+    ensures { printing.Prints (answers.closing is_last answer) (string_bytes out.new) result }
 {
     answer.closes = closes_after(answer.closes, is_last);
     print(out, &answer)

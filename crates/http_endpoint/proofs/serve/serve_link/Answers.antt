@@ -1,7 +1,8 @@
 use Rattle.std.proofs.Common.{◌≡◌, ◌++◌, List, ℕ, sym, ◌∙◌, ap, subst, true, false, arith}
 use Rattle.rate_io.specs.Events.{given}
 use Rattle.http_endpoint.specs.Answers.{turn_bytes}
-use Rattle.http_endpoint.specs.Steps.{Goes, printed_bytes}
+use Rattle.http_endpoint.specs.Printing.{printed_bytes}
+use Rattle.http_endpoint.specs.Steps.{Goes}
 use Rattle.http_endpoint.specs.declared.link_end.LinkCause.TheVariants as cause
 use Rattle.http_endpoint.proofs.TurnLemmas.{still_few}
 use Rattle.http_endpoint.proofs.LinkLemmas.{goes_first, grown, serves_ended, serves_cut, serves_read_fault, serves_failed, serves_closed, goes_on, next_of}
