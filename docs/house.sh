@@ -7,7 +7,7 @@ declare -A group_of=()
 while read -r group crates; do
     for crate in $crates; do group_of[$crate]=$group; done
 done <<'GROUPS'
-base keyed_hash rate_types rate_io text_lines proto_json
+base keyed_hash rate_types json_text rate_io text_lines proto_json
 counters window_keys told_list config_versions counter_cells counter_directory over_cache line_numbers
 checks descriptor_tree config_json rule_lookup rls_core rate_limiter reply_text request_tokens run_lines script_run script_lines script_text worker_run drive_run load_gen run_text run_audit
 connections http_front http_endpoint http_checks http_serve http_limiter link_handover

@@ -7,7 +7,7 @@ use Rattle.proto_json.specs.Said.{reading_of}
 use Rattle.quota_settings.specs.Covering.{AllSettings, OneSettings, covering, id_of}
 use Rattle.quota_settings.specs.declared.pair.Pair.{Pair}
 use Rattle.quota_bucket.specs.declared.rules.BucketRules.{BucketRules}
-use Rattle.quota_buckets.specs.Tables.{Table, table_advanced, advance_of}
+use Rattle.quota_buckets.specs.Tables.{Table}
 use Rattle.quota_buckets.specs.Held.{IsHeld}
 use Rattle.quota_buckets.specs.Streams.{Stream, new_stream, advanced_to, answer, asked_named, asked_by, KeepAllowance}
 use Rattle.quota_buckets.proofs.Holding.{advance_held, ask_held, assign_held, abandon_held, made_held, up_held, allowance_held}
@@ -18,7 +18,7 @@ use Rattle.quota_lines.specs.declared.quota_action.QuotaAction.TheVariants.{Assi
 use Rattle.quota_lines.specs.declared.stream_line.StreamEvent.{StreamEvent}
 use Rattle.quota_lines.specs.declared.stream_line.StreamEvent.TheVariants.{Request, Response, Connection as Connects, Passes}
 use Rattle.quota_lines.specs.declared.stream_line.StreamLine.{StreamLine}
-use Rattle.quota_stream.specs.Outcomes.{Outcome, is_up, after_one, after_actions, happened, accepted, refused_as, in_time, outcome_read, outcome_of}
+use Rattle.quota_stream.specs.Outcomes.{is_up, after_one, after_actions, happened, accepted, refused_as, outcome_read, outcome_of}
 use Rattle.quota_stream.specs.Texts.{time_back_line}
 use Rattle.quota_stream.specs.declared.line_number.LineNumber.{LineNumber}
 use Rattle.cli_quota.specs.Allowances.{after_lines, KeepAllowances}

@@ -1,3 +1,3 @@
 pub mod Faults
-pub mod Lining
+pub mod Outputs
 pub mod Allowing

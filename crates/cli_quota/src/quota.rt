@@ -1,16 +1,16 @@
 // `quota`: recorded streams replayed by a settings file.
-ghost use Rattle.std.specs.Prelude.{◌≡◌, ℕ, List, Some, Ok, map, IfOk, IfErr, OnOk, All};
-ghost use Rattle.std.specs.List.{concat, AllByRecursion};
+ghost use Rattle.std.specs.Prelude.{◌≡◌, ℕ, List, Some, Ok, IfOk, IfErr, OnOk, All};
+ghost use Rattle.std.specs.List.{flat_map};
 ghost use Rattle.rate_io.specs.Events.{Grew};
-ghost use Rattle.quota_stream.specs.Output.{AreLines, quota_output};
-ghost use Rattle.quota_stream.specs.Tasks.{IsShort, texts_from};
+ghost use Rattle.quota_stream.specs.Output.{AreLines, quota_output, with_feeds};
+ghost use Rattle.quota_stream.specs.Tasks.{IsShort, output_text, texts_from};
 ghost use Rattle.cli_exits.specs.World.{exit_of};
 ghost use Rattle.cli_exits.specs.Parts.{IsOfOutput, IsOfSettings};
 ghost use Rattle.cli_quota.specs.Parts.{IsOfReplay, IsOfStreams, Replays};
-ghost use Rattle.cli_quota.specs.Quota.{in_order, settings_of};
+ghost use Rattle.cli_quota.specs.Quota.{settings_of};
 
-use crate::output_lines::{lines_of, write_pieces};
-use cli_exits::Exit;
+use crate::output_lines::OutputLines;
+use cli_exits::{Exit, write_all};
 use proto_json::FormFault;
 use quota_settings::Settings;
 use quota_settings_json::read_settings;
@@ -45,6 +45,7 @@ fn texts_of<R: Threads + Sync>(
     ensures texts { IfOk result (λ v. v ≡ texts_from settings.now 0 streams.now) }
     ensures short { OnOk result (All IsShort streams.now) }
     ensures lines { (index : ℕ) (bytes : List ℕ) → AreLines (quota_output settings.now index bytes) }
+    ensures cut { (index : ℕ) (bytes : List ℕ) → with_feeds (output_text settings.now index bytes) ≡ quota_output settings.now index bytes }
     ensures fault { IfErr result (IsOfStreams streams.now) }
 {
     match replay_all(rt, alloc, settings, seed, streams, workers.max(1)) {
@@ -65,8 +66,8 @@ pub fn replayed<R: Threads + Sync>(
     streams: &Blobs,
     workers: u32,
 ) -> Result<Names, Exit>
-    ensures texts { IfOk result (λ v. (each : List (List (List ℕ))) × AllByRecursion AreLines each × (v ≡ map concat each)
-        × Replays file.now streams.now (in_order each)) }
+    ensures texts { IfOk result (λ v. Replays file.now streams.now (flat_map with_feeds v)) }
+    ensures lines { IfOk result (λ v. AreLines (flat_map with_feeds v)) }
     ensures fault { IfErr result (IsOfReplay file.now streams.now) }
 {
     let settings = match settings_in(alloc, file) {
@@ -77,18 +78,19 @@ pub fn replayed<R: Threads + Sync>(
 }
 
 /// Writes the lines of texts, each by one call, and flushes.
-pub fn write_texts<K: Sink>(alloc: Global, texts: &Names, sink: &mut K) -> Result<(), Exit>
-    ensures { (each : List (List (List ℕ))) → AllByRecursion AreLines each → texts.now ≡ map concat each
-        → Grew (K.history sink.old) (K.history sink.new) (IsOfOutput (λ pieces. pieces ≡ in_order each) (record {
-          written = K.written sink.old;
-          after = K.written sink.new;
-          faults = (K.faults sink.old, K.faults sink.new);
-        }) (exit_of result)) }
+pub fn write_texts<K: Sink>(texts: &Names, sink: &mut K) -> Result<(), Exit>
+    ensures { Grew (K.history sink.old) (K.history sink.new) (IsOfOutput (λ pieces. pieces ≡ flat_map with_feeds texts.now) (record {
+      written = K.written sink.old;
+      after = K.written sink.new;
+      faults = (K.faults sink.old, K.faults sink.new);
+    }) (exit_of result)) }
 {
-    let Ok(lines) = lines_of(alloc, texts.items()) else {
-        return Err(Exit::OutOfMemory);
+    let mut lines = OutputLines {
+        here: &[],
+        text: &[],
+        texts: texts.items(),
     };
-    match write_pieces(sink, &lines) {
+    match write_all(sink, &mut lines) {
         Ok(()) => Ok(()),
         Err(_) => Err(Exit::WriteFault),
     }

@@ -1,10 +1,8 @@
 -- A share that is granted fits the pool with those before it.
-use Rattle.std.proofs.Common.{◌≡◌, ℕ, ◌+◌, ◌-◌, ◌/◌, ◌≤◌, ◌<◌, ◌&&◌, Bool, true, false, List, [], ◌∷◌, ◌++◌, refl, ap, sym, ◌∙◌, arith, max, min, nat_lt, not, filter, cond}
+use Rattle.std.proofs.Common.{◌≡◌, ℕ, ◌+◌, ◌-◌, ◌≤◌, Bool, true, false, List, [], ◌∷◌, ◌++◌, refl, ap, ◌∙◌, arith, max, nat_lt, filter}
 use Rattle.std.specs.List.{list_any, AllByRecursion}
 use Rattle.std.proofs.lemmas.List.{append-nil}
-use Rattle.std.proofs.lemmas.Bool.{true≢false}
 use Rattle.std.proofs.lemmas.Bool.Decides.{nat_tests}
-use Rattle.rate_types.specs.Sums.{total}
 use Rattle.rate_types.specs.Counters.{same_text}
 use Rattle.quota_server.specs.Shares.{Share, lasts_until, is_live_at, live_at, is_of, greatest_of, clients_of, but_for, held_of, others_of}
 use Rattle.quota_server.specs.Shares.{held_together, SharesFitPool}

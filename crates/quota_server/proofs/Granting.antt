@@ -1,15 +1,15 @@
 -- A share that is written: what is kept of the shares that are live, and that all fit the pool.
-use Rattle.std.proofs.Common.{◌≡◌, ℕ, ◌+◌, ◌-◌, ◌/◌, ◌≤◌, ◌<◌, ◌&&◌, Bool, true, false, List, [], ◌∷◌, ◌++◌, refl, ap, sym, subst, ◌∙◌, arith, max, min, nat_lt, not, filter, map}
+use Rattle.std.proofs.Common.{◌≡◌, ℕ, ◌+◌, ◌-◌, ◌≤◌, ◌<◌, Bool, true, false, List, [], ◌∷◌, ◌++◌, refl, ap, sym, ◌∙◌, arith, max, nat_lt, filter}
 use Rattle.std.specs.List.{AllByRecursion}
 use Rattle.std.proofs.lemmas.Bool.Decides.{nat_tests}
-use Rattle.quota_server.specs.Shares.{Share, lasts_until, is_live_at, live_at, greatest_of, held_of, others_of, granted_of, granted, SharesFitPool}
+use Rattle.quota_server.specs.Shares.{Share, lasts_until, is_live_at, live_at, held_of, others_of, granted_of, granted, SharesFitPool}
 use Rattle.quota_server.specs.Holds.{first_of}
 use Rattle.quota_server.specs.Kept.{counts_in}
 use Rattle.quota_server.specs.Lives.{EndBy, IsLawful, others_hold}
 use Rattle.quota_server.specs.Written.{IsTimed, IsWritten}
 use Rattle.quota_server.specs.declared.live.Live.{Live}
 use Rattle.quota_server.proofs.Fitting.{BegunBy, still_live, together_of, fits_more, filter_more}
-use Rattle.quota_server.proofs.Living.{own_within, others_kept, kept_first}
+use Rattle.quota_server.proofs.Living.{others_kept, kept_first}
 
 begun_by : (lifetime last : ℕ) (shares : List Share) → AllByRecursion (IsTimed lifetime last) shares → BegunBy last shares
 begun_by lifetime last [] all = tt

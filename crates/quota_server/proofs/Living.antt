@@ -1,15 +1,15 @@
 -- What is kept of live shares as the first of them ends and another begins.
-use Rattle.std.proofs.Common.{◌≡◌, ℕ, zero, suc, ◌+◌, ◌-◌, ◌≤◌, ◌<◌, ◌&&◌, ◌||◌, ◌==◌, if◌then◌else◌, not, Bool, true, false, List, [], ◌∷◌, ◌++◌, refl, ap, sym, ◌∙◌}
-use Rattle.std.proofs.Common.{arith, cond, max, nat_lt, length, filter, map}
+use Rattle.std.proofs.Common.{◌≡◌, ℕ, ◌+◌, ◌-◌, ◌≤◌, ◌||◌, if◌then◌else◌, not, Bool, true, false, List, [], ◌∷◌, ◌++◌, refl, ap, sym, ◌∙◌}
+use Rattle.std.proofs.Common.{arith, max, nat_lt, length, filter}
 use Rattle.std.specs.List.{list_any, AllByRecursion}
 use Rattle.std.proofs.lemmas.Bool.Decides.{nat_tests}
 use Rattle.std.proofs.lemmas.Bool.{true≢false}
 use Rattle.rate_types.specs.Sums.{total, one_if}
 use Rattle.rate_types.specs.Counters.{same_text}
-use Rattle.quota_server.specs.Shares.{Share, lasts_until, is_of, greatest, greatest_of, clients_of, but_for, held_of, others_of, sharing_of}
+use Rattle.quota_server.specs.Shares.{Share, lasts_until, is_of, greatest, greatest_of, clients_of, but_for, others_of, sharing_of}
 use Rattle.quota_server.specs.Holds.{is_none_of, first_of, skyline, after_end, after_begin}
 use Rattle.quota_server.specs.Lives.{counts_of, EndBy, EndsRise, IsKept, first_has_ended}
-use Rattle.quota_server.proofs.Clients.{same_itself, equal_texts, same_back, total_le, total_same, one_there, one_absent, where_true, one_apart, others_more}
+use Rattle.quota_server.proofs.Clients.{same_itself, same_back, total_same, one_there, one_absent, others_more}
 use Rattle.quota_server.proofs.Fitting.{together_of, together_more}
 use Rattle.quota_server.proofs.Skylines.{first_is_greatest, ends, begins}
 

@@ -1,14 +1,13 @@
 -- The one pool of a bucket among all pools.
-use Rattle.std.proofs.Common.{◌≡◌, ℕ, zero, suc, ◌≤◌, ◌<◌, ◌||◌, if◌then◌else◌, Bool, true, false, List, [], ◌∷◌, Option, Some, None, option_map, refl, ap, sym, ◌∙◌}
-use Rattle.std.proofs.Common.{arith, map, length}
+use Rattle.std.proofs.Common.{◌≡◌, ℕ, zero, suc, ◌≤◌, if◌then◌else◌, Bool, true, false, List, [], ◌∷◌, Some, None, option_map, refl, ap, sym, ◌∙◌}
+use Rattle.std.proofs.Common.{arith, map}
 use Rattle.std.specs.Prelude.{find, slice_get, slice_set}
-use Rattle.std.specs.List.{list_any, AllByRecursion}
+use Rattle.std.specs.List.{AllByRecursion}
 use Rattle.std.proofs.lemmas.Bool.{true≢false}
 use Rattle.quota_settings.specs.declared.pair.Pair.{Pair}
-use Rattle.quota_settings.specs.Pairs.{same_pairs}
 use Rattle.quota_settings.specs.Laws.{same_by_eq, eq_of_same}
-use Rattle.quota_pools.specs.Pools.{OnePool, is_pool_of, has_pool}
-use Rattle.quota_pools.specs.Places.{IsPlaces, AreAt, places_of}
+use Rattle.quota_pools.specs.Pools.{OnePool, has_pool}
+use Rattle.quota_pools.specs.Places.{AreAt, places_of}
 use Rattle.quota_pools.specs.declared.pool_places.PoolPlaces.{PoolPlaces}
 use Rattle.quota_server.specs.Written.{WrittenShares}
 use Rattle.quota_server.specs.Servers.{is_for, without_share}

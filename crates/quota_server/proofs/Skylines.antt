@@ -4,7 +4,6 @@ use Rattle.std.specs.Prelude.{Option, Some, None, slice_index_or}
 use Rattle.std.specs.Option.{option_to_list}
 use Rattle.std.proofs.lemmas.List.{append-nil}
 use Rattle.std.proofs.lemmas.Bool.Decides.{nat_tests}
-use Rattle.std.proofs.lemmas.Bool.{true≢false}
 use Rattle.quota_server.specs.Shares.{greatest}
 use Rattle.quota_server.specs.Holds.{is_none_of, first_of, skyline, after_end, without_smaller, after_begin, ends_below}
 

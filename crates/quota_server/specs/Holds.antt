@@ -1,5 +1,5 @@
 -- Inside: the counts of a client's live shares that may still become its greatest.
-use Rattle.std.specs.Prelude.{ℕ, ◌==◌, ◌&&◌, List, [], ◌∷◌, ◌++◌, Bool, true, false, nat_lt, Option, None, Some, if◌then◌else◌}
+use Rattle.std.specs.Prelude.{ℕ, ◌==◌, ◌&&◌, List, [], ◌∷◌, ◌++◌, Bool, true, false, nat_lt, if◌then◌else◌}
 use Rattle.quota_server.specs.Shares.{greatest}
 
 -- the counts that are kept, and for how many more there is room

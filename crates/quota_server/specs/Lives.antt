@@ -1,5 +1,5 @@
 -- Inside: the live shares of a pool, and what is kept of them.
-use Rattle.std.specs.Prelude.{◌≡◌, ℕ, ◌-◌, ◌≤◌, List, [], ◌∷◌, Bool, false, filter, map, nat_lt, not, ⊤}
+use Rattle.std.specs.Prelude.{◌≡◌, ℕ, ◌-◌, ◌≤◌, List, [], ◌∷◌, Bool, false, filter, map, not, ⊤}
 use Rattle.std.specs.List.{AllByRecursion}
 use Rattle.rate_types.specs.Sums.{total}
 use Rattle.quota_server.specs.Shares.{Share, lasts_until, is_of, clients_of, held_of}

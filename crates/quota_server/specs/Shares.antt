@@ -1,7 +1,7 @@
 -- Shares of a pool: what its clients hold by the assignments that were written, and what a client is granted.
 use Rattle.std.specs.Prelude.{ℕ, ◌+◌, ◌-◌, ◌/◌, ◌≤◌, ◌&&◌, not, List, [], ◌∷◌, Bool, filter, map, max, min, nat_lt, if◌then◌else◌}
 use Rattle.std.specs.List.{list_any}
-use Rattle.rate_types.specs.Sums.{total, one_if}
+use Rattle.rate_types.specs.Sums.{total}
 use Rattle.rate_types.specs.Counters.{same_text}
 
 -- an assignment that was written: the client that it was for, its count, and from when until when it is live

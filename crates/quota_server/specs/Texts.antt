@@ -1,12 +1,13 @@
 -- The lines that a quota server writes, as JSON: compact, with the names of each object in byte order, each with its line feed.
 use Rattle.std.specs.Prelude.{ℕ, ◌==◌, List, [], ◌∷◌, ◌++◌, if◌then◌else◌, codes, decimal}
 use Rattle.std.specs.List.{flat_map}
+use Rattle.json.specs.Print.{quoted}
 use Rattle.rate_types.specs.Durations.{duration_text}
 use Rattle.rate_types.specs.UnitNames.{unit_name}
 use Rattle.rate_types.specs.declared.refused.Refused.{Refused}
 use Rattle.rate_types.specs.declared.unit.Unit.{Unit}
 use Rattle.quota_settings.specs.declared.pair.Pair.{Pair}
-use Rattle.quota_stream.specs.Texts.{quoted, bucket_text, at_start, number_start, refused_part}
+use Rattle.quota_stream.specs.Texts.{bucket_text, at_start, number_start, refused_part}
 use Rattle.quota_server.specs.declared.grant.Grant.{Grant}
 use Rattle.quota_server.specs.declared.grant.Grant.TheVariants.{Share, NoPool}
 

@@ -32,7 +32,8 @@ pub fn pool_lines(
     'lines: while rest.len() > 0 {
         let (first, after) = cut_line(rest);
         number += 1;
-        let line = take_bytes(alloc, &mut server, number, first)?;
+        let mut line = String::new(alloc);
+        take_bytes(alloc, &mut server, &mut line, number, first)?;
         lines.push(line)?;
         rest = after;
     }

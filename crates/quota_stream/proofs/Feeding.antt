@@ -6,7 +6,7 @@ use Rattle.std.specs.Fmt.{digits, digits_onto, digit_glyph}
 use Rattle.std.specs.List.{flat_map}
 use Rattle.std.proofs.lemmas.Bool.Decides.{nat_tests}
 use Rattle.std.proofs.lemmas.List.Folds.{list_all-append}
-use Rattle.json.specs.Print.{escape_byte, escape_letter}
+use Rattle.json.specs.Print.{escape, escape_byte, escape_letter}
 use Rattle.rate_types.specs.Durations.{duration_text}
 use Rattle.rate_types.specs.declared.refused.Refused.{Refused}
 use Rattle.proto_json.specs.Said.{reading_of}
@@ -23,7 +23,7 @@ use Rattle.quota_lines.specs.declared.stream_line.StreamLine.{StreamLine}
 use Rattle.quota_stream.specs.Outcomes.{Outcome, happened, accepted, outcome_read, outcome_of, refused_as, first_report, answers_of}
 use Rattle.text_lines.specs.Lines.{cut}
 use Rattle.quota_stream.specs.Output.{outputs, quota_output, has_no_feed, IsLine, AreLines}
-use Rattle.quota_stream.specs.Texts.{quoted, pair_text, next_pair, pairs_text, bucket_text, found_text, decision_name, connection_name, answer_text, next_answer, answers_text}
+use Rattle.quota_stream.specs.Texts.{pair_text, next_pair, pairs_text, bucket_text, found_text, decision_name, connection_name, answer_text, next_answer, answers_text}
 use Rattle.quota_stream.specs.Texts.{allowed_member, denied_member, elapsed_member, usage_text, at_start, number_start, actions_start, at_part, decision_part}
 use Rattle.quota_stream.specs.Texts.{connection_part, usages_text, domain_end, report_part, refusal_text, refused_part, time_back_part, stream_end, line_end}
 use Rattle.quota_stream.specs.Texts.{decision_line, report_line, actions_line, connection_line, passing_line, refused_line, time_back_line}
@@ -86,9 +86,8 @@ escaped x = by (x == 10) refl
     by false is = escaped_other x is
     by true is = let ten : x ≡ 10 = grind (arith, nat_tests) in subst (λ (y : ℕ). has_no_feed (escape_byte y) ≡ true) (sym ten) escaped_feed
 
-pub quoted_plain : (text : List ℕ) → has_no_feed (quoted text) ≡ true
-unfolding quoted
-quoted_plain text = both (flat_map escape_byte text) (34 ∷ []) (flat escape_byte escaped text) refl
+escape_plain : (text : List ℕ) → has_no_feed (escape text) ≡ true
+escape_plain text = flat escape_byte escaped text
 
 onto : (k n : ℕ) (acc : List ℕ) → has_no_feed acc ≡ true → has_no_feed (digits_onto k 10 false n acc) ≡ true
 onto zero n acc h = h
@@ -115,7 +114,7 @@ duration_plain n =
 
 pair_plain : (p : Pair) → has_no_feed (pair_text p) ≡ true
 unfolding pair_text
-pair_plain p = simp (appended, quoted_plain)
+pair_plain p = simp (appended, escape_plain)
 
 next_pair_plain : (p : Pair) → has_no_feed (next_pair p) ≡ true
 next_pair_plain p = simp (appended, pair_plain)
@@ -199,7 +198,7 @@ usages_plain r = simp (appended, usage_plain)
 
 domain_plain : (domain : List ℕ) → has_no_feed (domain_end domain) ≡ true
 unfolding domain_end
-domain_plain domain = simp (appended, quoted_plain)
+domain_plain domain = simp (appended, escape_plain)
 
 report_plain : (domain : List ℕ) (r : Report) → has_no_feed (report_part domain r) ≡ true
 unfolding report_part
@@ -207,7 +206,7 @@ report_plain domain r = simp (appended, usages_plain, domain_plain)
 
 refusal_plain : (refused : Refused) → has_no_feed (refusal_text refused) ≡ true
 unfolding refusal_text
-refusal_plain refused = simp (appended, quoted_plain, decimal_plain)
+refusal_plain refused = simp (appended, escape_plain, decimal_plain)
 
 refused_plain : (refused : Refused) → has_no_feed (refused_part refused) ≡ true
 unfolding refused_part
@@ -302,7 +301,7 @@ read_lines n (Ok (Some line)) s =
     one_outcome (nat_lt line.at s.time) (refused_as (time_back_line n s.time) s) (accepted n line s) (a_time_back n s.time, tt) (accepted_lines n line s)
 read_lines n (Ok None) s = tt
 
-outcome_lines : (n : LineNumber) (bytes : List ℕ) (s : Stream) → AreLines (outcome_of n bytes s).written
+pub outcome_lines : (n : LineNumber) (bytes : List ℕ) (s : Stream) → AreLines (outcome_of n bytes s).written
 unfolding outcome_of
 outcome_lines n bytes s = read_lines n (reading_of (reading.line bytes)) s
 

@@ -5,3 +5,5 @@ pub mod Parting
 pub mod Feeding
 pub mod Coming
 pub mod Rounds
+pub mod Feeds
+pub mod Putting

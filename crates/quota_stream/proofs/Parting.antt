@@ -189,10 +189,10 @@ feed_is bytes at is =
     let same : (get_or bytes at 0 == 10) ≡ true = subst (λ (n : ℕ). (get_or bytes n 0 == 10) ≡ true) (sym here.0) passes in
     grind (arith, nat_tests)
 
-with_feed : (bytes : List ℕ) (at : ℕ) → position (λ b. b == 10) bytes ≡ Some at → take (at + 1) bytes ≡ take at bytes ++ 10 ∷ []
+pub with_feed : (bytes : List ℕ) (at : ℕ) → position (λ b. b == 10) bytes ≡ Some at → take (at + 1) bytes ≡ take at bytes ++ 10 ∷ []
 with_feed bytes at is = take_more bytes at 0 (feed_at bytes at is).1 ∙ ap (λ (b : ℕ). take at bytes ++ b ∷ []) (feed_is bytes at is)
 
-around_feed : (bytes : List ℕ) (at : ℕ) → position (λ b. b == 10) bytes ≡ Some at → bytes ≡ take at bytes ++ 10 ∷ drop (at + 1) bytes
+pub around_feed : (bytes : List ℕ) (at : ℕ) → position (λ b. b == 10) bytes ≡ Some at → bytes ≡ take at bytes ++ 10 ∷ drop (at + 1) bytes
 around_feed bytes at is = cut_list bytes at 0 (feed_at bytes at is).1 ∙ ap (λ (b : ℕ). take at bytes ++ b ∷ drop (at + 1) bytes) (feed_is bytes at is)
 
 -- all bytes, where there is none

@@ -1,6 +1,7 @@
 -- What the parts of a line's outcome share.
-use Rattle.std.proofs.Common.{◌≡◌, ℕ, ◌<◌, Bool, true, false, List, [], ◌∷◌, Option, Some, None, Result, Ok, Err, IfOk, OnOk, nat_lt, refl, ◌∙◌, arith, if◌then◌else◌}
-use Rattle.std.specs.Result.{is_err}
+use Rattle.std.proofs.Common.{◌≡◌, ℕ, ◌<◌, Bool, true, false, List, [], ◌∷◌, ◌++◌, map, Option, Some, None, option_map, Result, Ok, Err, OnOk, nat_lt, refl, sym, ap, ◌∙◌}
+use Rattle.std.proofs.Common.{append_assoc, arith, if◌then◌else◌}
+use Rattle.std.specs.List.{concat, flat_map}
 use Rattle.std.proofs.lemmas.Bool.Decides.{nat_tests}
 use Rattle.quota_settings.specs.Covering.{OneSettings, covering, id_of}
 use Rattle.quota_settings.specs.declared.pair.Pair.{Pair}
@@ -11,7 +12,7 @@ use Rattle.quota_buckets.specs.declared.answers.AdvanceFault.TheVariants.{TimeBa
 use Rattle.quota_buckets.specs.declared.phase.Phase.{Phase}
 use Rattle.quota_buckets.specs.declared.phase.Phase.TheVariants.{None as NoPhase, NoAssignment, Live, Expired}
 use Rattle.quota_lines.specs.declared.stream_line.StreamLine.{StreamLine}
-use Rattle.quota_stream.specs.Outcomes.{Outcome, in_time, accepted, refused_as, abandonment_answer, time_back_lines}
+use Rattle.quota_stream.specs.Outcomes.{Outcome, in_time, accepted, refused_as, abandonment_answer, time_back_text}
 use Rattle.quota_stream.specs.Texts.{time_back_line}
 use Rattle.quota_stream.specs.declared.line_number.LineNumber.{LineNumber}
 use Rattle.quota_stream.specs.declared.action_answer.ActionAnswer.TheVariants.{Abandoned}
@@ -54,23 +55,21 @@ pub refused_in_time : (n : LineNumber) (line : StreamLine) (s : Stream) → line
 refused_in_time n line s back = chosen_back (nat_lt line.at s.time) _ _ (grind (arith, nat_tests))
 
 -- the outcome of a line that time goes back to, by the answer of the advance
-pub not_in_time : (n : LineNumber) (line : StreamLine) (s : Stream) (fault : AdvanceFault) (lines : List (List ℕ))
+pub not_in_time : (n : LineNumber) (line : StreamLine) (s : Stream) (fault : AdvanceFault) (old new : List ℕ)
     → ((last : ℕ) → fault ≡ TimeBack last → (line.at < s.time) × (last ≡ s.time))
-    → Some lines ≡ time_back_lines n fault → in_time n line s ≡ record { written = lines; stream = s }
-not_in_time n line s (TimeBack last) lines back is =
+    → Some new ≡ option_map (λ text. old ++ text) (time_back_text n fault)
+    → (in_time n line s ≡ refused_as (time_back_line n s.time) s) × (new ≡ old ++ time_back_line n s.time)
+not_in_time n line s (TimeBack last) old new back is =
     let at = back last refl in
-    let one : lines ≡ time_back_line n last ∷ [] = cc in
-    refused_in_time n line s at.0 ∙ rw (one, at.1) refl
-not_in_time n line s OutOfMemory lines back is = absurd (cc)
+    let text : new ≡ old ++ time_back_line n last = cc in
+    (refused_in_time n line s at.0, rw at.1 at text)
+not_in_time n line s OutOfMemory old new back is = absurd (cc)
 
-pub on_ok : {T E : Type 0} (r : Result T E) (P : T → Type 0) (Q : Type 0) → IfOk r P → ((x : T) → P x → Q) → OnOk r Q
-on_ok (Ok x) P Q h f = f x h
+-- the lines of reports, and others behind them
+pub texts_behind : {X : Type 0} (f : X → List ℕ) (xs : List X) (lines : List (List ℕ)) → concat (map f xs ++ lines) ≡ flat_map f xs ++ concat lines
+texts_behind f [] lines = refl
+texts_behind f (x ∷ xs) lines = ap (λ (l : List ℕ). f x ++ l) (texts_behind f xs lines) ∙ sym (append_assoc (f x) (flat_map f xs) (concat lines))
+
+pub on_ok : {T E : Type 0} (r : Result T E) (P Q : Type 0) → OnOk r P → (P → Q) → OnOk r Q
+on_ok (Ok x) P Q h f = f h
 on_ok (Err e) P Q h f = tt
-
-pub from_ok : {T E : Type 0} (r : Result T E) (P : Type 0) → false ≡ is_err r → OnOk r P → P
-from_ok (Ok x) P is p = p
-from_ok (Err e) P is p = absurd (cc)
-
-pub if_ok : {T E : Type 0} (r : Result T E) (P Q : T → Type 0) → IfOk r P → ((x : T) → P x → Q x) → IfOk r Q
-if_ok (Ok x) P Q h f = f x h
-if_ok (Err e) P Q h f = tt

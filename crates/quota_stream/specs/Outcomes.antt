@@ -116,9 +116,9 @@ abbrev pub refused_as : List ℕ → Stream → Outcome
 refused_as line s = record { written = line ∷ []; stream = s }
 
 -- Inside: the line of one whose moment is before the last one, by the answer of an advance
-abbrev pub time_back_lines : LineNumber → AdvanceFault → Option (List (List ℕ))
-time_back_lines n (TimeBack last) = Some (time_back_line n last ∷ [])
-time_back_lines n OutOfMemory = None
+abbrev pub time_back_text : LineNumber → AdvanceFault → Option (List ℕ)
+time_back_text n (TimeBack last) = Some (time_back_line n last)
+time_back_text n OutOfMemory = None
 
 -- a line that has no fault of its own: one whose moment is before the last one is refused
 abbrev pub in_time : LineNumber → StreamLine → Stream → Outcome

@@ -1,5 +1,5 @@
 -- The output of a whole stream.
-use Rattle.std.specs.Prelude.{◌≡◌, ℕ, ◌+◌, ◌==◌, not, List, [], ◌∷◌, ◌++◌, Bool, true}
+use Rattle.std.specs.Prelude.{◌≡◌, ℕ, ◌+◌, ◌==◌, not, List, [], ◌∷◌, ◌++◌, Bool, true, if◌then◌else◌}
 use Rattle.std.specs.List.{list_all, AllByRecursion}
 use Rattle.text_lines.specs.Lines.{cut}
 use Rattle.quota_settings.specs.Covering.{AllSettings}
@@ -30,3 +30,13 @@ pub record IsLine (line : List ℕ) : Type 0 where
 -- each of these is one line
 abbrev pub AreLines : List (List ℕ) → Type 0
 AreLines = AllByRecursion IsLine
+
+-- a byte before lines, the first of the first of them
+abbrev pub before_lines : ℕ → List (List ℕ) → List (List ℕ)
+before_lines b [] = (b ∷ []) ∷ []
+before_lines b (line ∷ lines) = (b ∷ line) ∷ lines
+
+-- the lines of bytes, each with its line feed
+abbrev pub with_feeds : List ℕ → List (List ℕ)
+with_feeds [] = []
+with_feeds (b ∷ bs) = if b == 10 then (b ∷ []) ∷ with_feeds bs else before_lines b (with_feeds bs)

@@ -1,8 +1,7 @@
 -- The lines that are written, as JSON: compact, with the names of each object in byte order, each with its line feed.
 use Rattle.std.specs.Prelude.{ℕ, ◌==◌, List, [], ◌∷◌, ◌++◌, Bool, true, false, Option, None, Some, if◌then◌else◌, codes, decimal}
 use Rattle.std.specs.List.{flat_map}
-use Rattle.serde_json.specs.Data.{string}
-use Rattle.serde_json.specs.Written.{compact_text}
+use Rattle.json.specs.Print.{quoted}
 use Rattle.rate_types.specs.Durations.{duration_text}
 use Rattle.rate_types.specs.declared.refused.Refused.{Refused}
 use Rattle.quota_settings.specs.declared.pair.Pair.{Pair}
@@ -14,10 +13,6 @@ use Rattle.quota_lines.specs.declared.stream_line.Connection.{Connection}
 use Rattle.quota_lines.specs.declared.stream_line.Connection.TheVariants.{Lost, Up}
 
 -- ---- parts of lines
-
--- a text as JSON
-unfoldable pub quoted : List ℕ → List ℕ
-quoted text = compact_text (string text)
 
 -- a name with its value, as a member of an object
 unfoldable pub pair_text : Pair → List ℕ

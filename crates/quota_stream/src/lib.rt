@@ -12,23 +12,23 @@
 
 mod action_answer;
 mod line_number;
-mod line_parts;
-mod line_texts;
+mod output_lines;
 mod progress;
+mod put_lines;
+mod put_parts;
 mod replay_fault;
 mod replaying;
 mod step;
 mod stream_task;
 mod task_future;
-mod text_parts;
 mod workers;
 mod writing;
 
 pub use action_answer::ActionAnswer;
 pub use line_number::LineNumber;
-pub use line_parts::{at_start, number_start, refused_part};
+pub use output_lines::cut_output_line;
+pub use put_parts::{put_at_start, put_bucket, put_number_start, put_refused_part};
 pub use replay_fault::ReplayFault;
 pub use replaying::replay;
 pub use stream_task::StreamTask;
-pub use text_parts::{bucket_text, quoted};
 pub use workers::replay_all;

@@ -1,4 +1,5 @@
-ghost use Rattle.std.specs.Prelude.{◌≡◌, ◌++◌, [], map, IfOk, IfErr, OnOk, string_bytes};
+ghost use Rattle.std.specs.Prelude.{◌≡◌, ◌++◌, [], IfOk, IfErr, OnOk, string_bytes};
+ghost use Rattle.std.specs.List.{concat};
 
 use crate::line_number::LineNumber;
 use crate::replay_fault::ReplayFault;
@@ -78,11 +79,11 @@ impl Replay {
         Ok(())
     }
 
-    /// Ends the line: the lines that are written for it.
-    pub fn end_line(&mut self) -> Result<Vec<String>, ReplayFault>
+    /// Ends the line: the lines that are written for it, one after the other.
+    pub fn end_line(&mut self) -> Result<String, ReplayFault>
         ensures ended { OnOk result (self.new ≡ after_line self.old) }
         ensures few { OnOk result (self.new.lines ≤ MOST_LINES) }
-        ensures written { IfOk result (λ v. map (λ t. string_bytes t) v.items ≡ (next_outcome self.old).written) }
+        ensures written { IfOk result (λ t. string_bytes t ≡ concat (next_outcome self.old).written) }
         ensures fault { IfErr result (IsLineFault self.old) }
     {
         if self.lines >= MOST_LINES {
@@ -94,13 +95,13 @@ impl Replay {
             stream: self.index,
             line: self.lines + 1,
         };
-        match take_bytes(self.alloc, &mut self.buckets, number, &self.pending) {
-            Ok(lines) => {
-                self.lines += 1;
-                self.pending.clear();
-                Ok(lines)
-            }
-            Err(_) => Err(ReplayFault::OutOfMemory),
-        }
+        let mut text = String::new(self.alloc);
+        let bytes = &self.pending;
+        let Ok(()) = take_bytes(self.alloc, &mut self.buckets, &mut text, number, bytes) else {
+            return Err(ReplayFault::OutOfMemory);
+        };
+        self.lines += 1;
+        self.pending.clear();
+        Ok(text)
     }
 }

@@ -21,8 +21,8 @@ fn end_line<K: Sink>(replay: &mut Replay, sink: &mut K) -> Result<(), ReplayFaul
     ensures write { result ≡ Err ReplayFault.Write → Rose (K.faults sink.old) (K.faults sink.new) }
     ensures later { K.faults sink.old ≤ K.faults sink.new }
 {
-    let lines = replay.end_line()?;
-    let Ok(()) = write_lines(sink, &lines) else {
+    let text = replay.end_line()?;
+    let Ok(()) = write_lines(sink, text.as_bytes()) else {
         return Err(ReplayFault::Write);
     };
     Ok(())

@@ -1,13 +1,14 @@
 // What comes of one line.
-ghost use Rattle.std.specs.Prelude.{◌≡◌, ◌++◌, ◌∷◌, [], map, IfOk, OnOk, Some, string_bytes};
+ghost use Rattle.std.specs.Prelude.{◌≡◌, ◌++◌, map, option_map, IfOk, OnOk, Some, string_bytes};
+ghost use Rattle.std.specs.List.{concat, flat_map};
 ghost use Rattle.quota_stream.specs.Outcomes as outcomes;
-ghost use Rattle.quota_stream.specs.Texts.{report_line as report_text};
+ghost use Rattle.quota_stream.specs.Texts.{report_line};
 
 use crate::action_answer::ActionAnswer;
 use crate::line_number::LineNumber;
-use crate::line_texts::{
-    actions_line, connection_line, decision_line, passing_line, refused_line, report_line,
-    time_back_line,
+use crate::put_lines::{
+    put_actions_line, put_connection_line, put_decision_line, put_passing_line, put_refused_line,
+    put_report_line, put_time_back_line,
 };
 use proto_json::FormFault;
 use quota_buckets::{AdvanceFault, Assigned, Buckets, Decided, NoBucket, Report};
@@ -17,41 +18,36 @@ use quota_lines::{
 use rate_types::{Millis, OutOfMemory};
 use std::alloc::Global;
 
-// Adds the lines of reports.
-fn push_reports(
+// Puts the lines of reports.
+fn put_reports(
     alloc: Global,
-    lines: &mut Vec<String>,
+    out: &mut String,
     stream: u64,
     domain: &str,
     reports: &[Report],
 ) -> Result<(), OutOfMemory>
-    ensures { OnOk result (map (λ t. string_bytes t) lines.new.items
-        ≡ map (λ t. string_bytes t) lines.old.items ++ map (report_text stream domain.now) reports.now) }
+    ensures { OnOk result (string_bytes out.new ≡ string_bytes out.old ++ flat_map (report_line stream domain.now) reports.now) }
 {
     'reports: for report in reports {
-        let line = report_line(alloc, stream, domain, report)?;
-        lines.push(line)?;
+        put_report_line(alloc, out, stream, domain, report)?;
     }
     Ok(())
 }
 
-// Adds the lines of a request that was decided.
-fn push_decided(
+// Puts the lines of a request that was decided.
+fn put_decided(
     alloc: Global,
-    lines: &mut Vec<String>,
+    out: &mut String,
     number: LineNumber,
     at: Millis,
     domain: &str,
     decided: &Decided,
 ) -> Result<(), OutOfMemory>
-    ensures { OnOk result (map (λ t. string_bytes t) lines.new.items
-        ≡ map (λ t. string_bytes t) lines.old.items ++ outcomes.decided_lines number at domain.now decided.now) }
+    ensures { OnOk result (string_bytes out.new ≡ string_bytes out.old ++ concat (outcomes.decided_lines number at domain.now decided.now)) }
 {
-    let line = decision_line(alloc, number, at, &decided.bucket, decided.allowed)?;
-    lines.push(line)?;
+    put_decision_line(alloc, out, number, at, &decided.bucket, decided.allowed)?;
     if let Some(report) = &decided.report {
-        let line = report_line(alloc, number.stream, domain, report)?;
-        lines.push(line)?;
+        put_report_line(alloc, out, number.stream, domain, report)?;
     }
     Ok(())
 }
@@ -100,98 +96,73 @@ fn act_all(
     Ok(answers)
 }
 
-// Does what happens at the present time, and adds its lines.
+// Does what happens at the present time, and puts its lines.
 fn happen(
     alloc: Global,
     buckets: &mut Buckets,
-    lines: &mut Vec<String>,
+    out: &mut String,
     number: LineNumber,
     line: &StreamLine,
 ) -> Result<(), OutOfMemory>
     requires { line.now.at ≡ buckets.old.time }
     ensures stream { OnOk result (buckets.new ≡ (outcomes.happened number line.now.event buckets.old).stream) }
-    ensures written { OnOk result (map (λ t. string_bytes t) lines.new.items
-        ≡ map (λ t. string_bytes t) lines.old.items ++ (outcomes.happened number line.now.event buckets.old).written) }
+    ensures written { OnOk result (string_bytes out.new
+        ≡ string_bytes out.old ++ concat (outcomes.happened number line.now.event buckets.old).written) }
 {
     let at = line.at;
     match &line.event {
         StreamEvent::Request(attributes) => {
             let decided = buckets.request(attributes)?;
-            push_decided(
-                alloc,
-                lines,
-                number,
-                at,
-                buckets.domain().as_str(),
-                &decided,
-            )
+            put_decided(alloc, out, number, at, buckets.domain().as_str(), &decided)
         }
         StreamEvent::Response(actions) => {
             let answers = act_all(alloc, buckets, actions.items())?;
-            push_line(lines, actions_line(alloc, number, at, &answers)?)
+            put_actions_line(out, number, at, &answers)
         }
         StreamEvent::Connection(connection) => {
             buckets.set_up(*connection == Connection::Up);
-            push_line(lines, connection_line(alloc, number, at, *connection)?)
+            put_connection_line(out, number, at, *connection)
         }
-        StreamEvent::Passes => push_line(lines, passing_line(alloc, number, at)?),
+        StreamEvent::Passes => put_passing_line(out, number, at),
     }
-}
-
-// Adds a line.
-fn push_line(lines: &mut Vec<String>, line: String) -> Result<(), OutOfMemory>
-    ensures { OnOk result (map (λ t. string_bytes t) lines.new.items
-        ≡ map (λ t. string_bytes t) lines.old.items ++ string_bytes line ∷ []) }
-{
-    lines.push(line)?;
-    Ok(())
-}
-
-// One line alone.
-fn one_line(alloc: Global, line: String) -> Result<Vec<String>, OutOfMemory>
-    ensures { IfOk result (λ v. map (λ t. string_bytes t) v.items ≡ string_bytes line ∷ []) }
-{
-    let mut lines = Vec::new(alloc);
-    lines.push(line)?;
-    Ok(lines)
 }
 
 // A line whose moment isn't before the last one, with the reports that fell due up to it.
 fn accept(
     alloc: Global,
     buckets: &mut Buckets,
+    out: &mut String,
     number: LineNumber,
     line: &StreamLine,
     reports: &[Report],
-) -> Result<Vec<String>, OutOfMemory>
+) -> Result<(), OutOfMemory>
     requires { line.now.at ≡ buckets.old.time }
     ensures stream { OnOk result (buckets.new ≡ (outcomes.happened number line.now.event buckets.old).stream) }
-    ensures written { IfOk result (λ v. map (λ t. string_bytes t) v.items
-        ≡ map (report_text number.stream buckets.old.settings.domain) reports.now
-        ++ (outcomes.happened number line.now.event buckets.old).written) }
+    ensures written { OnOk result (string_bytes out.new
+        ≡ string_bytes out.old ++ concat (map (report_line number.stream buckets.old.settings.domain) reports.now
+        ++ (outcomes.happened number line.now.event buckets.old).written)) }
 {
-    let mut lines = Vec::new(alloc);
-    push_reports(
+    put_reports(
         alloc,
-        &mut lines,
+        out,
         number.stream,
         buckets.domain().as_str(),
         reports,
     )?;
-    happen(alloc, buckets, &mut lines, number, line)?;
-    Ok(lines)
+    happen(alloc, buckets, out, number, line)
 }
 
 // A line whose moment is before the last one.
-fn not_advanced(
-    alloc: Global,
+fn put_not_advanced(
+    out: &mut String,
     number: LineNumber,
     fault: AdvanceFault,
-) -> Result<Vec<String>, OutOfMemory>
-    ensures { IfOk result (λ v. Some (map (λ t. string_bytes t) v.items) ≡ outcomes.time_back_lines number fault) }
+) -> Result<(), OutOfMemory>
+    ensures { OnOk result (Some (string_bytes out.new)
+        ≡ option_map (λ line. string_bytes out.old ++ line) (outcomes.time_back_text number fault)) }
 {
     match fault {
-        AdvanceFault::TimeBack { last } => one_line(alloc, time_back_line(alloc, number, last)?),
+        AdvanceFault::TimeBack { last } => put_time_back_line(out, number, last),
         AdvanceFault::OutOfMemory => Err(OutOfMemory),
     }
 }
@@ -200,34 +171,37 @@ fn not_advanced(
 fn take_line(
     alloc: Global,
     buckets: &mut Buckets,
+    out: &mut String,
     number: LineNumber,
     line: &StreamLine,
-) -> Result<Vec<String>, OutOfMemory>
+) -> Result<(), OutOfMemory>
     ensures stream { OnOk result (buckets.new ≡ (outcomes.in_time number line.now buckets.old).stream) }
-    ensures written { IfOk result (λ v. map (λ t. string_bytes t) v.items ≡ (outcomes.in_time number line.now buckets.old).written) }
+    ensures written { OnOk result (string_bytes out.new
+        ≡ string_bytes out.old ++ concat (outcomes.in_time number line.now buckets.old).written) }
 {
     match buckets.advance(line.at) {
-        Ok(reports) => accept(alloc, buckets, number, line, reports.items()),
-        Err(fault) => not_advanced(alloc, number, fault),
+        Ok(reports) => accept(alloc, buckets, out, number, line, reports.items()),
+        Err(fault) => put_not_advanced(out, number, fault),
     }
 }
 
-/// What comes of a line: the lines that are written for it, and the buckets after it. A refused line changes nothing.
+/// What comes of a line: the lines that are written for it, put behind what a text holds, and the buckets after it. A refused line
+/// changes nothing.
 #[tactic(auto, unfolding(crate::specs::Outcomes::outcome_of))]
 pub fn take_bytes(
     alloc: Global,
     buckets: &mut Buckets,
+    out: &mut String,
     number: LineNumber,
     bytes: &[u8],
-) -> Result<Vec<String>, OutOfMemory>
+) -> Result<(), OutOfMemory>
     ensures stream { OnOk result (buckets.new ≡ (outcomes.outcome_of number bytes.now buckets.old).stream) }
-    ensures written { IfOk result (λ v. map (λ t. string_bytes t) v.items ≡ (outcomes.outcome_of number bytes.now buckets.old).written) }
+    ensures written { OnOk result (string_bytes out.new
+        ≡ string_bytes out.old ++ concat (outcomes.outcome_of number bytes.now buckets.old).written) }
 {
     match read_stream_line(alloc, bytes) {
-        Ok(line) => take_line(alloc, buckets, number, &line),
-        Err(FormFault::Refused(refused)) => {
-            one_line(alloc, refused_line(alloc, number, &refused)?)
-        }
+        Ok(line) => take_line(alloc, buckets, out, number, &line),
+        Err(FormFault::Refused(refused)) => put_refused_line(alloc, out, number, &refused),
         Err(FormFault::OutOfMemory) => Err(OutOfMemory),
     }
 }

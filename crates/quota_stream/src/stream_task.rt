@@ -1,14 +1,13 @@
-ghost use Rattle.std.specs.Prelude.{◌≡◌, ℕ, List, ◌+◌, ◌≤◌, ◌++◌, map, true, false};
-ghost use Rattle.std.specs.Prelude.{length, OnOk, OnErr, IfErr, IfSome, IfNone, None, Some, string_bytes};
-ghost use Rattle.std.specs.List.{concat};
+ghost use Rattle.std.specs.Prelude.{◌≡◌, ℕ, List, ◌+◌, ◌≤◌, true, false};
+ghost use Rattle.std.specs.Prelude.{length, OnOk, OnErr, IfErr, IfSome, IfNone, None, Some};
 
 use crate::line_number::LineNumber;
 use crate::replay_fault::ReplayFault;
 use crate::step::take_bytes;
 use quota_buckets::Buckets;
 use quota_settings::Settings;
+use rate_types::Word;
 use rate_types::limits::{MOST_BYTES, MOST_LINES};
-use rate_types::{OutOfMemory, Word};
 use std::alloc::Global;
 use std::hash::RandomState;
 use std::marker::Model;
@@ -65,24 +64,6 @@ fn too_long(bytes: &[u8]) -> Option<ReplayFault>
     None
 }
 
-// Adds a line to a text.
-fn push_line(text: &mut String, line: &String) -> Result<(), OutOfMemory>
-    ensures { OnOk result (string_bytes text.new ≡ string_bytes text.old ++ string_bytes line.now) }
-{
-    text.push_str(line)?;
-    Ok(())
-}
-
-// Adds lines to a text.
-fn push_lines(text: &mut String, lines: &[String]) -> Result<(), OutOfMemory>
-    ensures { OnOk result (string_bytes text.new ≡ string_bytes text.old ++ concat (map (λ t. string_bytes t) lines.now)) }
-{
-    'lines: for line in lines {
-        push_line(text, line)?;
-    }
-    Ok(())
-}
-
 impl<'a> StreamTask<'a> {
     ghost use Rattle.quota_stream.specs.Tasks.{Stands, GoesOn, IsAnswer, output_text, is_ended};
 
@@ -133,12 +114,9 @@ impl<'a> StreamTask<'a> {
             stream: self.index,
             line: self.lines + 1,
         };
-        let Ok(lines) = take_bytes(self.alloc, &mut self.buckets, number, first) else {
+        let Ok(()) = take_bytes(self.alloc, &mut self.buckets, &mut self.text, number, first) else {
             return Err(ReplayFault::OutOfMemory);
         };
-        if push_lines(&mut self.text, &lines).is_err() {
-            return Err(ReplayFault::OutOfMemory);
-        }
         self.left = after;
         self.lines += 1;
         Ok(())

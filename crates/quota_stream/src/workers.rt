@@ -1,6 +1,6 @@
 ghost use Rattle.std.specs.Prelude.{◌≡◌, ℕ, List, ◌<◌, ◌++◌, ◌∷◌, [], length, slice_index_or, IfOk, IfErr, OnOk, All};
-ghost use Rattle.quota_stream.specs.Output.{AreLines, quota_output};
-ghost use Rattle.quota_stream.specs.Tasks.{Task, GoesOn, IsShort, texts_from};
+ghost use Rattle.quota_stream.specs.Output.{AreLines, quota_output, with_feeds};
+ghost use Rattle.quota_stream.specs.Tasks.{Task, GoesOn, IsShort, output_text, texts_from};
 ghost use Rattle.quota_stream.specs.Runs.{StandEach, IsFaultOfOne};
 
 use crate::replay_fault::ReplayFault;
@@ -135,6 +135,7 @@ pub fn replay_all<R: Threads + Sync>(
     ensures texts { IfOk result (λ v. v ≡ texts_from settings.now 0 streams.now) }
     ensures short { OnOk result (All IsShort streams.now) }
     ensures lines { (index : ℕ) (bytes : List ℕ) → AreLines (quota_output settings.now index bytes) }
+    ensures cut { (index : ℕ) (bytes : List ℕ) → with_feeds (output_text settings.now index bytes) ≡ quota_output settings.now index bytes }
     ensures fault { IfErr result (λ fault. IsFaultOfOne streams.now fault) }
 {
     let Ok(mut tasks) = tasks_of(alloc, settings, seed, streams.items()) else {

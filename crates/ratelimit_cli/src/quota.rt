@@ -79,5 +79,5 @@ pub fn run_quota<R: Threads + Sync, F: Files, K: Sink>(
         Ok(texts) => texts,
         Err(exit) => return Err(exit),
     };
-    write_texts(alloc, &texts, sink)
+    write_texts(&texts, sink)
 }

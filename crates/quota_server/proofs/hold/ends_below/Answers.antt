@@ -1,4 +1,4 @@
-use Rattle.std.proofs.Common.{◌≡◌, ◌<◌, ◌-◌, sym, arith, length}
+use Rattle.std.proofs.Common.{◌<◌, ◌-◌, sym, arith}
 use Rattle.std.proofs.lemmas.Grind.{common_steps}
 use Rattle.std.specs.VecDeque.{deque_len}
 use Rattle.quota_server.proofs.Skylines.{below_at}

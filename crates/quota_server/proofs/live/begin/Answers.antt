@@ -1,4 +1,4 @@
-use Rattle.std.proofs.Common.{◌≡◌, ◌≤◌, ℕ, List, ◌∷◌, if◌then◌else◌, max, length, subst, sym, arith, rules}
+use Rattle.std.proofs.Common.{◌≡◌, ℕ, List, if◌then◌else◌, max, arith, rules}
 use Rattle.rate_types.specs.Sums.{one_if}
 use Rattle.rate_types.specs.Counters.{same_text}
 use Rattle.quota_server.specs.Holds.{is_none_of, first_of, after_begin}

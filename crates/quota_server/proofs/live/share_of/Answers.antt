@@ -1,7 +1,7 @@
-use Rattle.std.proofs.Common.{◌≡◌, ◌≤◌, ◌<◌, ◌+◌, ◌-◌, ℕ, List, arith, refl}
+use Rattle.std.proofs.Common.{◌≡◌, ◌+◌, ◌-◌, arith, refl}
 use Rattle.rate_types.specs.Sums.{one_if}
 use Rattle.quota_server.specs.Shares.{others_of, sharing_of}
-use Rattle.quota_server.specs.Holds.{is_none_of, first_of}
+use Rattle.quota_server.specs.Holds.{is_none_of}
 use Rattle.quota_server.specs.Kept.{counts_in}
 use Rattle.quota_server.proofs.Living.{own_within, few_kept, one_at_most, others_kept, sharing_kept}
 use Rattle.quota_server.proofs.live.share_of.Goals as goal

@@ -1,4 +1,4 @@
-use Rattle.std.proofs.Common.{◌≡◌, ℕ, ◌≤◌, filter}
+use Rattle.std.proofs.Common.{◌≡◌, ◌≤◌, filter}
 use Rattle.std.specs.VecDeque.{deque_len, deque_capacity}
 use Rattle.quota_server.specs.Shares.{lasts_until}
 use Rattle.quota_server.specs.Kept.{room_in}

@@ -1,4 +1,5 @@
 use Rattle.std.proofs.Common.{◌≡◌, ℕ, List, [], ◌∷◌, map, refl, sym, ap, subst, ◌∙◌}
+use Rattle.std.specs.List.{flat_map}
 use Rattle.rate_types.specs.declared.limits.TheConstants.{MOST_BYTES}
 use Rattle.rate_io.specs.Events.{since}
 use Rattle.cli_exits.specs.Jobs.{AskedFile, asked, files_of}
@@ -6,7 +7,7 @@ use Rattle.cli_exits.specs.World.{World, AreFilesOf, exit_of}
 use Rattle.cli_exits.specs.Parts.{IsOfFiles, IsOfOutput}
 use Rattle.cli_quota.specs.Parts.{Replays}
 use Rattle.cli_quota.specs.Replayed.{IsReplayed}
-use Rattle.cli_quota.specs.Quota.{in_order}
+use Rattle.quota_stream.specs.Output.{with_feeds}
 use Rattle.command_words.specs.declared.command.Command.TheVariants.{Quota}
 use Rattle.cli_exits.proofs.Histories.{none_since, grew_since}
 use Rattle.ratelimit_cli.proofs.Explaining.{explain_files, explain_replay, explain_output, replay_output, sinks}
@@ -88,13 +89,11 @@ returns-clause-exit g c = λ words source_faults left is.
     (subst (AreFilesOf w.content (map (asked MOST_BYTES) c.items.result.now) w.files) c.first_of-file.ensures
     (grew_since (g.F.Files.history c.args.files.now) (g.F.Files.history c.read_files.new.files)
     (λ calls. AreFilesOf (g.F.Files.content c.args.files.now) (map (asked MOST_BYTES) c.items.result.now) calls c.in-Ok-read_files.blobs) c.in-Ok-read_files.ensures.contents)) in
-    let texts = c.in-Ok-replayed.ensures.texts in
-    let each : List (List (List ℕ)) = texts.0 in
-    let replays : Replays c.first_of-file.result.0 c.first_of-file.result.1 (in_order each) = rw (← c.bytes.ensures) texts.3 in
-    explain_output w (Quota c.args.job) is (λ pieces. pieces ≡ in_order each)
+    let lines : List (List ℕ) = flat_map with_feeds c.in-Ok-replayed.texts in
+    let replays : Replays c.first_of-file.result.0 c.first_of-file.result.1 lines = rw (← c.bytes.ensures) c.in-Ok-replayed.ensures.texts in
+    explain_output w (Quota c.args.job) is (λ pieces. pieces ≡ lines)
     (λ pieces same. subst (λ (ps : List (List ℕ)). IsReplayed w c.args.job ps) (sym same)
-    (replay_output w c.args.job is c.first_of-file.result.0 c.first_of-file.result.1 contents (λ i. []) (in_order each) replays))
+    (replay_output w c.args.job is c.first_of-file.result.0 c.first_of-file.result.1 contents (λ i. []) lines replays))
     (exit_of c.write_texts.result)
     (grew_since (g.K.Sink.history c.args.sink.now) (g.K.Sink.history c.write_texts.new.sink)
-    (IsOfOutput (λ pieces. pieces ≡ in_order each) (sinks w) (exit_of c.write_texts.result))
-    (c.write_texts.ensures each texts.1 texts.2))
+    (IsOfOutput (λ pieces. pieces ≡ lines) (sinks w) (exit_of c.write_texts.result)) c.write_texts.ensures)

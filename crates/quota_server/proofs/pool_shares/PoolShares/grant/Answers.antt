@@ -1,9 +1,6 @@
-use Rattle.std.proofs.Common.{◌≡◌, ◌≤◌, ◌<◌, ◌+◌, ◌++◌, ◌∷◌, [], ◌∙◌, List, max, filter, map, sym, ap, subst, arith, refl, rules}
+use Rattle.std.proofs.Common.{◌≡◌, ◌≤◌, ◌<◌, ◌+◌, ◌++◌, ◌∷◌, [], ◌∙◌, filter, sym, ap, subst, arith, rules}
 use Rattle.std.proofs.lemmas.List.{map-append}
-use Rattle.quota_server.specs.Shares.{Share, lasts_until, live_at, granted, granted_of, SharesFitPool}
-use Rattle.quota_server.specs.Holds.{first_of}
-use Rattle.quota_server.specs.Kept.{counts_in}
-use Rattle.quota_server.specs.Lives.{EndBy, others_hold}
+use Rattle.quota_server.specs.Shares.{lasts_until, live_at, granted, granted_of, SharesFitPool}
 use Rattle.quota_server.specs.Written.{IsWritten, shares_in, share_of}
 use Rattle.quota_server.proofs.Granting.{swept, held_fits, ends_last, granted_fits, written_more}
 use Rattle.quota_server.proofs.pool_shares.PoolShares.grant.Goals as goal

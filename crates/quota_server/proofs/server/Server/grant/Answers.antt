@@ -1,14 +1,13 @@
-use Rattle.std.proofs.Common.{◌≡◌, ℕ, ◌≤◌, ◌<◌, List, Option, Some, None, option_map, map, refl, ap, sym, ◌∙◌, subst, rules, arith, false, length}
+use Rattle.std.proofs.Common.{◌≡◌, ◌≤◌, ◌<◌, Some, None, refl, ap, sym, ◌∙◌, arith, false, length}
 use Rattle.std.proofs.lemmas.Grind.{common_steps}
 use Rattle.std.proofs.lemmas.Option.{slice_get_past, slice_get_read}
 use Rattle.std.specs.Vec.{vec_len}
 use Rattle.std.specs.Prelude.{find, slice_get, slice_set}
-use Rattle.quota_pools.specs.Pools.{OnePool, has_pool}
-use Rattle.quota_pools.specs.Places.{IsPlaces, places_of, AreAt}
+use Rattle.quota_pools.specs.Pools.{has_pool}
 use Rattle.quota_server.specs.Shares.{SharesFitPool}
 use Rattle.quota_server.specs.Written.{WrittenShares, with_share}
-use Rattle.quota_server.specs.Servers.{QuotaServer, is_for, grant_of, granted_to}
-use Rattle.quota_server.proofs.Serving.{pools_of, none_found, none_changed, one_found, one_changed, found_at, set_all, get_all, set_pools, IsFoundAt}
+use Rattle.quota_server.specs.Servers.{is_for, granted_to}
+use Rattle.quota_server.proofs.Serving.{pools_of, none_found, none_changed, one_found, one_changed, found_at, set_all, set_pools}
 use Rattle.quota_server.proofs.Serving.{none_past}
 use Rattle.quota_server.proofs.server.Server.grant.Goals as goal
 

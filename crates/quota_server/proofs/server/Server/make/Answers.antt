@@ -1,9 +1,4 @@
-use Rattle.std.proofs.Common.{◌≡◌, List, subst, sym, rules}
-use Rattle.std.specs.List.{AllByRecursion}
-use Rattle.quota_pools.specs.Pools.{OnePool}
-use Rattle.quota_pools.specs.Places.{AreAt}
-use Rattle.quota_server.specs.Written.{WrittenShares}
-use Rattle.quota_server.proofs.Serving.{pools_of, pools_without, begun_without}
+use Rattle.quota_server.proofs.Serving.{pools_without, begun_without}
 use Rattle.quota_server.proofs.server.Server.make.Goals as goal
 
 pub invariant_of-result : goal.invariant_of-result

@@ -1,9 +1,8 @@
-use Rattle.std.proofs.Common.{◌≡◌, ◌+◌, ◌++◌, List, ℕ, String, map, string_bytes, sym, ap, ◌∙◌, arith}
+use Rattle.std.proofs.Common.{◌≡◌, ◌+◌, ◌++◌, string_bytes, sym, ap, ◌∙◌, arith}
 use Rattle.std.specs.List.{concat}
 use Rattle.quota_stream.specs.Outcomes.{outcome_of}
 use Rattle.text_lines.specs.Lines.{cut}
 use Rattle.quota_stream.specs.Tasks.{Task}
-use Rattle.quota_stream.proofs.Steps.{from_ok}
 use Rattle.quota_stream.proofs.Tasking.{next_number, too_many, task_goes_on, not_ended}
 use Rattle.quota_stream.proofs.stream_task.StreamTask.take_line.Goals as goal
 
@@ -18,13 +17,11 @@ returns-clause-goes_on c =
     let here = not_ended c.args.self.now c.requires in
     let first = c.cut_line.result.0.now in
     let fault : c.self.inside.fault ≡ c.args.self.now.fault = ap (λ (t : Task). t.fault) c.self.view_is in
-    let pushed : string_bytes c.push_lines.new.text ≡ string_bytes c.self.inside.text ++ concat (map (λ t. string_bytes t) c.deref.result.now) =
-    from_ok c.push_lines.result _ c.if-is_err.ensures.value c.push_lines.ensures in
     let u : Task = record {
       index = c.self.inside.index;
       lines = c.self.inside.lines + 1;
       stream = c.take_bytes.new.buckets;
-      text = string_bytes c.push_lines.new.text;
+      text = string_bytes c.take_bytes.new.out;
       left = c.cut_line.result.1.now;
       fault = c.self.inside.fault;
     } in
@@ -35,7 +32,5 @@ returns-clause-goes_on c =
       lines = ap (λ (t : Task). t.lines + 1) c.self.view_is;
       left = ap (λ (t : Task). cut t.left) (sym c.self.view_is) ∙ c.cut_line.ensures.cut;
       stream = c.in-Ok.ensures.stream ∙ ap (λ (t : Task). (outcome_of (next_number t) first t.stream).stream) c.self.view_is;
-      text = pushed ∙ ap (λ (x : List (String _)). string_bytes c.self.inside.text ++ concat (map (λ t. string_bytes t) x)) c.deref.ensures.value
-          ∙ ap (λ (x : List (List ℕ)). string_bytes c.self.inside.text ++ concat x) c.in-Ok.ensures.written
-          ∙ ap (λ (t : Task). t.text ++ concat (outcome_of (next_number t) first t.stream).written) c.self.view_is;
+      text = c.in-Ok.ensures.written ∙ ap (λ (t : Task). t.text ++ concat (outcome_of (next_number t) first t.stream).written) c.self.view_is;
     })
