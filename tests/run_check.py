@@ -1,10 +1,10 @@
 #!/usr/bin/env python3
 """Reads a configuration, a script and what `ratelimit drive` printed for it, and says whether that is a lawful run and its totals.
 
-Usage: run_check.py CONFIG SCRIPT OUTPUT [--workers N] [--cells N] [--start T] [--global-shadow]
+Usage: run_check.py CONFIG SCRIPT OUTPUT [--workers N] [--cells N] [--start T] [--global-shadow] [--stats]
 
 The definitions are those of crates/script_run/specs, a clause of a lawful run each; this program shares no code with the proved
-one. It ends with 0 where all clauses and the totals hold, else with 1 after a line that says which clause fails where. Of refused lines
+one. It ends with 0 where all clauses, the totals and with --stats the statistics hold, else with 1 after a line that says which clause fails where. Of refused lines
 it knows those that tests/stress_script.py writes.
 """
 import argparse
@@ -30,13 +30,21 @@ class Config:
     """Trees by domain; finds the rule of a descriptor level by level."""
 
     def __init__(self, files):
-        self.trees = {}
+        self.trees, self.numbers = {}, {}
         for file in files:
             self.trees[file["domain"]] = file.get("descriptors") or []
+            for node in self.trees[file["domain"]]:
+                self.number(node)
         self.rules = {}
 
+    def number(self, node):
+        """Numbers the node and those below it, each before those below it."""
+        self.numbers[id(node)] = len(self.numbers)
+        for below in node.get("descriptors") or []:
+            self.number(below)
+
     def rule(self, domain, entries, own):
-        """None, or (limit, unit, shadow, name, replaces), where an unlimited rule has no unit."""
+        """None, or (limit, unit, shadow, name, replaces, number), where an unlimited rule has no unit and a descriptor's own limit no number."""
         key = (domain, entries, own)
         if key not in self.rules:
             self.rules[key] = self.look_up(domain, entries, own)
@@ -46,7 +54,7 @@ class Config:
         if domain not in self.trees:
             return None
         if own is not None:
-            return (own[0], own[1], False, None, ())
+            return (own[0], own[1], False, None, (), None)
         level, node = self.trees[domain], None
         for key, value in entries:
             node = matching(level, key, value)
@@ -59,8 +67,9 @@ class Config:
         name = policy.get("name") or None
         replaces = tuple(r if isinstance(r, str) else r["name"] for r in policy.get("replaces") or [])
         if policy.get("unlimited"):
-            return (None, None, False, name, replaces)
-        return (int(policy.get("requestsPerUnit") or 0), policy["unit"], bool(node.get("shadowMode")), name, replaces)
+            return (None, None, False, name, replaces, self.numbers[id(node)])
+        limit = int(policy.get("requestsPerUnit") or 0)
+        return (limit, policy["unit"], bool(node.get("shadowMode")), name, replaces, self.numbers[id(node)])
 
 
 def matching(level, key, value):
@@ -143,6 +152,8 @@ class Run:
         self.configs = {0: (0, first)}
         self.counters = {}
         self.named = set()
+        # of each version and rule that counted anything: its numbers, by their names
+        self.counted = {}
 
     def fail(self, clause, i, text):
         raise Fault(clause, i + 1, text)
@@ -282,7 +293,29 @@ class Run:
             want["limitRemaining"] = limit - value
         if status != want:
             self.fail(clause, i, f"the status is {status}, not {want}")
+        if rule[5] is not None:
+            self.count(r["version"], rule, hits, before, over)
         return over
+
+    def count(self, version, rule, hits, before, over):
+        """Adds the hits to the numbers of their rule, each by where the counter stood with it, or all as seen where none was charged."""
+        limit = rule[0]
+        near = 4 * limit // 5
+        if before is None:
+            added = {"total": hits, "within": 0, "near": 0, "over": hits, "seen": hits}
+        else:
+            stands = range(before + 1, before + hits + 1)
+            added = {
+                "total": hits,
+                "within": len(range(stands.start, min(stands.stop, limit + 1))),
+                "near": len(range(max(stands.start, near + 1), min(stands.stop, limit + 1))),
+                "over": len(range(max(stands.start, limit + 1), stands.stop)),
+                "seen": 0,
+            }
+        added["shadow"] = 0 if over else added["over"]
+        numbers = self.counted.setdefault((version, rule[5]), dict.fromkeys(added, 0))
+        for name, hits_added in added.items():
+            numbers[name] += hits_added
 
     # ---- one ledger, and lawful sights in it
 
@@ -417,7 +450,20 @@ class Run:
         if len(totals) != len(want):
             self.fail("totals", lines + min(len(totals), len(want)), f"{len(totals)} totals, not {len(want)}")
 
-    def check(self, totals):
+    # ---- the statistics
+
+    def stats(self, stats):
+        want = [
+            {"stats": {**numbers, "rule": rule, "version": version}}
+            for (version, rule), numbers in sorted(self.counted.items())
+            if numbers["total"]
+        ]
+        if stats != want:
+            place = next((i for i, (a, b) in enumerate(zip(stats, want)) if a != b), min(len(stats), len(want)))
+            found, wanted = stats[place : place + 1], want[place : place + 1]
+            raise Fault("statistics", place + 1, f"{found}, not {wanted}, of {len(want)}")
+
+    def check(self, totals, stats):
         self.kinds()
         self.versions()
         self.moments()
@@ -426,16 +472,25 @@ class Run:
         self.refusals()
         self.sequential()
         self.totals(totals)
+        if self.options.stats:
+            self.stats(stats)
+        elif stats:
+            raise Fault("statistics", 1, "nobody asked for them")
 
 
 def lines_of(path, count):
-    """The first `count` lines are records, the others totals."""
-    records, totals = [], []
+    """The first `count` lines are records, the others totals and behind them statistics."""
+    records, totals, stats = [], [], []
     with open(path, encoding="utf-8") as file:
         for text in file:
             line = json.loads(text)
-            (totals if len(records) >= count or "charged" in line else records).append(line)
-    return records, totals
+            if stats or "stats" in line:
+                stats.append(line)
+            elif len(records) >= count or "charged" in line:
+                totals.append(line)
+            else:
+                records.append(line)
+    return records, totals, stats
 
 
 def main():
@@ -446,21 +501,22 @@ def main():
     parser.add_argument("--cells", type=int, default=262144)
     parser.add_argument("--start", type=int, default=0)
     parser.add_argument("--global-shadow", action="store_true")
+    parser.add_argument("--stats", action="store_true")
     options = parser.parse_args()
     with open(options.config, encoding="utf-8") as file:
         first = Config([json.load(file)])
     with open(options.script, encoding="utf-8") as file:
         script = Script(file.read())
-    records, totals = lines_of(options.output, len(script.lines))
+    records, totals, stats = lines_of(options.output, len(script.lines))
     run = Run(first, script, records, options)
     try:
-        run.check(totals)
+        run.check(totals, stats)
     except Fault as fault:
         print(f"FAILED {fault}")
         return 1
     answered = sum("reply" in r for r in records)
     full = sum("name" in r.get("refused", {}) for r in records)
-    print(f"ok: {len(records)} lines, {answered} checks answered, {full} refused, {len(run.configs) - 1} reloads, {len(totals)} totals")
+    print(f"ok: {len(records)} lines, {answered} checks answered, {full} refused, {len(run.configs) - 1} reloads, {len(totals)} totals, {len(stats)} statistics")
     return 0
 
 

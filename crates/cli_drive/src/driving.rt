@@ -1,12 +1,13 @@
 // `drive`: a script, run by several workers.
-ghost use Rattle.std.specs.Prelude.{◌≤◌, IfOk, length};
+ghost use Rattle.std.specs.Prelude.{◌≡◌, ◌≤◌, IfOk, length, map, string_bytes};
 ghost use Rattle.rate_types.specs.declared.limits.TheConstants.{MOST_LINES};
 ghost use Rattle.rate_io.specs.Events.{Grew};
 ghost use Rattle.descriptor_tree.specs.Views.{config_view};
 ghost use Rattle.text_lines.specs.Lines.{cut};
 ghost use Rattle.cli_exits.specs.World.{exit_of};
 ghost use Rattle.cli_exits.specs.Parts.{IsOfOutput};
-ghost use Rattle.cli_drive.specs.Driven.{IsRunText};
+ghost use Rattle.script_text.specs.Views.{script_view};
+ghost use Rattle.cli_drive.specs.Driven.{IsRunText, HasStats};
 
 use crate::run_pieces::RunPieces;
 use cli_exits::{Exit, write_all};
@@ -15,11 +16,30 @@ use drive_run::{Setup, drive_script};
 use rate_io::Sink;
 use rate_types::OutOfMemory;
 use run_lines::RunLines;
+use run_stats::stats_texts;
+use script_run::RunRecords;
 use script_text::{Script, ScriptFault};
 use std::alloc::Global;
 use std::sync::{Arc, Wait};
 use std::thread::Threads;
 use worker_run::Gate;
+
+// The texts of the statistics of a run, where they are asked for.
+fn stats_of(
+    alloc: Global,
+    script: &Script,
+    records: &RunRecords,
+    stats: bool,
+) -> Result<Vec<String>, OutOfMemory>
+    requires { length records.now ≡ length (script_view script.now) }
+    ensures { IfOk result (λ texts. HasStats stats (script_view script.now) records.now (map (λ t. string_bytes t) texts.items)) }
+{
+    if stats {
+        stats_texts(alloc, script, records)
+    } else {
+        Ok(Vec::new(alloc))
+    }
+}
 
 // The lines of a run of an input as a script.
 fn driven_lines<R: Threads + Wait + Sync, G: Gate>(
@@ -28,10 +48,12 @@ fn driven_lines<R: Threads + Wait + Sync, G: Gate>(
     config: Config,
     bytes: &[u8],
     setup: Setup,
+    stats: bool,
     gate: &G,
 ) -> Result<RunLines, OutOfMemory>
     requires { length (cut bytes.now) ≤ MOST_LINES }
-    ensures { IfOk result (λ r. IsRunText (config_view config) setup.workers setup.cells setup.start setup.global_shadow bytes.now r.rest) }
+    ensures { IfOk result (λ r. IsRunText (config_view config) setup.workers setup.cells setup.start setup.global_shadow stats bytes.now
+        r.rest) }
 {
     let script = match Script::read(alloc, bytes) {
         Ok(script) => script,
@@ -40,15 +62,19 @@ fn driven_lines<R: Threads + Wait + Sync, G: Gate>(
     };
     let config = Arc::new(alloc, config)?;
     let driven = drive_script(rt, alloc, &script, config, setup, gate)?;
-    let lines = RunLines::make(alloc, driven.records, driven.totals.items())?;
+    let records = driven.records.in_order(alloc)?;
+    let texts = stats_of(alloc, &script, &records, stats)?;
+    let lines = RunLines::make(alloc, records, driven.totals.items(), texts)?;
     Ok(lines)
 }
 
-/// Runs an input as a script, writes the lines of the run, and flushes. All memory is taken before the first line is written.
+/// Runs an input as a script, writes the lines of the run, behind them with `stats` those of its statistics, and flushes. All memory is
+/// taken before the first line is written.
 pub fn drive_and_write<R: Threads + Wait + Sync, K: Sink, G: Gate>(
     rt: &R,
     alloc: Global,
     setup: Setup,
+    stats: bool,
     config: Config,
     bytes: &[u8],
     sink: &mut K,
@@ -56,13 +82,13 @@ pub fn drive_and_write<R: Threads + Wait + Sync, K: Sink, G: Gate>(
 ) -> Result<(), Exit>
     requires { length (cut bytes.now) ≤ MOST_LINES }
     ensures { Grew (K.history sink.old) (K.history sink.new)
-        (IsOfOutput (IsRunText (config_view config) setup.workers setup.cells setup.start setup.global_shadow bytes.now) (record {
+        (IsOfOutput (IsRunText (config_view config) setup.workers setup.cells setup.start setup.global_shadow stats bytes.now) (record {
           written = K.written sink.old;
           after = K.written sink.new;
           faults = (K.faults sink.old, K.faults sink.new);
         }) (exit_of result)) }
 {
-    let Ok(lines) = driven_lines(rt, alloc, config, bytes, setup, gate) else {
+    let Ok(lines) = driven_lines(rt, alloc, config, bytes, setup, stats, gate) else {
         return Err(Exit::OutOfMemory);
     };
     let mut pieces = RunPieces { lines };

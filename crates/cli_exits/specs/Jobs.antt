@@ -22,7 +22,7 @@ files_of (Plain configs) = map (asked MOST_BYTES) configs
 files_of (Quota replay) = asked MOST_BYTES replay.settings ∷ map (asked MOST_BYTES) replay.streams
 files_of (Pool job) = asked MOST_BYTES job.pools ∷ asked MOST_BYTES job.events ∷ []
 files_of (Audit job) = map (asked MOST_BYTES) job.configs ++ asked MOST_RUN_BYTES job.run ∷ []
-files_of (Threads (job.Drive configs workers cells start global_shadow)) = map (asked MOST_BYTES) configs
+files_of (Threads (job.Drive configs workers cells start global_shadow stats)) = map (asked MOST_BYTES) configs
 files_of (Threads (job.Serve serving)) = map (asked MOST_BYTES) serving.configs
 files_of (Threads (job.Gen number checks)) = []
 files_of Help = []
@@ -32,7 +32,7 @@ files_of Version = []
 abbrev pub ReadsConfigs : Command → Type 0
 ReadsConfigs (Plain configs) = ⊤
 ReadsConfigs (Audit job) = ⊤
-ReadsConfigs (Threads (job.Drive configs workers cells start global_shadow)) = ⊤
+ReadsConfigs (Threads (job.Drive configs workers cells start global_shadow stats)) = ⊤
 ReadsConfigs (Threads (job.Serve serving)) = ⊤
 ReadsConfigs other = ⊥
 

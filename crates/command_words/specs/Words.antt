@@ -29,10 +29,11 @@ flag_named name = record (new_rule name) { long = Some name; action = Some SetTr
 abbrev pub files_named : List ℕ → Rule
 files_named name = record (new_rule name) { required = true; action = Some Append }
 
--- `drive [--workers N] [--cells N] [--start T] [--global-shadow] CONFIG..`
+-- `drive [--workers N] [--cells N] [--start T] [--global-shadow] [--stats] CONFIG..`
 unfoldable pub drive_app : App
-drive_app = with_rule (with_rule (with_rule (with_rule (with_rule (new_app (codes "drive")) (option_named (codes "workers")))
-    (option_named (codes "cells"))) (option_named (codes "start"))) (flag_named (codes "global-shadow"))) (files_named (codes "configs"))
+drive_app = with_rule (with_rule (with_rule (with_rule (with_rule (with_rule (new_app (codes "drive")) (option_named (codes "workers")))
+    (option_named (codes "cells"))) (option_named (codes "start"))) (flag_named (codes "global-shadow"))) (flag_named (codes "stats")))
+    (files_named (codes "configs"))
 
 -- `lookup CONFIG..`
 unfoldable pub lookup_app : App
@@ -111,15 +112,17 @@ abbrev pub configs_in : List Row → List (List ℕ)
 configs_in rows = unwrap_or (all_of (codes "configs") rows) []
 
 -- a run by these numbers, where all are there
-abbrev pub job_of : List (List ℕ) → Option ℕ → Option ℕ → Option ℕ → Bool → Option Command
-job_of configs (Some workers) (Some cells) (Some start) global_shadow = Some (Threads (Drive configs workers cells start global_shadow))
-job_of configs workers cells start global_shadow = None
+abbrev pub job_of : List (List ℕ) → Option ℕ → Option ℕ → Option ℕ → Bool → Bool → Option Command
+job_of configs (Some workers) (Some cells) (Some start) global_shadow stats =
+    Some (Threads (Drive configs workers cells start global_shadow stats))
+job_of configs workers cells start global_shadow stats = None
 
 -- the run that `drive` makes: `--workers` is 1 to 64, `--cells` 1 to 1,048,576, `--start` 0 to 1,000,000,000,000
 abbrev pub drive_job : List Row → Option Command
 drive_job rows = job_of (configs_in rows) (number_in 1 MOST_WORKERS 1 (first_of (codes "workers") rows))
     (number_in 1 MOST_CELLS DEFAULT_CELLS (first_of (codes "cells") rows))
     (number_in 0 LATEST_MOMENT 0 (first_of (codes "start") rows)) (is_given (first_of (codes "global-shadow") rows))
+    (is_given (first_of (codes "stats") rows))
 
 -- the words of `drive`
 abbrev pub drive_of : List (List ℕ) → Option Command
@@ -253,7 +256,7 @@ rows_in m = rows_of (found_of m)
 
 -- the numbers of a command are in their ranges
 abbrev pub AreInRange : Command → Type 0
-AreInRange (Threads (Drive configs workers cells start global_shadow)) =
+AreInRange (Threads (Drive configs workers cells start global_shadow stats)) =
     (1 ≤ workers) × (workers ≤ MOST_WORKERS) × (1 ≤ cells) × (cells ≤ MOST_CELLS)
 AreInRange (Threads (Serve job)) =
     (1 ≤ job.workers) × (job.workers ≤ MOST_WORKERS) × (1 ≤ job.cells) × (job.cells ≤ MOST_CELLS)

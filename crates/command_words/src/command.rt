@@ -68,6 +68,8 @@ pub enum ThreadJob {
         cells: u32,
         start: Seconds,
         global_shadow: bool,
+        /// Whether the statistics of rules are written behind the totals.
+        stats: bool,
     },
     /// `serve`.
     Serve(ServeJob),

@@ -4,13 +4,14 @@
 pub const HELP: &str = "\
 ratelimit: a rate limiter after Envoy's rate limit service, over recorded traffic and over HTTP
 
-  drive [--workers N] [--cells N] [--start T] [--global-shadow] CONFIG..
+  drive [--workers N] [--cells N] [--start T] [--global-shadow] [--stats] CONFIG..
       Reads configuration files and then a script from standard input, and prints a record for each line of the script
       and a total for each counter whose window is open at its end.
         --workers N        workers: 1 to 64 (default 1)
         --cells N          cells for counters: 1 to 1048576 (default 262144)
         --start T          the moment of the start, in seconds: 0 to 1000000000000 (default 0)
         --global-shadow    no reply has the overall code OVER_LIMIT
+        --stats            prints behind the totals what each rule counted, admitted and refused, in hits
   lookup CONFIG..
       Reads configuration files and then requests from standard input, one a line, and prints which rule each descriptor
       of each request finds.

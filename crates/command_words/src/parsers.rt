@@ -71,7 +71,7 @@ pub fn with_files<'a>(
     Ok(more)
 }
 
-/// `drive [--workers N] [--cells N] [--start T] [--global-shadow] CONFIG..`
+/// `drive [--workers N] [--cells N] [--start T] [--global-shadow] [--stats] CONFIG..`
 pub fn drive_parser<'a>(alloc: Global) -> Result<Command<'a>, AllocError>
     ensures { IfOk result (λ c. app_of c ≡ spec.drive_app) }
 {
@@ -79,7 +79,8 @@ pub fn drive_parser<'a>(alloc: Global) -> Result<Command<'a>, AllocError>
     let two = with_option(alloc, one, "cells")?;
     let three = with_option(alloc, two, "start")?;
     let four = with_flag(alloc, three, "global-shadow")?;
-    let command = with_files(alloc, four, "configs")?;
+    let five = with_flag(alloc, four, "stats")?;
+    let command = with_files(alloc, five, "configs")?;
     Ok(command)
 }
 

@@ -66,11 +66,12 @@ fn job_of(
     cells: Option<u32>,
     start: Option<u64>,
     global_shadow: bool,
+    stats: bool,
 ) -> Option<Command>
     requires workers { IfSome workers (λ n. (1 ≤ n) × (n ≤ MOST_WORKERS)) }
     requires cells { IfSome cells (λ n. (1 ≤ n) × (n ≤ MOST_CELLS)) }
     requires start { IfSome start (λ n. n ≤ LATEST_MOMENT) }
-    ensures job { result ≡ spec.job_of configs workers cells start global_shadow }
+    ensures job { result ≡ spec.job_of configs workers cells start global_shadow stats }
     ensures range { IfSome result spec.AreInRange }
 {
     let Some(workers) = workers else {
@@ -88,6 +89,7 @@ fn job_of(
         cells,
         start: Seconds::capped(start),
         global_shadow,
+        stats,
     }))
 }
 
@@ -102,7 +104,8 @@ pub fn drive_job(alloc: Global, matches: &ArgMatches<'_>) -> Result<Command, Wor
     let cells = count_in(first_in(matches, "cells"), 1, MOST_CELLS, DEFAULT_CELLS);
     let start = number_in(first_in(matches, "start"), 0, LATEST_MOMENT, 0);
     let global_shadow = is_given(first_in(matches, "global-shadow"));
-    match job_of(configs, workers, cells, start, global_shadow) {
+    let stats = is_given(first_in(matches, "stats"));
+    match job_of(configs, workers, cells, start, global_shadow, stats) {
         Some(job) => Ok(job),
         None => Err(WordsFault::Usage),
     }

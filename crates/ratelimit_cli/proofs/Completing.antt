@@ -87,7 +87,7 @@ lawful_at : (command : Command) (files : List (List ℕ)) → ReadsConfigs comma
     → reading_of (configs_among command files) ≡ Err at → ⊥
 lawful_at (Plain configs) files kind lawful at is = lawful at is
 lawful_at (Audit job) files kind lawful at is = lawful at is
-lawful_at (Threads (Drive configs workers cells start global_shadow)) files kind lawful at is = lawful at is
+lawful_at (Threads (Drive configs workers cells start global_shadow stats)) files kind lawful at is = lawful at is
 lawful_at (Threads (Serve serving)) files kind lawful at is = lawful at is
 lawful_at (Threads (Gen number checks)) files kind lawful at is = absurd kind
 lawful_at (Quota job) files kind lawful at is = absurd kind

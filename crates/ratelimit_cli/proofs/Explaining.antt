@@ -26,17 +26,17 @@ use Rattle.cli_exits.specs.declared.exit.Exit.TheVariants.{OutOfMemory, ListenFa
 -- a command by its work reads these files
 pub configs_same : (configs : List (List ℕ)) (work : Work) → map (asked MOST_BYTES) configs ≡ files_of (command_with configs work)
 configs_same configs Lookup = refl
-configs_same configs (Drive setup) = refl
+configs_same configs (Drive setup stats) = refl
 
 -- and no others
 pub configs_all : (configs : List (List ℕ)) (work : Work) (files : List (List ℕ)) → configs_among (command_with configs work) files ≡ files
 configs_all configs Lookup files = refl
-configs_all configs (Drive setup) files = refl
+configs_all configs (Drive setup stats) files = refl
 
 -- such a command reads configuration files
 pub reads_configs : (configs : List (List ℕ)) (work : Work) → ReadsConfigs (command_with configs work)
 reads_configs configs Lookup = tt
-reads_configs configs (Drive setup) = tt
+reads_configs configs (Drive setup stats) = tt
 
 pub explain_files : (w : World) (command : Command) → command_of w.words ≡ Some command → NothingRead w → NothingWritten w
     → (e : Exit) → IsOfFiles w.content (files_of command) w.file_faults e w.files → Explains e w
@@ -112,10 +112,10 @@ made_output w configs Lookup config bytes read are pieces made = record {
   read = read;
   made = subst (λ (b : List ℕ). IsOfWork Lookup config b pieces) (sym are) made;
 }
-made_output w configs (Drive setup) config bytes read are pieces made = record {
+made_output w configs (Drive setup stats) config bytes read are pieces made = record {
   config = config;
   read = read;
-  made = subst (λ (b : List ℕ). IsOfWork (Drive setup) config b pieces) (sym are) made;
+  made = subst (λ (b : List ℕ). IsOfWork (Drive setup stats) config b pieces) (sym are) made;
 }
 
 -- `quota` read its settings file and its streams

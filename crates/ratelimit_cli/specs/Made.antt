@@ -13,8 +13,8 @@ use Rattle.cli_lookup.specs.Lookup.{lookup_output}
 -- what a command makes of a configuration and an input
 abbrev pub IsMadeBy : Command → List DomainTree → List ℕ → List (List ℕ) → Type 0
 IsMadeBy (Plain configs) config bytes pieces = pieces ≡ lookup_output config bytes
-IsMadeBy (Threads (Drive configs workers cells start global_shadow)) config bytes pieces =
-    IsRunText config workers cells start global_shadow bytes pieces
+IsMadeBy (Threads (Drive configs workers cells start global_shadow stats)) config bytes pieces =
+    IsRunText config workers cells start global_shadow stats bytes pieces
 IsMadeBy other config bytes pieces = ⊥
 
 -- a text that a command makes of its files and its input

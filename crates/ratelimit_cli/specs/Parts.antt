@@ -12,9 +12,10 @@ use Rattle.ratelimit_cli.specs.declared.work.Work.TheVariants.{Lookup, Drive}
 -- the command that does this work by these configuration files
 abbrev pub command_with : List (List ℕ) → Work → Command
 command_with configs Lookup = Plain configs
-command_with configs (Drive setup) = Threads (job.Drive configs setup.workers setup.cells setup.start setup.global_shadow)
+command_with configs (Drive setup stats) = Threads (job.Drive configs setup.workers setup.cells setup.start setup.global_shadow stats)
 
 -- what this work makes of a configuration and an input
 abbrev pub IsOfWork : Work → List DomainTree → List ℕ → List (List ℕ) → Type 0
 IsOfWork Lookup config bytes pieces = pieces ≡ lookup_output config bytes
-IsOfWork (Drive setup) config bytes pieces = IsRunText config setup.workers setup.cells setup.start setup.global_shadow bytes pieces
+IsOfWork (Drive setup stats) config bytes pieces =
+    IsRunText config setup.workers setup.cells setup.start setup.global_shadow stats bytes pieces

@@ -48,7 +48,9 @@ fn make_and_write<R: Threads + Wait + Sync, K: Sink, G: Gate>(
 {
     match work {
         Work::Lookup => find_and_write(alloc, config, bytes, sink),
-        Work::Drive(setup) => drive_and_write(rt, alloc, setup, config, bytes, sink, gate),
+        Work::Drive { setup, stats } => {
+            drive_and_write(rt, alloc, setup, stats, config, bytes, sink, gate)
+        }
     }
 }
 
@@ -167,6 +169,7 @@ where
                     cells,
                     start,
                     global_shadow,
+                    stats,
                 },
             ),
         ) => {
@@ -175,7 +178,7 @@ where
                 rt,
                 alloc,
                 &configs,
-                Work::Drive(setup),
+                Work::Drive { setup, stats },
                 files,
                 source,
                 sink,
@@ -199,7 +202,8 @@ where
 }
 
 /// Does the command that the words name. `drive` reads configuration files and a script from the source, and writes one
-/// record per line of the script and then one total per counter whose window is open at its end; `lookup` reads
+/// record per line of the script, then one total per counter whose window is open at its end, and with `--stats` the numbers of each rule
+/// that counted anything; `lookup` reads
 /// configuration files and requests, and writes what each of their descriptors finds; `quota` reads a settings file and
 /// recorded streams, and writes what a lawful client would have done; `pool` reads pools and recorded reports, and writes the answers of
 /// a quota server; `audit` reads configuration files, a printed run and then its script from the source, and writes the verdict on the

@@ -5,6 +5,6 @@ use drive_run::Setup;
 pub enum Work {
     /// Each line of the input is looked up.
     Lookup,
-    /// The input is run as a script.
-    Drive(Setup),
+    /// The input is run as a script. `stats`: whether the statistics of rules are written behind the totals.
+    Drive { setup: Setup, stats: bool },
 }

@@ -14,6 +14,10 @@ record_line r = record_text_of r ++ 10 ∷ []
 abbrev pub total_line : Total → List ℕ
 total_line t = total_text_of t ++ 10 ∷ []
 
+-- a text and its line feed
+abbrev pub text_line : List ℕ → List ℕ
+text_line text = text ++ 10 ∷ []
+
 -- The lines of a run, in order.
 abbrev pub run_lines : List Record → List Total → List (List ℕ)
 run_lines records totals = map record_line records ++ map total_line totals

@@ -1,7 +1,7 @@
 // Lines that are made before any is written, and the line of a short record.
 ghost use Rattle.std.specs.Prelude.{◌≡◌, ◌+◌, ◌≤◌, ◌++◌, true, map, IfOk, OnOk, string_bytes, string_capacity};
 ghost use Rattle.reply_text.specs.declared.record_json.TheConstants.{LONGEST_SHORT_RECORD};
-ghost use Rattle.run_lines.specs.RunLines.{is_short, record_line, total_line, other_lines};
+ghost use Rattle.run_lines.specs.RunLines.{is_short, record_line, total_line, other_lines, text_line};
 
 use rate_types::OutOfMemory;
 use reply_text::{LONGEST_SHORT_RECORD, Record, put_record, record_text, total_text};
@@ -93,6 +93,19 @@ pub fn push_totals(
 {
     'totals: for index in 0..totals.len() {
         made.push(one_total(alloc, &totals[index])?)?;
+    }
+    Ok(())
+}
+
+/// Adds the lines of texts, which are moved.
+pub fn push_texts(made: &mut Vec<String>, texts: Vec<String>) -> Result<(), OutOfMemory>
+    ensures { OnOk result (map (λ t. string_bytes t) made.new.items
+        ≡ map (λ t. string_bytes t) made.old.items ++ map text_line (map (λ t. string_bytes t) texts.items)) }
+{
+    for text in texts {
+        let mut line = text;
+        line.push('\n')?;
+        made.push(line)?;
     }
     Ok(())
 }

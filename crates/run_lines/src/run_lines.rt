@@ -1,9 +1,9 @@
 ghost use Rattle.std.specs.Prelude.{◌≡◌};
 
-use crate::making::{fill, is_short, push_others, push_totals, room};
+use crate::making::{fill, is_short, push_others, push_texts, push_totals, room};
 use rate_types::OutOfMemory;
 use rls_core::Total;
-use script_run::{RunJournals, RunRecords};
+use script_run::RunRecords;
 use std::alloc::Global;
 use std::marker::Model;
 
@@ -13,7 +13,7 @@ use std::marker::Model;
 pub struct RunLines {
     alloc: Global,
     records: RunRecords,
-    // The lines that are made: those of the records that aren't short, in order, and then those of the totals.
+    // The lines that are made: those of the records that aren't short, in order, then those of the totals and of the other texts.
     made: Vec<String>,
     // The line of the last record, where that is short. It has room for any such line.
     kept: String,
@@ -41,23 +41,24 @@ impl Model for RunLines {
 }
 
 impl RunLines {
-    ghost use Rattle.std.specs.Prelude.{◌≡◌, ◌∷◌, [], IfOk, false};
+    ghost use Rattle.std.specs.Prelude.{◌≡◌, ◌++◌, ◌∷◌, [], IfOk, false, map, string_bytes};
     ghost use Rattle.std.specs.Bool.{OnTrue};
-    ghost use Rattle.run_lines.specs.RunLines.{run_lines};
+    ghost use Rattle.run_lines.specs.RunLines.{run_lines, text_line};
 
-    /// The lines of these records and totals, of which none is come to yet.
+    /// The lines of these records and totals, and then those of other texts, of which none is come to yet.
     pub fn make(
         alloc: Global,
-        records: RunJournals,
+        records: RunRecords,
         totals: &[Total],
+        texts: Vec<String>,
     ) -> Result<RunLines, OutOfMemory>
-        ensures { IfOk result (λ r. r.rest ≡ run_lines records totals.now) }
+        ensures { IfOk result (λ r. r.rest ≡ run_lines records totals.now ++ map text_line (map (λ t. string_bytes t) texts.items)) }
     {
         let kept = room(alloc)?;
-        let records = records.in_order(alloc)?;
         let mut made = Vec::new(alloc);
         push_others(alloc, &mut made, &records)?;
         push_totals(alloc, &mut made, totals)?;
+        push_texts(&mut made, texts)?;
         Ok(RunLines {
             alloc,
             records,

@@ -1,4 +1,4 @@
-use Rattle.std.proofs.Common.{◌∙◌, ◌++◌, List, String, map, string_bytes, refl, sym, ap}
+use Rattle.std.proofs.Common.{◌∙◌, ◌++◌, String, map, string_bytes, refl, sym, ap}
 use Rattle.std.proofs.lemmas.List.{append-nil}
 use Rattle.std.specs.declared.alloc.Global.{Global}
 use Rattle.run_lines.proofs.Weaving.{others_none}

@@ -1,0 +1,3 @@
+pub mod Statistics
+pub mod Sums
+pub mod Lines
