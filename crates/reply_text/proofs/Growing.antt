@@ -7,6 +7,6 @@ grown_by_4 out a b d e = simp append_assoc
 pub grown_by_5 : (out a b d e f : List ℕ) → ((((out ++ a) ++ b) ++ d) ++ e) ++ f ≡ out ++ (a ++ (b ++ (d ++ (e ++ f))))
 grown_by_5 out a b d e f = simp append_assoc
 
-pub grown_by_8 : (out a b d e f g h i : List ℕ)
-    → (((((((out ++ a) ++ b) ++ d) ++ e) ++ f) ++ g) ++ h) ++ i ≡ out ++ (a ++ (b ++ (d ++ (e ++ (f ++ (g ++ (h ++ i)))))))
-grown_by_8 out a b d e f g h i = simp append_assoc
+pub grown_by_7 : (out a b d e f g h : List ℕ)
+    → ((((((out ++ a) ++ b) ++ d) ++ e) ++ f) ++ g) ++ h ≡ out ++ (a ++ (b ++ (d ++ (e ++ (f ++ (g ++ h))))))
+grown_by_7 out a b d e f g h = simp append_assoc

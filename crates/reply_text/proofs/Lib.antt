@@ -3,4 +3,3 @@ pub mod Sizes
 pub mod Lawful
 pub mod Keyed
 mod Growing
-mod Quoting

@@ -10,8 +10,6 @@ mod descriptor_list;
 mod entry_list;
 mod field_names;
 mod packed_status;
-mod plain;
-mod put;
 mod put_status;
 mod read_descriptors;
 mod read_entries;
@@ -26,7 +24,6 @@ mod statuses;
 mod total_json;
 
 pub use array::array_value;
-pub use plain::needs_escape;
 pub use record::{Outcome, Record, Records};
 pub use record_json::{LONGEST_SHORT_RECORD, is_short, put_record, record_text};
 pub use refused::refused_value;

@@ -5,7 +5,7 @@ ghost use Rattle.serde_json.specs.Written.{compact_text, members_text};
 ghost use Rattle.rate_types.specs.UnitNames.{unit_name};
 ghost use Rattle.reply_text.specs.Texts as texts;
 
-use crate::put::put_number;
+use json_text::put_number;
 use rate_types::{OutOfMemory, OwnLimit, Unit};
 use rls_core::{Code, Count, Status};
 

@@ -1,15 +1,15 @@
 // The texts of records.
-ghost use Rattle.std.specs.Prelude.{◌≡◌, ◌++◌, ◌+◌, ◌≤◌, ◌<◌, ◌↔◌, IfOk, OnOk, OnErr, string_bytes, string_len, string_capacity};
+ghost use Rattle.std.specs.Prelude.{◌≡◌, ◌++◌, ◌+◌, ◌≤◌, ◌<◌, ◌↔◌, true, IfOk, OnOk, OnErr, string_bytes, string_len, string_capacity};
 ghost use Rattle.std.specs.Bool.{IsTrue};
 ghost use Rattle.serde_json.specs.Data.{Data};
-ghost use Rattle.serde_json.specs.Written.{compact_text};
+ghost use Rattle.serde_json.specs.Written.{compact_text, members_text};
 ghost use Rattle.reply_text.specs.Texts as texts;
 ghost use Rattle.reply_text.specs.Short.{IsShort};
 
-use crate::put::{put_number, put_worker};
 use crate::refused::{full_text, refused_text, spent_text, versions_full_text};
 use crate::reply::{put_counts, put_reply};
 use crate::{Outcome, Record, Statuses};
+use json_text::put_number;
 use rate_types::OutOfMemory;
 use std::alloc::Global;
 
@@ -23,6 +23,20 @@ struct Head {
     moment: u64,
     version: u32,
     worker: u32,
+}
+
+// The last two members of a record, and its end.
+#[tactic(auto, unfolding(serde_json::proofs::OnLiterals::serde_json_on_literals))]
+fn put_worker(out: &mut String, version: u32, worker: u32) -> Result<(), OutOfMemory>
+    ensures text { OnOk result (string_bytes out.new ≡ string_bytes out.old ++ members_text true (texts.by_worker version worker)) }
+    ensures full { OnErr result (string_capacity out.old < string_len out.old + 62) }
+    ensures grown { OnOk result (string_len out.new ≤ string_len out.old + 62) }
+    ensures capacity { string_capacity out.old ≤ string_capacity out.new }
+{
+    put_number(out, ",\"version\":", u64::from(version))?;
+    put_number(out, ",\"worker\":", u64::from(worker))?;
+    out.push_str("}")?;
+    Ok(())
 }
 
 #[tactic(auto, unfolding(serde_json::proofs::OnLiterals::serde_json_on_literals, crate::specs::Texts::checked_line_data))]

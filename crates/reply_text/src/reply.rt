@@ -6,8 +6,8 @@ ghost use Rattle.serde_json.specs.Written.{compact_text, items_text};
 ghost use Rattle.reply_text.specs.Texts as texts;
 
 use crate::Statuses;
-use crate::put::put_comma;
 use crate::put_status::{put_code, put_count, put_status};
+use json_text::put_comma;
 use rate_types::OutOfMemory;
 use rls_core::{Code, Count, Status};
 use std::alloc::Global;

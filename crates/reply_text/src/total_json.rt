@@ -5,8 +5,8 @@ ghost use Rattle.serde_json.specs.View.{items_of};
 ghost use Rattle.serde_json.specs.Written.{compact_text, items_text};
 ghost use Rattle.reply_text.specs.Texts as texts;
 
-use crate::put::{put_comma, put_number, put_quoted};
 use crate::put_status::put_unit;
+use json_text::{put_comma, put_number, put_quoted};
 use rate_types::{CounterKey, Entry, OutOfMemory};
 use rls_core::Total;
 use std::alloc::Global;
@@ -18,10 +18,8 @@ const USUAL_TOTAL: usize = 160;
 fn put_entry(alloc: Global, out: &mut String, entry: &Entry) -> Result<(), OutOfMemory>
     ensures { OnOk result (string_bytes out.new ≡ string_bytes out.old ++ compact_text (texts.entry_data entry.now)) }
 {
-    out.push_str("{\"key\":")?;
-    put_quoted(alloc, out, entry.key.as_str())?;
-    out.push_str(",\"value\":")?;
-    put_quoted(alloc, out, entry.value.as_str())?;
+    put_quoted(alloc, out, "{\"key\":", entry.key.as_str())?;
+    put_quoted(alloc, out, ",\"value\":", entry.value.as_str())?;
     out.push_str("}")?;
     Ok(())
 }
@@ -57,8 +55,7 @@ fn put_entries(alloc: Global, out: &mut String, entries: &[Entry]) -> Result<(),
 fn put_counter(alloc: Global, out: &mut String, counter: &CounterKey) -> Result<(), OutOfMemory>
     ensures { OnOk result (string_bytes out.new ≡ string_bytes out.old ++ compact_text (texts.counter_data counter.now)) }
 {
-    out.push_str("{\"domain\":")?;
-    put_quoted(alloc, out, counter.name.domain.as_str())?;
+    put_quoted(alloc, out, "{\"domain\":", counter.name.domain.as_str())?;
     out.push_str(",\"entries\":")?;
     put_entries(alloc, out, counter.name.entries.items())?;
     put_number(out, ",\"start\":", counter.start.get())?;

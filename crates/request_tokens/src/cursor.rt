@@ -4,7 +4,7 @@ ghost use Rattle.std.specs.Bool.{MatchBool};
 ghost use Rattle.json.specs.Print.{quoted};
 ghost use Rattle.json.specs.Run.{is_stop};
 
-use reply_text::needs_escape;
+use json_text::needs_escape;
 use std::marker::Model;
 
 /// What is left of a text.
