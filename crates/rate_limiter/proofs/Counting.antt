@@ -3,8 +3,6 @@ use Rattle.std.proofs.Common.{◌≡◌, ℕ, zero, suc, ◌+◌, ◌≤◌, ◌
 use Rattle.std.proofs.Common.{Some, None, is_some, IfSome, IsSome, All, refl, sym, ap, ◌∙◌, subst, arith, ◌⊎◌, inl, inr}
 use Rattle.std.proofs.lemmas.List.{take_more, map-append}
 use Rattle.std.specs.List.{AllByRecursion}
-use mathlib.Core.Option.{some, some-ne-none}
-use lib.ListN.{get_elem?}
 use Rattle.rate_types.specs.Sums.{total, one_if}
 use Rattle.rate_types.specs.Requests.{RequestParts}
 use Rattle.rate_types.specs.declared.counter_key.CounterKey.{CounterKey}
@@ -14,24 +12,23 @@ use Rattle.window_keys.specs.Counter.{counter_of}
 use Rattle.descriptor_tree.specs.Trees.{DomainTree}
 use Rattle.rule_lookup.specs.declared.found.Found.{Found}
 use Rattle.rule_lookup.specs.declared.found.Found.TheVariants.{NoRule, Unlimited, Limited}
-use Rattle.counter_cells.specs.Views.{claim_on, good_on, Capped}
-use Rattle.counter_cells.specs.Steps.{looked}
+use Rattle.counter_cells.specs.Views.{claim_on, Capped}
+use Rattle.counter_cells.specs.Steps.{number_of, looked}
 use Rattle.counter_cells.specs.declared.view.CellView.{CellView}
 use Rattle.counter_cells.specs.declared.view.Charge as cell_charge
 use Rattle.counter_cells.specs.declared.answers.Spot.{Spot}
 use Rattle.counter_directory.specs.declared.claim.Claim.{Claim}
 use Rattle.counter_directory.specs.Claims.{bindings_of}
 use Rattle.counter_directory.specs.Keys.{key_at, keys_at}
-use Rattle.counter_directory.specs.Spots.{Bound}
 use Rattle.rls_core.specs.Reply.{hits_of, found_for, counter_under, AreStatuses}
 use Rattle.rls_core.specs.Status.{status_of}
 use Rattle.rls_core.specs.declared.status.Count.{Count}
 use Rattle.rls_core.specs.declared.status.Count.TheVariants.{NoCount, Before, Seen}
 use Rattle.rls_core.specs.declared.status.Status.{Status}
-use Rattle.rate_limiter.specs.declared.planned.Planned.{Planned}
 use Rattle.rate_limiter.specs.Values.{looks_at, charges_to}
 use Rattle.rate_limiter.specs.Counts.{Keeps, Looks, Knows, Counted, CountsOne, CountsEach}
-use Rattle.rate_limiter.specs.Planned.{name_under, names_under, spot_for, spots_after, spots_left, planned_for, planned_each, CountedAt, DoneAt, Done, DoneEach, IsReady}
+use Rattle.rate_limiter.specs.Names.{name_under, names_under}
+use Rattle.rate_limiter.specs.Counted.{CountedAt, IsCounted, AreCounted, SameButCounts}
 
 -- ---- steps on the cells
 
@@ -42,48 +39,86 @@ has_status limit unit shadow rule moment hits spot (Seen seen) v w h = rw h.0 re
 has_status limit unit shadow rule moment hits spot (Before before) v w h = rw h.0 refl
 has_status limit unit shadow rule moment hits spot NoCount v w h = absurd h
 
-counted_good : (spot : Spot) (limit hits : ℕ) (c : Count) (v w : CellView) → CountedAt spot limit hits c v w → w.good ≡ v.good
-counted_good spot limit hits (Seen seen) v w (b, inl l) = ap (λ (x : CellView). x.good) l.1
-counted_good spot limit hits (Seen seen) v w (b, inr k) = ap (λ (x : CellView). x.good) k.1.2
-counted_good spot limit hits (Before before) v w h = ap (λ (x : CellView). x.good) h.1.charge
-counted_good spot limit hits NoCount v w h = absurd h
-
-pub done_good : (f : Found) (hits : ℕ) (spot : Option Spot) (c : Count) (v w : CellView) → DoneAt f hits spot c v w → w.good ≡ v.good
-done_good NoRule hits spot c v w h = ap (λ (x : CellView). x.good) h
-done_good (Unlimited rule) hits spot c v w h = ap (λ (x : CellView). x.good) h
-done_good (Limited limit unit shadow rule) hits None c v w h = ap (λ (x : CellView). x.good) h
-done_good (Limited limit unit shadow rule) hits (Some spot) c v w h = counted_good spot limit hits c v w h
-
-done_more : (moment : ℕ) (ps : List Planned) (ss : List Status) (p : Planned) (s : Status) (v w x : CellView) → DoneEach moment ps ss v w
-    → Done moment p s w x → DoneEach moment (ps ++ p ∷ []) (ss ++ s ∷ []) v x
-done_more moment [] [] p s v w x h d = (x, subst (λ (u : CellView). Done moment p s u x) h d, refl)
-done_more moment [] (t ∷ ss) p s v w x h d = absurd h
-done_more moment (q ∷ ps) [] p s v w x h d = absurd h
-done_more moment (q ∷ ps) (t ∷ ss) p s v w x h d = (h.0, h.1, done_more moment ps ss p s h.0 w x h.2 d)
-
--- one more was done
-pub done_next : (moment : ℕ) (ps : List Planned) (i : ℕ) (p : Planned) (ss new : List Status) (s : Status) (v w x : CellView) → i < length ps
-    → p ≡ get_or ps i p → new ≡ ss ++ s ∷ [] → DoneEach moment (take i ps) ss v w → Done moment p s w x → DoneEach moment (take (i + 1) ps) new v x
-done_next moment ps i p ss new s v w x lt is e h d =
-    let more : take (i + 1) ps ≡ take i ps ++ p ∷ [] = take_more ps i p lt ∙ ap (λ (q : Planned). take i ps ++ q ∷ []) (sym is) in
-    subst (λ (l : List Planned). DoneEach moment l new v x) (sym more)
-    (subst (λ (l : List Status). DoneEach moment (take i ps ++ p ∷ []) l v x) (sym e) (done_more moment (take i ps) ss p s v w x h d))
-
--- ready under the same pins
-pub ready_still : (cells : ℕ) (v w : CellView) (p : Planned) → w.good ≡ v.good → IsReady cells v p → IsReady cells w p
-ready_still cells v w p same h = record {
-  tied = h.tied;
-  there = still p.spot h.there;
+pub same_of : (v w : CellView) → w ≡ v → SameButCounts v w
+same_of v w e = record {
+  number = ap number_of e;
+  good = ap (λ (x : CellView). x.good) e;
+  pins = ap (λ (x : CellView). x.pairs) e;
+  others = ap (λ (x : CellView). x.others) e;
+  ticks = ap (λ (x : CellView). x.ticks) e;
+  moment = ap (λ (x : CellView). x.moment) e;
 }
-  where
-    still : (o : Option Spot) → IfSome o (λ s. (s.cell < cells) × (1 ≤ good_on s.cell v) × (claim_on s.cell v.good ≡ s.claim))
-        → IfSome o (λ s. (s.cell < cells) × (1 ≤ good_on s.cell w) × (claim_on s.cell w.good ≡ s.claim))
-    still None g = tt
-    still (Some s) g = (
-      g.0,
-      subst (λ (l : List (ℕ × ℕ)). 1 ≤ total (λ (p : ℕ × ℕ). one_if (p.0 == s.cell)) l) (sym same) g.1,
-      ap (claim_on s.cell) same ∙ g.2,
-    )
+
+-- a count leaves all but looks and charges
+pub counted_same : (spot : Spot) (limit hits : ℕ) (c : Count) (v w : CellView) → CountedAt spot limit hits c v w → SameButCounts v w
+counted_same spot limit hits (Seen seen) v w (b, inl l) =
+    let e = l.1 in
+    record {
+      number = ap number_of e;
+      good = ap (λ (x : CellView). x.good) e;
+      pins = ap (λ (x : CellView). x.pairs) e;
+      others = ap (λ (x : CellView). x.others) e;
+      ticks = ap (λ (x : CellView). x.ticks) e;
+      moment = ap (λ (x : CellView). x.moment) e;
+    }
+counted_same spot limit hits (Seen seen) v w (b, inr k) = same_of v w k.1.2
+counted_same spot limit hits (Before before) v w h =
+    let e = h.1.charge in
+    record {
+      number = ap number_of e;
+      good = ap (λ (x : CellView). x.good) e;
+      pins = ap (λ (x : CellView). x.pairs) e;
+      others = ap (λ (x : CellView). x.others) e;
+      ticks = ap (λ (x : CellView). x.ticks) e;
+      moment = ap (λ (x : CellView). x.moment) e;
+    }
+counted_same spot limit hits NoCount v w h = absurd h
+
+pub same_counts_then : (u v w : CellView) → SameButCounts u v → SameButCounts v w → SameButCounts u w
+same_counts_then u v w a b = record {
+  number = b.number ∙ a.number;
+  good = b.good ∙ a.good;
+  pins = b.pins ∙ a.pins;
+  others = b.others ∙ a.others;
+  ticks = b.ticks ∙ a.ticks;
+  moment = b.moment ∙ a.moment;
+}
+
+-- all counts of a check do
+pub each_same : (claims : List Claim) (request : RequestParts) (moment : ℕ) (ds : List Descriptor) (fs : List Found) (sts : List Status) (v w : CellView)
+    → AreCounted claims request moment ds fs sts v w → SameButCounts v w
+each_same claims request moment [] [] [] v w h = same_of v w h
+each_same claims request moment [] [] (s ∷ sts) v w h = absurd h
+each_same claims request moment [] (f ∷ fs) sts v w h = absurd h
+each_same claims request moment (d ∷ ds) [] sts v w h = absurd h
+each_same claims request moment (d ∷ ds) (f ∷ fs) [] v w h = absurd h
+each_same claims request moment (d ∷ ds) (f ∷ fs) (s ∷ sts) v w h =
+    same_counts_then v h.0 w h.1.same (each_same claims request moment ds fs sts h.0 w h.2)
+
+counted_more : (claims : List Claim) (request : RequestParts) (moment : ℕ) (ds : List Descriptor) (fs : List Found) (sts : List Status) (d : Descriptor) (f : Found)
+    (s : Status) (v w x : CellView) → AreCounted claims request moment ds fs sts v w → IsCounted claims request moment d f s w x
+    → AreCounted claims request moment (ds ++ d ∷ []) (fs ++ f ∷ []) (sts ++ s ∷ []) v x
+counted_more claims request moment [] [] [] d f s v w x h one =
+    (x, subst (λ (u : CellView). IsCounted claims request moment d f s u x) h one, refl)
+counted_more claims request moment [] [] (t ∷ sts) d f s v w x h one = absurd h
+counted_more claims request moment [] (g ∷ fs) sts d f s v w x h one = absurd h
+counted_more claims request moment (e ∷ ds) [] sts d f s v w x h one = absurd h
+counted_more claims request moment (e ∷ ds) (g ∷ fs) [] d f s v w x h one = absurd h
+counted_more claims request moment (e ∷ ds) (g ∷ fs) (t ∷ sts) d f s v w x h one =
+    (h.0, h.1, counted_more claims request moment ds fs sts d f s h.0 w x h.2 one)
+
+-- one more was counted
+pub counted_next : (claims : List Claim) (request : RequestParts) (moment : ℕ) (ds : List Descriptor) (fs : List Found) (i : ℕ) (d : Descriptor) (f : Found)
+    (sts new : List Status) (s : Status) (v w x : CellView) → i < length ds → i < length fs → get_or ds i d ≡ d → get_or fs i f ≡ f → new ≡ sts ++ s ∷ []
+    → AreCounted claims request moment (take i ds) (take i fs) sts v w → IsCounted claims request moment d f s w x
+    → AreCounted claims request moment (take (i + 1) ds) (take (i + 1) fs) new v x
+counted_next claims request moment ds fs i d f sts new s v w x in_ds in_fs d_is f_is pushed h one =
+    let more_ds : take (i + 1) ds ≡ take i ds ++ d ∷ [] = take_more ds i d in_ds ∙ ap (λ (e : Descriptor). take i ds ++ e ∷ []) d_is in
+    let more_fs : take (i + 1) fs ≡ take i fs ++ f ∷ [] = take_more fs i f in_fs ∙ ap (λ (g : Found). take i fs ++ g ∷ []) f_is in
+    subst (λ (l : List Descriptor). AreCounted claims request moment l (take (i + 1) fs) new v x) (sym more_ds)
+    (subst (λ (l : List Found). AreCounted claims request moment (take i ds ++ d ∷ []) l new v x) (sym more_fs)
+    (subst (λ (l : List Status). AreCounted claims request moment (take i ds ++ d ∷ []) (take i fs ++ f ∷ []) l v x) (sym pushed)
+    (counted_more claims request moment (take i ds) (take i fs) sts d f s v w x h one)))
 
 -- what caps a view caps one that looked and charged as much
 cap_front : (claim n : ℕ) (u v : CellView) → Keeps u v → Capped claim n v → Capped claim n u
@@ -122,6 +157,7 @@ seen_front claim hits seen u v w k (inr h) = inr (h.0, know_front claim seen u v
 -- ---- the reply
 
 module _ (claims : List Claim) (request : RequestParts) (moment : ℕ) where
+  -- what a count on a pinned cell is on its counter
   looks_of : (key : CounterKey) (s : Spot) (limit hits seen : ℕ) (v w : CellView) → 1 ≤ bindings_of key s.cell s.claim claims
       → claim_on s.cell v.good ≡ s.claim → CountedAt s limit hits (Seen seen) v w → Counted claims key limit hits (Seen seen) v w
   looks_of key s limit hits seen v w bound under (b, inl l) = (
@@ -168,74 +204,30 @@ module _ (claims : List Claim) (request : RequestParts) (moment : ℕ) where
         },
       )
 
-  counted_of : (key : CounterKey) (s : Spot) (limit hits : ℕ) (c : Count) (v w : CellView) → 1 ≤ bindings_of key s.cell s.claim claims
+  pub counted_of : (key : CounterKey) (s : Spot) (limit hits : ℕ) (c : Count) (v w : CellView) → 1 ≤ bindings_of key s.cell s.claim claims
       → claim_on s.cell v.good ≡ s.claim → CountedAt s limit hits c v w → Counted claims key limit hits c v w
   counted_of key s limit hits (Seen seen) v w = looks_of key s limit hits seen v w
   counted_of key s limit hits (Before before) v w = charges_of key s limit hits before v w
   counted_of key s limit hits NoCount v w = λ bound under h. absurd h
 
-  -- each of the spots is under the claim of the view's pin there
-  abbrev AreUnder : CellView → List Spot → Type 0
-  AreUnder v ss = (i : ℕ) (s : Spot) → get_elem? ss i ≡ some s → claim_on s.cell v.good ≡ s.claim
-
-  one_of : (d : Descriptor) (f : Found) (rest : List CounterName) (ss : List Spot) (c : Count) (v w : CellView)
-      → Bound claims (keys_at moment (name_under request d f ++ rest)) ss → AreUnder v ss → length ss ≡ length (name_under request d f ++ rest)
-      → DoneAt f (hits_of request d) (spot_for f ss) c v w → CountsOne claims request moment d f c v w
-  one_of d NoRule rest ss c v w bound under len h = record { looks = ap (λ (x : CellView). x.looks) h; charges = ap (λ (x : CellView). x.charges) h }
-  one_of d (Unlimited rule) rest ss c v w bound under len h = record { looks = ap (λ (x : CellView). x.looks) h; charges = ap (λ (x : CellView). x.charges) h }
-  one_of d (Limited limit unit shadow rule) rest [] c v w bound under len h = absurd (omega arith)
-  one_of d (Limited limit unit shadow rule) rest (s ∷ ss) c v w bound under len h =
-      counted_of (counter_of request.domain d unit moment) s limit (hits_of request d) c v w (bound 0 (counter_of request.domain d unit moment) s refl refl) (under 0 s refl) h
-
-  bound_after : (d : Descriptor) (f : Found) (rest : List CounterName) (ss : List Spot)
-      → Bound claims (keys_at moment (name_under request d f ++ rest)) ss → length ss ≡ length (name_under request d f ++ rest)
-      → Bound claims (keys_at moment rest) (spots_after f ss)
-  bound_after d NoRule rest ss bound len = bound
-  bound_after d (Unlimited rule) rest ss bound len = bound
-  bound_after d (Limited limit unit shadow rule) rest [] bound len = absurd (omega arith)
-  bound_after d (Limited limit unit shadow rule) rest (s ∷ ss) bound len = λ i k t a b. bound (suc i) k t a b
-
-  under_after : (f : Found) (v w : CellView) (ss : List Spot) → w.good ≡ v.good → AreUnder v ss → AreUnder w (spots_after f ss)
-  under_after NoRule v w ss same under i s a = ap (claim_on s.cell) same ∙ under i s a
-  under_after (Unlimited rule) v w ss same under i s a = ap (claim_on s.cell) same ∙ under i s a
-  under_after (Limited limit unit shadow rule) v w [] same under i s a = absurd (some-ne-none s (sym a))
-  under_after (Limited limit unit shadow rule) v w (t ∷ ss) same under i s a = ap (claim_on s.cell) same ∙ under (suc i) s a
-
-  len_after : (d : Descriptor) (f : Found) (rest : List CounterName) (ss : List Spot) → length ss ≡ length (name_under request d f ++ rest)
-      → length (spots_after f ss) ≡ length rest
-  len_after d NoRule rest ss len = len
-  len_after d (Unlimited rule) rest ss len = len
-  len_after d (Limited limit unit shadow rule) rest [] len = absurd (omega arith)
-  len_after d (Limited limit unit shadow rule) rest (s ∷ ss) len = omega arith
-
   module _ (config : List DomainTree) where
     abbrev rules : List Descriptor → List Found
     rules ds = map (found_for config request) ds
 
-    -- what was done is what the statuses show
-    pub counts_of : (ds : List Descriptor) (ss : List Spot) (sts : List Status) (v w : CellView)
-        → Bound claims (keys_at moment (names_under request ds (rules ds))) ss → AreUnder v ss
-        → length ss ≡ length (names_under request ds (rules ds)) → DoneEach moment (planned_each request ds (rules ds) ss) sts v w
+    -- what was counted is what the statuses show
+    pub counts_of : (ds : List Descriptor) (sts : List Status) (v w : CellView) → AreCounted claims request moment ds (rules ds) sts v w
         → CountsEach claims config request moment ds sts v w
-    counts_of [] ss [] v w bound under len h = record { looks = ap (λ (x : CellView). x.looks) h; charges = ap (λ (x : CellView). x.charges) h }
-    counts_of [] ss (s ∷ sts) v w bound under len h = absurd h
-    counts_of (d ∷ ds) ss [] v w bound under len h = absurd h
-    counts_of (d ∷ ds) ss (s ∷ sts) v w bound under len h =
-        let f = found_for config request d in
-        let rest = names_under request ds (rules ds) in
-        let mid = h.0 in
-        let same = done_good f (hits_of request d) (spot_for f ss) s.count v mid h.1.1 in (
-          mid,
-          one_of d f rest ss s.count v mid bound under len h.1.1,
-          counts_of ds (spots_after f ss) sts mid w (bound_after d f rest ss bound len) (under_after f v mid ss same under) (len_after d f rest ss len) h.2,
-        )
+    counts_of [] [] v w h = record { looks = ap (λ (x : CellView). x.looks) h; charges = ap (λ (x : CellView). x.charges) h }
+    counts_of [] (s ∷ sts) v w h = absurd h
+    counts_of (d ∷ ds) [] v w h = absurd h
+    counts_of (d ∷ ds) (s ∷ sts) v w h = (h.0, h.1.counts, counts_of ds sts h.0 w h.2)
 
-    pub statuses_of : (ds : List Descriptor) (ss : List Spot) (sts : List Status) (v w : CellView)
-        → DoneEach moment (planned_each request ds (rules ds) ss) sts v w → AreStatuses config request moment ds sts
-    statuses_of [] ss [] v w h = tt
-    statuses_of [] ss (s ∷ sts) v w h = absurd h
-    statuses_of (d ∷ ds) ss [] v w h = absurd h
-    statuses_of (d ∷ ds) ss (s ∷ sts) v w h = (h.1.0, statuses_of ds (spots_after (found_for config request d) ss) sts h.0 w h.2)
+    pub statuses_of : (ds : List Descriptor) (sts : List Status) (v w : CellView) → AreCounted claims request moment ds (rules ds) sts v w
+        → AreStatuses config request moment ds sts
+    statuses_of [] [] v w h = tt
+    statuses_of [] (s ∷ sts) v w h = absurd h
+    statuses_of (d ∷ ds) [] v w h = absurd h
+    statuses_of (d ∷ ds) (s ∷ sts) v w h = (h.1.status, statuses_of ds sts h.0 w h.2)
 
     -- the names in the windows of the moment are the counters that the request names
     pub keys_named : (ds : List Descriptor)
@@ -279,31 +271,12 @@ module _ (claims : List Claim) (request : RequestParts) (moment : ℕ) where
   each_back config (d ∷ ds) [] u v w h k = absurd h
   each_back config (d ∷ ds) (s ∷ sts) u v w h k = (h.0, h.1, each_back config ds sts h.0 v w h.2 k)
 
--- ---- the plan
+-- ---- names
 
-planned_more : (request : RequestParts) (ds : List Descriptor) (fs : List Found) (d : Descriptor) (f : Found) (ss : List Spot) → length ds ≡ length fs
-    → planned_each request (ds ++ d ∷ []) (fs ++ f ∷ []) ss ≡ planned_each request ds fs ss ++ planned_for request d f (spots_left fs ss) ∷ []
-planned_more request [] [] d f ss len = refl
-planned_more request [] (g ∷ fs) d f ss len = absurd (omega arith)
-planned_more request (e ∷ ds) [] d f ss len = absurd (omega arith)
-planned_more request (e ∷ ds) (g ∷ fs) d f ss len = ap (λ (l : List Planned). planned_for request e g ss ∷ l) (planned_more request ds fs d f (spots_after g ss) (omega arith))
-
-pub left_more : (fs : List Found) (f : Found) (ss : List Spot) → spots_left (fs ++ f ∷ []) ss ≡ spots_after f (spots_left fs ss)
-left_more [] f ss = refl
-left_more (g ∷ fs) f ss = left_more fs f (spots_after g ss)
-
-take_len : {A : Type 0} (xs : List A) (i : ℕ) → i < length xs → length (take i xs) ≡ i
+pub take_len : {A : Type 0} (xs : List A) (i : ℕ) → i < length xs → length (take i xs) ≡ i
 take_len [] i h = absurd (omega arith)
 take_len (x ∷ xs) zero h = refl
 take_len (x ∷ xs) (suc i) h = ap suc (take_len xs i (omega arith))
-
--- one more is planned
-pub planned_next : (request : RequestParts) (ds : List Descriptor) (fs : List Found) (d : Descriptor) (f : Found) (ss : List Spot) (i : ℕ)
-    → i < length ds → length fs ≡ length ds → planned_each request (take (i + 1) ds) (take (i + 1) fs) ss
-    ≡ planned_each request (take i ds) (take i fs) ss ++ planned_for request (get_or ds i d) (get_or fs i f) (spots_left (take i fs) ss) ∷ []
-planned_next request ds fs d f ss i lt len =
-    (λ j. planned_each request (take_more ds i d lt j) (take_more fs i f (omega arith) j) ss)
-    ∙ planned_more request (take i ds) (take i fs) (get_or ds i d) (get_or fs i f) ss (take_len ds i lt ∙ sym (take_len fs i (omega arith)))
 
 names_more : (request : RequestParts) (ds : List Descriptor) (fs : List Found) (d : Descriptor) (f : Found) → length ds ≡ length fs
     → names_under request (ds ++ d ∷ []) (fs ++ f ∷ []) ≡ names_under request ds fs ++ name_under request d f
@@ -321,14 +294,3 @@ pub names_next : (request : RequestParts) (ds : List Descriptor) (fs : List Foun
 names_next request ds fs d f i lt len =
     (λ j. names_under request (take_more ds i d lt j) (take_more fs i f (omega arith) j))
     ∙ names_more request (take i ds) (take i fs) (get_or ds i d) (get_or fs i f) (take_len ds i lt ∙ sym (take_len fs i (omega arith)))
-
--- what stands in a place that is beyond a plan
-abbrev pub no_plan : Planned
-no_plan = record { found = NoRule; hits = 0; spot = None }
-
--- one more was done
-pub done_at_next : (moment : ℕ) (ps : List Planned) (i : ℕ) (d : Planned) (ss new : List Status) (s : Status) (v w x : CellView) → i < length ps
-    → new ≡ ss ++ s ∷ [] → DoneEach moment (take i ps) ss v w → Done moment (get_or ps i d) s w x → DoneEach moment (take (i + 1) ps) new v x
-done_at_next moment ps i d ss new s v w x lt e h k =
-    subst (λ (l : List Planned). DoneEach moment l new v x) (sym (take_more ps i d lt))
-    (subst (λ (l : List Status). DoneEach moment (take i ps ++ get_or ps i d ∷ []) l v x) (sym e) (done_more moment (take i ps) ss (get_or ps i d) s v w x h k))

@@ -1,8 +1,6 @@
 -- Counters that are known, and their pins.
 use Rattle.std.proofs.Common.{◌≡◌, ◌⊎◌, inl, inr, ℕ, zero, suc, ◌+◌, ◌-◌, ◌≤◌, ◌<◌, ◌==◌, ◌&&◌, List, [], ◌∷◌, ◌++◌, length, map, take, get_or, cond}
-use Rattle.std.proofs.Common.{Bool, true, false, true≢false, max, Option, Some, None, IfSome, refl, sym, ap, ◌∙◌, subst, arith, eq-eqb, length-append}
-use Rattle.std.proofs.lemmas.List.{append-nil, map-append, length-map}
-use Rattle.std.proofs.lemmas.List.Elements.{All-push}
+use Rattle.std.proofs.Common.{Bool, true, false, true≢false, max, Option, Some, None, IfSome, refl, sym, ap, ◌∙◌, subst, arith, eq-eqb}
 use Rattle.std.proofs.lemmas.Bool.Decides.{nat_tests}
 use Rattle.std.specs.Prelude.{Result, Ok, Err, OnOk, OnErr}
 use Rattle.std.specs.List.{AllByRecursion}
@@ -18,8 +16,8 @@ use Rattle.rate_types.specs.declared.counter_key.CounterKey.{CounterKey}
 use Rattle.rate_types.specs.declared.counter_name.CounterName.{CounterName}
 use Rattle.window_keys.proofs.Counters.{same_is, is_same}
 use Rattle.counter_directory.specs.Passes.{KnownClaims}
-use Rattle.counter_cells.specs.Views.{good_on, good_under, claim_on, held_on, Capped}
-use Rattle.counter_cells.specs.Steps.{number_of, last_moment, good_pin}
+use Rattle.counter_cells.specs.Views.{claim_on, held_on, Capped}
+use Rattle.counter_cells.specs.Steps.{last_moment}
 use Rattle.counter_cells.specs.declared.view.CellView.{CellView}
 use Rattle.counter_cells.specs.declared.view.Tick.{Tick}
 use Rattle.counter_cells.specs.declared.answers.Spot.{Spot}
@@ -29,8 +27,6 @@ use Rattle.counter_directory.specs.declared.acquired.AcquireFault.TheVariants.{O
 use Rattle.counter_directory.specs.Acquired.{Bounds, OffersNothing}
 use Rattle.counter_directory.specs.Claims.{bindings_of}
 use Rattle.counter_directory.specs.Gates.{HeldSince}
-use Rattle.counter_directory.specs.Keys.{key_at, keys_at}
-use Rattle.counter_directory.specs.Spots.{Bound}
 use Rattle.over_cache.specs.Entries.{Entries, is_key, known_of, known_then, asked, noted, without}
 use Rattle.over_cache.specs.declared.known.Known.{Known}
 use Rattle.over_cache.specs.declared.over_cache.TheConstants.{MOST_KNOWN}
@@ -38,8 +34,8 @@ use Rattle.rate_limiter.specs.Known.{key_of, key_bindings, IsBoundEntry, AreBoun
 use Rattle.rate_limiter.specs.Values.{HasValue, HasSeen}
 use Rattle.rate_limiter.specs.Sought.{SameKnown, IsOwnSpot}
 use Rattle.rate_limiter.specs.PassStep.{HasClaimed}
-use Rattle.rate_limiter.specs.Pinned.{HasWaited, SameButPins, ArePinned, HasPins, HasPinCause, HasNoPins}
-use Rattle.rate_limiter.proofs.Lists.{total_more, total_at, each_more, prefix_self, prefix_then}
+use Rattle.rate_limiter.specs.Pinned.{HasWaited, SameButPins, HasPinCause, HasNoPins}
+use Rattle.rate_limiter.proofs.Lists.{total_more, each_more, prefix_then}
 
 -- ---- keys and counters
 
@@ -170,7 +166,7 @@ own_entry cells claims pins q only entries h (Some k) e = entry_bound cells clai
 
 -- ---- pins
 
-under_in : (cell : ℕ) (ps : List (ℕ × ℕ)) → 1 ≤ total (λ (p : ℕ × ℕ). one_if (p.0 == cell)) ps
+pub under_in : (cell : ℕ) (ps : List (ℕ × ℕ)) → 1 ≤ total (λ (p : ℕ × ℕ). one_if (p.0 == cell)) ps
     → 1 ≤ total (λ (p : ℕ × ℕ). one_if ((p.0 == cell) && (p.1 == claim_on cell ps))) ps
 under_in cell [] h = absurd (omega arith)
 under_in cell (p ∷ ps) h = pick (p.0 == cell) refl (under_in cell ps)
@@ -209,18 +205,7 @@ module _ {A : Type 0} where
       by (inl h) = inl h
       by (inr h) = inr (ap suc h.0, h.1)
 
-bound_next : (claims : List Claim) (keys : List CounterKey) (k : CounterKey) (spots : List Spot) (s : Spot) → length spots ≡ length keys → Bound claims keys spots
-    → 1 ≤ bindings_of k s.cell s.claim claims → Bound claims (keys ++ k ∷ []) (spots ++ s ∷ [])
-bound_next claims keys k spots s len all one i j t a b = by (at_append keys k i j a) (at_append spots s i t b)
-  where
-    by : (get_elem? keys i ≡ some j) ⊎ ((i ≡ length keys) × (k ≡ j)) → (get_elem? spots i ≡ some t) ⊎ ((i ≡ length spots) × (s ≡ t))
-        → 1 ≤ bindings_of j t.cell t.claim claims
-    by (inl x) (inl y) = all i j t x y
-    by (inl x) (inr y) = let l = at_less keys i j x in let e = y.0 in absurd (omega arith)
-    by (inr x) (inl y) = let l = at_less spots i t y in let e = x.0 in absurd (omega arith)
-    by (inr x) (inr y) = subst (λ (q : CounterKey). 1 ≤ bindings_of q t.cell t.claim claims) x.1 (subst (λ (u : Spot). 1 ≤ bindings_of k u.cell u.claim claims) y.1 one)
-
-same_then : (u v w : CellView) → SameButPins u v → SameButPins v w → SameButPins u w
+pub same_then : (u v w : CellView) → SameButPins u v → SameButPins v w → SameButPins u w
 same_then u v w a b = record {
   number = b.number ∙ a.number;
   ticks = b.ticks ∙ a.ticks;
@@ -233,104 +218,9 @@ same_then u v w a b = record {
 pub same_itself : (v : CellView) → SameButPins v v
 same_itself v = record { number = refl; ticks = refl; moment = refl; looks = refl; charges = refl; held = refl }
 
--- nothing is pinned yet
-pub none_pinned : (cells : ℕ) (claims : List Claim) (v : CellView) → v.good ≡ [] → ArePinned cells claims [] [] v v
-none_pinned cells claims v bare = record {
-  same = same_itself v;
-  within = λ k d l. absurd (omega arith);
-  pins = λ k. ap (total (λ (p : ℕ × ℕ). one_if (p.0 == k))) bare;
-  held = ap length bare;
-  count = refl;
-  bound = λ i k s a b. absurd (some-ne-none k (sym a));
-  under = λ i s a. absurd (some-ne-none s (sym a));
-}
-
--- one more counter is pinned
-pub pinned_next : (cells : ℕ) (claims : List Claim) (names : List CounterName) (name : CounterName) (spots : List Spot) (s : Spot) (v w x : CellView)
-    → ArePinned cells claims names spots v w → s.cell < cells → 1 ≤ bindings_of (key_at w.moment name) s.cell s.claim claims
-    → x ≡ good_pin s.cell s.claim w → ((c : ℕ) → 1 ≤ good_under s.cell c w → c ≡ s.claim) → ArePinned cells claims (names ++ name ∷ []) (spots ++ s ∷ []) v x
-pinned_next cells claims names name spots s v w x a there one e own = record {
-  same = same_then v w x a.same (record {
-    number = ap number_of e;
-    ticks = ap (λ (y : CellView). y.ticks) e;
-    moment = ap (λ (y : CellView). y.moment) e;
-    looks = ap (λ (y : CellView). y.looks) e;
-    charges = ap (λ (y : CellView). y.charges) e;
-    held = ap (λ (y : CellView). y.held) e;
-  });
-  within = All-push (λ (t : Spot). t.cell < cells) spots s a.within there;
-  pins = λ k.
-      let n = a.pins k in
-      let m = total_more (λ (t : Spot). one_if (t.cell == k)) spots (s ∷ []) in
-      let o : good_on k x ≡ one_if (s.cell == k) + good_on k w = ap (good_on k) e in
-      omega arith;
-  held =
-      let n = a.held in
-      let l : length x.good ≡ suc (length w.good) = ap (λ (y : CellView). length y.good) e in
-      let m = length-append spots (s ∷ []) in
-      omega arith;
-  count =
-      let n = a.count in
-      let l = length-append spots (s ∷ []) in
-      let m = length-append names (name ∷ []) in
-      omega arith;
-  bound = subst (λ ks. Bound claims ks (spots ++ s ∷ [])) (sym (map-append (key_at v.moment) names (name ∷ [])))
-      (bound_next claims (keys_at v.moment names) (key_at v.moment name) spots s (a.count ∙ sym (length-map names (key_at v.moment))) a.bound
-      (subst (λ n. 1 ≤ bindings_of (key_at n name) s.cell s.claim claims) a.same.moment one));
-  under = λ i t at. by i t (at_append spots s i t at);
-}
-  where
-    newest : (t : Spot) → claim_on t.cell x.good ≡ cond (s.cell == t.cell) s.claim (claim_on t.cell w.good)
-    newest t = ap (λ (y : CellView). claim_on t.cell y.good) e
-
-    earlier : (i : ℕ) (t : Spot) → get_elem? spots i ≡ some t → (b : Bool) → (s.cell == t.cell) ≡ b → claim_on t.cell x.good ≡ t.claim
-    earlier i t at true is =
-        let cell : s.cell ≡ t.cell = grind (arith, nat_tests) in
-        let many = total_at (λ (u : Spot). one_if (u.cell == t.cell)) spots i t at in
-        let here : one_if (t.cell == t.cell) ≡ 1 = ap one_if (eq-eqb t.cell t.cell refl) in
-        let n = a.pins t.cell in
-        let u = under_in t.cell w.good (omega arith) in
-        let c : claim_on t.cell w.good ≡ s.claim = own (claim_on t.cell w.good) (subst (λ k. 1 ≤ good_under k (claim_on t.cell w.good) w) (sym cell) u) in
-        newest t ∙ ap (λ b. cond b s.claim (claim_on t.cell w.good)) is ∙ sym c ∙ a.under i t at
-    earlier i t at false is = newest t ∙ ap (λ b. cond b s.claim (claim_on t.cell w.good)) is ∙ a.under i t at
-
-    by : (i : ℕ) (t : Spot) → (get_elem? spots i ≡ some t) ⊎ ((i ≡ length spots) × (s ≡ t)) → claim_on t.cell x.good ≡ t.claim
-    by i t (inl at) = earlier i t at (s.cell == t.cell) refl
-    by i t (inr h) = subst (λ (u : Spot). claim_on u.cell x.good ≡ u.claim) h.1
-        (newest s ∙ ap (λ b. cond b s.claim (claim_on s.cell w.good)) (eq-eqb s.cell s.cell refl))
-
--- what is pinned without a turn at the directory is what a turn would leave
-pub pinned_known : (cells : ℕ) (names : List CounterName) (spots : List Spot) (v w : CellView) (t : KnownClaims) → ArePinned cells t.known names spots v w
-    → HasPins names spots v w t t
-pinned_known cells names spots v w t a = record {
-  waited = record {
-    ticked = record {
-      number = a.same.number;
-      added = [];
-      ticks = a.same.ticks ∙ sym (append-nil v.ticks);
-      offers = tt;
-      moment = a.same.moment;
-      later = let e = a.same.moment in omega arith;
-    };
-    keeps = record { looks = a.same.looks; charges = a.same.charges };
-  };
-  count = a.count;
-  bound = subst (λ n. Bound t.known (keys_at n names) spots) (sym a.same.moment) a.bound;
-  under = a.under;
-  claimed = record {
-    found = t.known;
-    added = [];
-    knew = prefix_self t.known;
-    known = sym (append-nil t.known);
-    own = sym (append-nil t.own);
-    named = λ i x e. absurd (some-ne-none x (sym e));
-    made = λ i x e. absurd (some-ne-none x (sym e));
-  };
-}
-
 -- pins that missed change nothing of what a turn leaves
 module _ (v v' w : CellView) (same : SameButPins v v') where
-  waited_after : HasWaited v' w → HasWaited v w
+  pub waited_after : HasWaited v' w → HasWaited v w
   waited_after h = record {
     ticked = record {
       number = h.ticked.number ∙ same.number;
@@ -342,9 +232,6 @@ module _ (v v' w : CellView) (same : SameButPins v v') where
     };
     keeps = record { looks = h.keeps.looks ∙ same.looks; charges = h.keeps.charges ∙ same.charges };
   }
-
-  pub pins_after : (names : List CounterName) (spots : List Spot) (t u : KnownClaims) → HasPins names spots v' w t u → HasPins names spots v w t u
-  pins_after names spots t u h = record { waited = waited_after h.waited; count = h.count; bound = h.bound; under = h.under; claimed = h.claimed }
 
   held_after : (held : List ℕ) → HeldSince v' w [] held → HeldSince v w [] held
   held_after held h k = let e : held_on k v' ≡ held_on k v = ap (λ l. total (λ (p : ℕ × ℕ). one_if (p.0 == k)) l) same.held in let g = h k in omega arith

@@ -20,6 +20,10 @@ len_passes (suc n) start = let r = len_passes n start in omega arith
 pub all_tail : {A : Type 0} (P : A → Type 0) (x : A) (xs : List A) → All P (x ∷ xs) → P x × All P xs
 all_tail P x xs h = (h 0 x (omega arith), λ k d l. h (suc k) d (omega arith))
 
+pub all_cons : {A : Type 0} (P : A → Type 0) (x : A) (xs : List A) → P x → All P xs → All P (x ∷ xs)
+all_cons P x xs p h zero d l = p
+all_cons P x xs p h (suc k) d l = h k d (omega arith)
+
 -- a pass of three new parts
 pub new_pass_of : (config : List DomainTree) (start : ℕ) (id : LimiterId) (s : PassState (List DomainTree)) (t : KnownClaims) (v : CellView)
     → IsFirst config s → IsFresh t → IsNewCellPass start v

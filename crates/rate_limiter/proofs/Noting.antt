@@ -1,7 +1,6 @@
 -- Notes of several counters: what is noted is known still when the next are noted.
-use Rattle.std.proofs.Common.{◌≡◌, ◌⊎◌, inl, inr, ℕ, zero, suc, ◌-◌, ◌≤◌, ◌<◌, ◌==◌, List, [], ◌∷◌, ◌++◌, length, map, take, cond, Bool, true, false, true≢false, Option, Some, None}
+use Rattle.std.proofs.Common.{◌≡◌, ◌⊎◌, inl, inr, ℕ, zero, suc, ◌-◌, ◌≤◌, ◌<◌, List, [], ◌∷◌, ◌++◌, length, map, take, cond, Bool, true, false, true≢false, Option, Some, None}
 use Rattle.std.proofs.Common.{refl, sym, ap, ◌∙◌, subst, arith}
-use Rattle.std.proofs.lemmas.Bool.Decides.{nat_tests}
 use Rattle.std.specs.Prelude.{IsSome}
 use Rattle.std.specs.Cmp.Lexicographic.{bytes_decides}
 use mathlib.Core.Option.{some, some-injective, some-ne-none}
@@ -13,7 +12,6 @@ use Rattle.window_keys.specs.Counter.{counter_of}
 use Rattle.rule_lookup.specs.declared.found.Found.{Found}
 use Rattle.rule_lookup.specs.declared.found.Found.TheVariants.{NoRule, Unlimited, Limited}
 use Rattle.counter_cells.specs.declared.answers.Spot.{Spot}
-use Rattle.counter_directory.specs.declared.claim.Claim.{Claim}
 use Rattle.counter_directory.specs.Keys.{key_at}
 use Rattle.over_cache.specs.Entries.{Entries, is_key, known_of, known_then, noted, without}
 use Rattle.over_cache.specs.declared.known.Known.{Known}
@@ -22,8 +20,8 @@ use Rattle.rls_core.specs.Reply.{found_for}
 use Rattle.rate_limiter.specs.Passes.{PassView}
 use Rattle.rate_limiter.specs.Known.{key_of, spot_in, SameSpots, KnowsCounter}
 use Rattle.rate_limiter.specs.PassStep.{KnowsAll}
-use Rattle.rate_limiter.specs.Planned.{name_under, names_under}
-use Rattle.rate_limiter.specs.Sought.{AreNoted, IsSeenOf, IsSeenAt, AreSeenAt, IsSeenAlone, KnowsUnder}
+use Rattle.rate_limiter.specs.Names.{name_under, names_under}
+use Rattle.rate_limiter.specs.Sought.{AreNoted, KnowsUnder}
 use Rattle.rate_limiter.proofs.Knowing.{at_less}
 use Rattle.rate_limiter.proofs.Lists.{map_some}
 
@@ -140,46 +138,6 @@ noted_all_names names n moment entries all h i name at =
     by : (o : Option Known) → IsSome o → IsSome (spot_in o)
     by None there = there
     by (Some known) there = refl
-
--- ---- the value of a counter that is alone
-
--- the counter that was noted is the one of a name that is alone
-pub seen_next : (claims : List Claim) (names : List CounterName) (i moment : ℕ) (name : CounterName) (entries : Entries) (seen : ℕ) → get_elem? names i ≡ some name
-    → IsSeenOf claims entries (key_at moment name) seen → IsSeenAlone claims names moment entries seen
-seen_next claims names i moment name entries seen at is other one = by i (subst (λ (l : List CounterName). get_elem? l i ≡ some name) one at)
-  where
-    by : (j : ℕ) → get_elem? (other ∷ []) j ≡ some name → IsSeenOf claims entries (key_at moment other) seen
-    by zero h = subst (λ (x : CounterName). IsSeenOf claims entries (key_at moment x) seen) (sym (some-injective other name h)) is
-    by (suc j) h = absurd (some-ne-none name (sym h))
-
-module _ (claims : List Claim) (request : RequestParts) (moment : ℕ) (entries : Entries) (seen : ℕ) where
-  seen_one : (e : Descriptor) (g : Found) (fs : List Found) → IsSeenAlone claims (names_under request (e ∷ []) (g ∷ fs)) moment entries seen
-      → IsSeenAt claims request moment entries e g seen
-  seen_one e NoRule fs h = tt
-  seen_one e (Unlimited rule) fs h = tt
-  seen_one e (Limited limit unit shadow rule) fs h = (h (record { domain = request.domain; entries = e.entries; unit = unit }) refl, tt)
-
-  seen_under : (ds : List Descriptor) (fs : List Found) → length ds ≡ 1 → IsSeenAlone claims (names_under request ds fs) moment entries seen
-      → AreSeenAt claims request moment entries ds fs (seen ∷ [])
-  seen_under [] fs one h i d f n a b c = absurd (some-ne-none d (sym a))
-  seen_under (e ∷ []) [] one h i d f n a b c = absurd (some-ne-none f (sym b))
-  seen_under (e ∷ []) (g ∷ fs) one h zero d f n a b c =
-      subst (λ k. IsSeenAt claims request moment entries d f k) (some-injective seen n c)
-      (subst (λ (x : Found). IsSeenAt claims request moment entries d x seen) (some-injective g f b)
-      (subst (λ (x : Descriptor). IsSeenAt claims request moment entries x g seen) (some-injective e d a) (seen_one e g fs h)))
-  seen_under (e ∷ []) (g ∷ fs) one h (suc i) d f n a b c = absurd (some-ne-none n (sym c))
-  seen_under (e ∷ x ∷ ds) fs one h i d f n a b c = absurd (omega arith)
-
-  -- the value is kept where a descriptor is alone
-  pub seen_alone : (ds : List Descriptor) (fs : List Found) (values : List ℕ) → values ≡ cond (length ds == 1) (seen ∷ []) []
-      → IsSeenAlone claims (names_under request ds fs) moment entries seen → AreSeenAt claims request moment entries ds fs values
-  seen_alone ds fs values kept h = by (length ds == 1) refl kept
-    where
-      by : (b : Bool) → (length ds == 1) ≡ b → values ≡ cond b (seen ∷ []) [] → AreSeenAt claims request moment entries ds fs values
-      by true is e =
-          let one : length ds ≡ 1 = grind (arith, nat_tests) in
-          subst (λ (l : List ℕ). AreSeenAt claims request moment entries ds fs l) (sym e) (seen_under ds fs one h)
-      by false is e = λ i d f n a b c. absurd (some-ne-none n (sym (subst (λ (l : List ℕ). get_elem? l i ≡ some n) e c)))
 
 -- ---- the counters of descriptors
 

@@ -15,7 +15,7 @@ use Rattle.rls_core.specs.Reply.{found_for}
 use Rattle.over_cache.specs.Entries.{Entries}
 use Rattle.rate_limiter.specs.declared.missed.Missed.{Missed}
 use Rattle.rate_limiter.specs.declared.missed.Missed.TheVariants.{Unknown, Reclaimed}
-use Rattle.rate_limiter.specs.Known.{spot_of, SameSpots, HasCounter, HasMissed}
+use Rattle.rate_limiter.specs.Known.{key_of, spot_of, SameSpots, HasCounter, HasMissed}
 use Rattle.rate_limiter.specs.Passes.{LimiterView, PassView, KeepsAllButTicks, KeepsAllButVersion}
 use Rattle.rate_limiter.specs.PassStep.{HasRenewed, HasOffered}
 use Rattle.rate_limiter.specs.Pinned.{SameButPins}
@@ -25,6 +25,7 @@ use Rattle.rate_limiter.specs.Opening.{refusal_for}
 use Rattle.std.specs.Prelude.{Err}
 use Rattle.rate_limiter.proofs.Renewing.{shown_renews}
 use Rattle.rate_limiter.proofs.Lists.{map_some}
+use Rattle.rate_limiter.proofs.Noting.{knows_still}
 
 -- a pass of which nothing changed but its version
 pub loaded_alone : (p p1 : PassView) → p1.limiter ≡ p.limiter → p1.claims ≡ p.claims → p1.cells ≡ p.cells → p1.known ≡ p.known → p1.refused ≡ p.refused → KeepsAllButVersion p p1
@@ -36,6 +37,33 @@ loaded_alone p p1 limiter claims cells known refused i = record {
   known = known i;
   refused = refused i;
 }
+
+-- what isn't known after questions wasn't before
+pub cause_since : (request : RequestParts) (moment : ℕ) (old new : Entries) (ds : List Descriptor) (fs : List Found) (m : Missed) (v w : CellView) → SameSpots new old
+    → HasMissCause request moment new ds fs m v w → HasMissCause request moment old ds fs m v w
+cause_since request moment old new ds fs (Unknown place) v w same c = (
+  record {
+    d = c.0.d;
+    f = c.0.f;
+    at = c.0.at;
+    unknown = record { q = c.0.unknown.q; counter = c.0.unknown.counter; unknown = same (key_of c.0.unknown.q) ∙ c.0.unknown.unknown };
+    before = knows_still request moment new old same ds fs place c.0.before;
+  },
+  c.1,
+)
+cause_since request moment old new ds fs (Reclaimed place claim) v w same c = (
+  record {
+    d = c.0.d;
+    f = c.0.f;
+    at = c.0.at;
+    q = c.0.q;
+    counter = c.0.counter;
+    s = c.0.s;
+    known = same (key_of c.0.q) ∙ c.0.known;
+    missed = c.0.missed;
+  },
+  knows_still request moment new old same ds fs (length ds) c.1,
+)
 
 -- A load of the versions and then a tick: the same as the tick and then the load
 module _ (now : ℕ) (p p1 p2 : PassView) (loads : KeepsAllButVersion p p1) (offered : HasOffered now p1.cells p2.cells) (ticks : KeepsAllButTicks p1 p2) where

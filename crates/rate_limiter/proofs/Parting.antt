@@ -1,8 +1,7 @@
 -- What holds of the parts of passes.
 use Rattle.std.proofs.Common.{◌≡◌, ℕ, suc, List, [], ◌∷◌, length, map, All, refl, sym, ap, ◌∙◌, subst, arith}
 use Rattle.rate_types.specs.Sums.{total}
-use Rattle.rate_limiter.proofs.Making.{all_tail}
-use Rattle.rate_limiter.proofs.Readying.{all_cons}
+use Rattle.rate_limiter.proofs.Making.{all_tail, all_cons}
 
 abbrev rest_of : {A : Type 0} → List A → List A
 rest_of [] = []

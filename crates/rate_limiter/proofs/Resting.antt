@@ -1,5 +1,5 @@
 -- A check that took no turn at the directory, and one that tried no pin.
-use Rattle.std.proofs.Common.{◌≡◌, ℕ, List, [], ◌∷◌, ◌++◌, length, map, sym, ap, ◌∙◌, subst, append_assoc}
+use Rattle.std.proofs.Common.{◌≡◌, ℕ, List, [], ◌∷◌, ◌++◌, length, map, refl, sym, ap, ◌∙◌, subst, append_assoc}
 use mathlib.Core.Option.{some, some-injective}
 use lib.ListN.{get_elem?}
 use Rattle.rate_types.specs.Requests.{RequestParts}
@@ -14,10 +14,14 @@ use Rattle.over_cache.specs.Entries.{Entries}
 use Rattle.rls_core.specs.Reply.{found_for}
 use Rattle.rate_limiter.specs.Known.{KnowsCounter}
 use Rattle.rate_limiter.specs.Passes.{PassView, KeepsAllButTicks, KeepsAllButVersion}
-use Rattle.rate_limiter.specs.Sought.{KnowsUnder}
-use Rattle.rate_limiter.specs.SeenOver.{AreKnownOver}
+use Rattle.rate_limiter.specs.Sought.{SameKnown, KnowsUnder, AreKnownOver}
+use Rattle.atomic_table.specs.Seated.{TableId}
+use Rattle.rate_limiter.specs.Counters.{CountersView, pass_with}
 use Rattle.rate_limiter.specs.Turns.{TakesNoTurn, TriesNoPin, IsKnownOver}
 use Rattle.rate_limiter.proofs.Lists.{map_some}
+use Rattle.rate_limiter.proofs.AskedCounters.{over_still}
+use Rattle.rate_limiter.proofs.Knowing.{spots_same}
+use Rattle.rate_limiter.proofs.Noting.{knows_still}
 
 -- lists that are equal behind equal ones
 rest_same : {A : Type 0} (xs ys zs : List A) → xs ++ ys ≡ xs ++ zs → ys ≡ zs
@@ -86,6 +90,39 @@ module _ (request : RequestParts) (moment now : ℕ) (p p1 p2 q : PassView) (tic
         let others_same : q.cells.others ≡ p2.cells.others = others ∙ sym (ap (λ (v : CellView). v.others) cells_same) in
         no_turn_at_all (stays (λ i d f lt a b. then_found (KnowsCounter request) first more is knew i d f a b) others_same) first more is knew others
 
-    -- a check that did more than to show what was seen had something to count
-    pub no_pin : (AreKnownOver request p2.cells.moment p2.known ds rules → ⊥) → TriesNoPin request p q
-    no_pin counted first more is over = absurd (counted (then_found (IsKnownOver request) first more is over))
+    -- where nothing was to be counted no pin was tried
+    pub no_pin : (AreKnownOver request p2.cells.moment p2.known ds rules → (q.cells.pairs ≡ p2.cells.pairs) × (q.cells.others ≡ p2.cells.others)) → TriesNoPin request p q
+    no_pin stays first more is over =
+        let still = stays (λ i d f a b. then_found (IsKnownOver request) first more is over i d f a b) in
+        no_pin_at_all still.0 still.1 first more is over
+
+-- a plan asks for the counters, and changes nothing but the order of what is known
+module _ (request : RequestParts) (moment now : ℕ) (p p1 q : PassView) (versions : TableId) (version : PassState (List DomainTree)) (v0 v1 : CountersView) (refused : ℕ)
+    (ticks : p1.cells ≡ ticked moment now p.cells) (rest : KeepsAllButTicks p p1) (renewed : KeepsAllButVersion p1 (pass_with versions version v0 refused))
+    (planned : v1 ≡ record v0 { known = v1.known }) (same : SameKnown v0.known v1.known) (fs : List Found)
+    (are : fs ≡ map (found_for version.index request) request.descriptors) (version_is : q.version ≡ version) (added : List Tick)
+    (then_ticks : q.cells.ticks ≡ v1.cells.ticks ++ added) where
+  cells_planned : v1.cells ≡ v0.cells
+  cells_planned = ap (λ (u : CountersView). u.cells) planned
+
+  ticks_planned : q.cells.ticks ≡ v0.cells.ticks ++ added
+  ticks_planned = then_ticks ∙ ap (λ (u : CellView). u.ticks ++ added) cells_planned
+
+  pub planned_turn : (KnowsUnder (length request.descriptors) request v1.cells.moment v1.known request.descriptors fs → q.cells.others ≡ v1.cells.others
+      → q.claims ≡ v1.claims.claims) → TakesNoTurn request p q
+  planned_turn stays =
+      no_turn request moment now p p1 (pass_with versions version v0 refused) q ticks rest renewed request.descriptors fs refl are version_is added ticks_planned
+      (λ knows others.
+      stays (subst (λ (u : CellView). KnowsUnder (length request.descriptors) request u.moment v1.known request.descriptors fs) (sym cells_planned)
+      (knows_still request v0.cells.moment v0.known v1.known (spots_same v0.known v1.known same) request.descriptors fs (length request.descriptors) knows))
+      (others ∙ sym (ap (λ (u : CellView). u.others) cells_planned))
+      ∙ ap (λ (u : CountersView). u.claims.claims) planned)
+
+  pub planned_pin : (AreKnownOver request v1.cells.moment v1.known request.descriptors fs → (q.cells.pairs ≡ v1.cells.pairs) × (q.cells.others ≡ v1.cells.others))
+      → TriesNoPin request p q
+  planned_pin stays =
+      no_pin request moment now p p1 (pass_with versions version v0 refused) q ticks rest renewed request.descriptors fs refl are version_is added ticks_planned
+      (λ over.
+      let still = stays (subst (λ (u : CellView). AreKnownOver request u.moment v1.known request.descriptors fs) (sym cells_planned)
+      (over_still request v0.cells.moment v0.known v1.known same request.descriptors fs over)) in
+      (still.0 ∙ ap (λ (u : CellView). u.pairs) cells_planned, still.1 ∙ ap (λ (u : CellView). u.others) cells_planned))

@@ -1,21 +1,12 @@
 -- What counts leave of the values that a pass knows.
 use Rattle.std.proofs.Common.{◌≡◌, ◌⊎◌, inl, inr, ℕ, zero, suc, ◌+◌, ◌≤◌, ◌<◌, ◌==◌, ◌&&◌, max, min, take, length, List, [], ◌∷◌, ◌++◌, cond}
-use Rattle.std.proofs.Common.{Bool, true, false, true≢false, Option, Some, None, IfSome, refl, sym, ap, ◌∙◌, subst, arith, eq-eqb, length-append}
+use Rattle.std.proofs.Common.{Bool, true, false, true≢false, Some, None, refl, sym, ap, ◌∙◌, subst, arith, eq-eqb, length-append}
 use Rattle.std.specs.List.{AllByRecursion}
 use Rattle.std.specs.Cmp.Lexicographic.{bytes_decides}
 use Rattle.std.proofs.lemmas.Bool.Decides.{nat_tests}
 use Rattle.std.proofs.lemmas.List.{append-nil}
-use mathlib.Core.Option.{some, some-ne-none}
-use lib.ListN.{get_elem?}
 use Rattle.rate_types.specs.Sums.{total, one_if}
-use Rattle.rate_types.specs.Requests.{RequestParts}
 use Rattle.rate_types.specs.declared.counter_key.CounterKey.{CounterKey}
-use Rattle.rate_types.specs.declared.request.Descriptor.{Descriptor}
-use Rattle.rate_types.specs.declared.rule_id.RuleId.{RuleId}
-use Rattle.rate_types.specs.declared.unit.Unit.{Unit}
-use Rattle.window_keys.specs.Counter.{counter_of}
-use Rattle.rule_lookup.specs.declared.found.Found.{Found}
-use Rattle.rule_lookup.specs.declared.found.Found.TheVariants.{Limited}
 use Rattle.counter_cells.specs.Views.{claim_on, Capped}
 use Rattle.counter_cells.specs.Steps.{looked, charged}
 use Rattle.counter_cells.specs.declared.view.CellView.{CellView}
@@ -25,20 +16,17 @@ use Rattle.counter_directory.specs.declared.claim.Claim.{Claim}
 use Rattle.counter_directory.specs.Claims.{bindings_of}
 use Rattle.over_cache.specs.Entries.{Entries, is_key, known_of, known_then, noted, without}
 use Rattle.over_cache.specs.declared.known.Known.{Known}
-use Rattle.rls_core.specs.Reply.{counter_under}
 use Rattle.rls_core.specs.declared.status.Count.{Count}
 use Rattle.rls_core.specs.declared.status.Count.TheVariants.{NoCount, Before, Seen}
 use Rattle.rate_limiter.specs.Counts.{Keeps}
 use Rattle.rate_limiter.specs.Values.{looks_at, charges_to, HasValue, HasSeen, looks_counted}
 use Rattle.rate_limiter.specs.Known.{key_of, key_bindings, pins_under, IsBoundEntry, AreBoundEntries, AreSeenEntries, AreClaimedOnce, spot_in, seen_in, SameSpots}
-use Rattle.rate_limiter.specs.Sought.{SameKnown, IsSeenOf, IsSeenAt}
-use Rattle.rate_limiter.specs.declared.planned.Planned.{Planned}
-use Rattle.rate_limiter.specs.Planned.{CountedAt, value_of, IsBoundAt, AreValues, HasRaised}
+use Rattle.rate_limiter.specs.Sought.{SameKnown, IsSeenOf}
+use Rattle.rate_limiter.specs.Counted.{CountedAt, value_of, HasRaised, HaveRisen}
 use Rattle.rate_limiter.proofs.Lists.{each_append, each_at, each_more, parts, total_more, total_some}
 use Rattle.rate_limiter.proofs.Showing.{Grows, value_grows}
 use Rattle.rate_limiter.proofs.Claiming.{one_number, one_spot}
 use Rattle.rate_limiter.proofs.Knowing.{known_all, noted_all}
-use Rattle.rate_limiter.proofs.Seeking.{seen_still}
 
 same_number : (a b : ℕ) → (a == b) ≡ true → a ≡ b
 same_number a b t = grind (arith, nat_tests)
@@ -137,7 +125,7 @@ module _ (cell found : ℕ) (v : CellView) where
           };
     }
 
-none_left : (claim value : ℕ) (v w : CellView) → HasValue claim value v → Capped claim value v → w ≡ v → Leaves claim value v w
+pub none_left : (claim value : ℕ) (v w : CellView) → HasValue claim value v → Capped claim value v → w ≡ v → Leaves claim value v w
 none_left claim value v w had most e = subst (Leaves claim value v) (sym e) (record {
   had = had;
   most = most;
@@ -283,36 +271,6 @@ module _ (cells : ℕ) (claims : List Claim) (pins : List (ℕ × ℕ)) (q : Cou
       by true same = let e = (bytes_decides key (key_of q)).0 same in subst (λ k. spot_in (known_of k es') ≡ spot_in (known_of k es)) (sym e) (here r.this)
       by false differs = ap spot_in (r.others key differs)
 
--- ---- what is planned for a descriptor with a limit
-
-module _ (claims : List Claim) (request : RequestParts) (moment : ℕ) (d : Descriptor) (p : Planned) (limit : ℕ) (unit : Unit) (shadow : Bool) (rule : Option RuleId) (s : Spot)
-    (is : p.found ≡ Limited limit unit shadow rule) (at : p.spot ≡ Some s) where
-  abbrev counter : CounterKey
-  counter = counter_of request.domain d unit moment
-
-  pub own_bound : IsBoundAt claims request moment d p → 1 ≤ bindings_of counter s.cell s.claim claims
-  own_bound h =
-      (subst (λ (f : Found). AllByRecursion (λ q. 1 ≤ bindings_of q s.cell s.claim claims) (counter_under request moment d f)) is
-      (subst (λ (o : Option Spot). IfSome o (λ t. AllByRecursion (λ q. 1 ≤ bindings_of q t.cell t.claim claims) (counter_under request moment d p.found))) at h)).0
-
-  pub own_seen : (es : Entries) (n : ℕ) → IsSeenAt claims request moment es d p.found n → IsSeenOf claims es counter n
-  own_seen es n h = (subst (λ (f : Found). IsSeenAt claims request moment es d f n) is h).0
-
-  -- the value that is known of its counter is none, or the greatest that the pass has there
-  pub seen_here : (es : Entries) (n : ℕ) (v : CellView) → AreClaimedOnce claims → IsBoundAt claims request moment d p → IsSeenAt claims request moment es d p.found n
-      → AreSeenEntries v es → HasSeen s.claim n v
-  seen_here es n v once bound seen was = by (known_of (key_of counter) es) refl
-    where
-      of : IsSeenOf claims es counter n
-      of = own_seen es n seen
-
-      by : (o : Option Known) → known_of (key_of counter) es ≡ o → HasSeen s.claim n v
-      by None e = let z : n ≡ 0 = sym of.value ∙ ap seen_in e in λ pos. absurd (omega arith)
-      by (Some k) e =
-          let spot = one_spot counter k.spot s claims (once.counters counter) (of.bound k e) (own_bound bound) in
-          let value : k.seen ≡ n = sym (ap seen_in e) ∙ of.value in
-          subst (λ m. HasSeen s.claim m v) value (subst (λ (t : Spot). HasSeen t.claim k.seen v) spot (was (key_of counter) k e))
-
 -- ---- what counts leave of entries, whether a value was noted or not
 
 module _ (cells : ℕ) (claims : List Claim) (pins : List (ℕ × ℕ)) (q : CounterKey) (s : Spot) (value seen : ℕ) (v w : CellView) (es es' : Entries)
@@ -326,9 +284,35 @@ module _ (cells : ℕ) (claims : List Claim) (pins : List (ℕ × ℕ)) (q : Cou
   bound_after true kept raised = bound_raised cells claims pins q s value seen v w es es' once bound own leaves was of (raised refl)
   bound_after false kept raised = subst (AreBoundEntries cells claims pins) (sym (kept refl).0) bound
 
-  pub spots_after : (b : Bool) → (b ≡ false → (es' ≡ es) × ((seen ≡ 0) ⊎ (seen ≡ value))) → (b ≡ true → HasRaised (key_of q) s value es es') → SameSpots es es'
-  spots_after true kept raised = spots_raised cells claims pins q s value seen v w es es' once bound own leaves was of (raised refl)
-  spots_after false kept raised = λ key. ap (λ (l : Entries). spot_in (known_of key l)) (kept refl).0
+  seen_rises : HasRaised (key_of q) s value es es' → (key : List ℕ) → seen_in (known_of key es) ≤ seen_in (known_of key es')
+  seen_rises r key = by (is_key key (key_of q)) refl
+    where
+      here : ((known_of (key_of q) es ≡ None) × (es' ≡ es)) ⊎ ((old : Known) × (known_of (key_of q) es ≡ Some old) × (es' ≡ noted (key_of q) s value es))
+          → seen_in (known_of (key_of q) es) ≤ seen_in (known_of (key_of q) es')
+      here (inl n) = let e = ap (λ (l : Entries). seen_in (known_of (key_of q) l)) n.1 in omega arith
+      here (inr o) =
+          let le = old_less cells claims pins q s value seen v w es es' once bound own leaves was of o.0 o.1 in
+          let new = ap (λ (l : Entries). seen_in (known_of (key_of q) l)) o.2
+          ∙ ap seen_in (noted_is cells claims pins q s value seen v w es es' once bound own leaves was of o.0 o.1) in
+          let old = ap seen_in o.1 in
+          omega arith
+
+      by : (b : Bool) → is_key key (key_of q) ≡ b → seen_in (known_of key es) ≤ seen_in (known_of key es')
+      by true same =
+          let e = (bytes_decides key (key_of q)).0 same in
+          subst (λ (k : List ℕ). seen_in (known_of k es) ≤ seen_in (known_of k es')) (sym e) (here r.this)
+      by false differs = let e = ap seen_in (r.others key differs) in omega arith
+
+  -- no spot changed, and no value fell
+  pub risen_after : (b : Bool) → (b ≡ false → (es' ≡ es) × ((seen ≡ 0) ⊎ (seen ≡ value))) → (b ≡ true → HasRaised (key_of q) s value es es') → HaveRisen es es'
+  risen_after true kept raised = record {
+    spots = spots_raised cells claims pins q s value seen v w es es' once bound own leaves was of (raised refl);
+    seen = seen_rises (raised refl);
+  }
+  risen_after false kept raised = record {
+    spots = λ key. ap (λ (l : Entries). spot_in (known_of key l)) (kept refl).0;
+    seen = λ key. let e = ap (λ (l : Entries). seen_in (known_of key l)) (kept refl).0 in omega arith;
+  }
 
 -- ---- looks
 
@@ -337,17 +321,3 @@ pub looks_more : (n m : ℕ) (v w : CellView) (p : ℕ × ℕ) → w.looks ≡ v
 looks_more n m v w p same is was =
     let len : length w.looks ≡ length v.looks + 1 = ap length same ∙ length-append v.looks (p ∷ []) in
     omega arith
-
--- ---- values that were looked up
-
-module _ (claims : List Claim) (request : RequestParts) (moment : ℕ) (ds : List Descriptor) (ps : List Planned) where
-  -- what is known stays
-  pub values_still : (es es' : Entries) (seen : List ℕ) → SameKnown es es' → AreValues claims request moment es ds ps seen → AreValues claims request moment es' ds ps seen
-  values_still es es' seen same h i d p n a b e = seen_still request moment claims es es' same d p.found n (h i d p n a b e)
-
-  -- where a value was noted none is left
-  pub values_after : (es es' : Entries) (b : Bool) (seen left : List ℕ) → (b ≡ false → es' ≡ es) → left ≡ cond b [] seen → AreValues claims request moment es ds ps seen
-      → AreValues claims request moment es' ds ps left
-  values_after es es' true seen left same is h = λ i d p n a b e. absurd (some-ne-none n (sym (subst (λ (l : List ℕ). get_elem? l i ≡ some n) is e)))
-  values_after es es' false seen left same is h =
-      subst (λ (l : Entries). AreValues claims request moment l ds ps left) (sym (same refl)) (subst (AreValues claims request moment es ds ps) (sym is) h)

@@ -13,11 +13,9 @@ use Rattle.rule_lookup.proofs.roots.Roots.TheSendSync as roots
 use Rattle.config_versions.proofs.pass.VersionPass.TheSendSync as version_pass
 use Rattle.config_versions.proofs.versions.Versions.TheSendSync as versions
 use Rattle.counter_cells.specs.declared.naming.CellNaming.{Ghosts}
-use Rattle.counter_cells.proofs.pass.CellPass.TheSendSync as cell_pass
 use Rattle.counter_cells.proofs.cells.Cells.TheSendSync as cells
 use Rattle.counter_directory.proofs.directory.Directory.TheSendSync as directory
-use Rattle.counter_directory.proofs.pass.DirectoryPass.TheSendSync as directory_pass
-use Rattle.rate_limiter.proofs.known_counters.KnownCounters.TheSendSync as known_counters
+use Rattle.rate_limiter.proofs.pass_counters.PassCounters.TheSendSync as pass_counters
 use Rattle.rate_limiter.proofs.scratch.Scratch.TheSendSync as scratch
 use Rattle.rate_limiter.specs.contracts.pass.Pass as pass
 use Rattle.rate_limiter.specs.contracts.pass.Pass.TheInside as pass_inside
@@ -49,14 +47,8 @@ pub pass_send : (N : RattleType) (naming : Ghosts N.Denot) → IsSend (pass.the_
 pass_send N naming = view_send (pass_inside.the_row N naming) _ _ _ _ (declared_send (pass_inside.the_type N naming) (
   search (version_pass.the_send, index_send, index_sync),
   (
-    directory_pass.the_send N naming,
-    (
-      cell_pass.the_send N naming,
-      (
-        known_counters.the_send,
-        (search sendable, (search sendable, (search (sendable, crosses, scratch.the_send), tt))),
-      ),
-    ),
+    pass_counters.the_send N naming,
+    (search sendable, (search (sendable, crosses, scratch.the_send), tt)),
   ),
 ))
 

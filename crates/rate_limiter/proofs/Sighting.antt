@@ -13,8 +13,7 @@ use Rattle.counter_cells.specs.declared.view.Charge as cell_charge
 use Rattle.rate_limiter.specs.Values.{looks_at, HasValue}
 use Rattle.rate_limiter.proofs.Ending.{left_is_below}
 use Rattle.rate_limiter.proofs.Lists.{parts, total_some, each_front, each_back, each_of}
-use Rattle.rate_limiter.proofs.Readying.{all_cons}
-use Rattle.rate_limiter.proofs.Making.{all_tail}
+use Rattle.rate_limiter.proofs.Making.{all_tail, all_cons}
 
 -- what holds of each image holds of each
 pub all_over : {A B : Type 0} (P : B → Type 0) (f : A → B) (xs : List A) → All P (map f xs) → All (λ x. P (f x)) xs

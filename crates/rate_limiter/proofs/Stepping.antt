@@ -1,12 +1,13 @@
 -- From the parts of a check to the step of its pass.
-use Rattle.std.proofs.Common.{◌≡◌, inl, inr, ℕ, ◌≤◌, ◌&&◌, not, List, [], ◌∷◌, ◌++◌, length, map, Option, Some, None, IfSome, refl, sym, ap, ◌∙◌, subst, arith, append_assoc, length-append}
+use Rattle.std.proofs.Common.{◌≡◌, inl, inr, ℕ, ◌≤◌, ◌&&◌, not, List, [], ◌++◌, length, map, Option, IfSome, refl, sym, ap, ◌∙◌, subst, arith, append_assoc, length-append}
 use Rattle.std.specs.Prelude.{Result, Ok, Err, IsErr, IsErrAnd}
 use Rattle.std.specs.List.{AllByRecursion, list_any}
 use mathlib.Core.List.{IsPrefix}
 use Rattle.rate_types.specs.Requests.{RequestParts}
 use Rattle.rate_types.specs.declared.counter_name.CounterName.{CounterName}
 use Rattle.descriptor_tree.specs.Trees.{DomainTree}
-use Rattle.counter_directory.specs.Passes.{KnownClaims}
+use Rattle.atomic_table.specs.Seated.{TableId}
+use Rattle.counter_directory.specs.Passes.{KnownClaims, DirectoryPassView}
 use Rattle.config_versions.specs.PassState.{PassState}
 use Rattle.counter_cells.specs.Views.{held_on}
 use Rattle.counter_cells.specs.Steps.{number_of, last_moment}
@@ -21,33 +22,29 @@ use Rattle.counter_directory.specs.Acquired.{Bounds, OffersNothing}
 use Rattle.counter_directory.specs.Spots.{LeavesAllButPins}
 use Rattle.over_cache.specs.Entries.{Entries}
 use Rattle.rls_core.specs.Reply.{found_for, counters_named, charges_of, sights_of, AreStatuses, IsReplyOf, is_over_limit}
-use Rattle.rls_core.specs.declared.status.Count.{Count}
-use Rattle.rls_core.specs.declared.status.Count.TheVariants.{NoCount, Before, Seen}
-use Rattle.rls_core.specs.declared.status.Status.{Status}
 use Rattle.rls_core.specs.declared.fault.CheckFault.{CheckFault}
 use Rattle.rls_core.specs.declared.fault.CheckFault.TheVariants as check
 use Rattle.rls_core.specs.declared.reply.Reply.{Reply}
 use Rattle.rule_lookup.specs.declared.found.Found.{Found}
-use Rattle.rule_lookup.specs.declared.found.Found.TheVariants.{NoRule, Unlimited, Limited}
-use Rattle.rate_limiter.specs.declared.planned.Planned.{Planned}
+use Rattle.rate_limiter.specs.declared.asked.Asked.{Asked}
 use Rattle.rate_limiter.specs.Passes.{LimiterView, PassView, KeepsAllButTicks, KeepsAllButVersion}
 use Rattle.rate_limiter.specs.Counts.{Keeps, CountsEach}
 use Rattle.rate_limiter.specs.Values.{HasSights}
 use Rattle.rate_limiter.specs.PassStep.{HasRenewed, HasOffered, HasClaimed, HasCharged, IsPassStep}
 use Rattle.rate_limiter.specs.Replied.{replied}
 use Rattle.rate_limiter.specs.Refusals.{HasRefused, HasCause, AreClaimsSpent, AreCountersFull, one_more, but_for_claims, Checks}
-use Rattle.rate_limiter.specs.Known.{SameSpots, AreSeenEntries}
+use Rattle.rate_limiter.specs.Known.{SameSpots}
 use Rattle.rate_limiter.specs.Sought.{KnowsUnder}
-use Rattle.rate_limiter.specs.SeenOver.{HaveShownOver}
-use Rattle.rate_limiter.specs.Planned.{names_under, planned_each, CountedAt, DoneAt, DoneEach}
-use Rattle.rate_limiter.specs.Pinned.{HasWaited, HasPins, HasNoPins, fault_of, refused_after}
+use Rattle.rate_limiter.specs.Names.{names_under}
+use Rattle.rate_limiter.specs.Asked.{founds}
+use Rattle.rate_limiter.specs.Counted.{SameButCounts, AreCounted, HasAnswered}
+use Rattle.rate_limiter.specs.Counters.{CountersView, pass_with}
+use Rattle.rate_limiter.specs.Pinned.{HasWaited, HasHeld, HasNoPins, fault_of, refused_after}
 use Rattle.rate_limiter.proofs.Lists.{each_append, each_more, prefix_self, last_then}
 use Rattle.rate_limiter.proofs.Noting.{knows_all}
-use Rattle.rate_limiter.proofs.Turning.{claimed_none}
-use Rattle.rate_limiter.proofs.Meeting.{never_ticked}
 use Rattle.rate_limiter.proofs.Showing.{charged_of, seen_of}
-use Rattle.rate_limiter.proofs.ShowingOver.{counts_shown, statuses_shown}
-use Rattle.rate_limiter.proofs.Counting.{counts_of, statuses_of, keys_named, each_front, each_back}
+use Rattle.rate_limiter.proofs.AskedCounters.{knows_of}
+use Rattle.rate_limiter.proofs.Counting.{counts_of, statuses_of, each_same, keys_named, each_front, each_back}
 
 -- neither the number nor the ticks nor the moment nor the pins, good or missed, changed
 pub record Still (v w : CellView) : Type 0 where
@@ -60,48 +57,9 @@ pub record Still (v w : CellView) : Type 0 where
 pub still_then : (u v w : CellView) → Still u v → Still v w → Still u w
 still_then u v w a b = record { number = b.number ∙ a.number; pins = b.pins ∙ a.pins; others = b.others ∙ a.others; ticks = b.ticks ∙ a.ticks; moment = b.moment ∙ a.moment }
 
-same_still : (v w : CellView) → w ≡ v → Still v w
-same_still v w e = record {
-  number = ap number_of e;
-  pins = ap (λ (x : CellView). x.pairs) e;
-  others = ap (λ (x : CellView). x.others) e;
-  ticks = ap (λ (x : CellView). x.ticks) e;
-  moment = ap (λ (x : CellView). x.moment) e;
-}
-
-counted_still : (spot : Spot) (limit hits : ℕ) (c : Count) (v w : CellView) → CountedAt spot limit hits c v w → Still v w
-counted_still spot limit hits (Seen seen) v w (b, inl l) =
-    let e = l.1 in
-    record {
-      number = ap number_of e;
-      pins = ap (λ (x : CellView). x.pairs) e;
-      others = ap (λ (x : CellView). x.others) e;
-      ticks = ap (λ (x : CellView). x.ticks) e;
-      moment = ap (λ (x : CellView). x.moment) e;
-    }
-counted_still spot limit hits (Seen seen) v w (b, inr k) = same_still v w k.1.2
-counted_still spot limit hits (Before before) v w h =
-    let e = h.1.charge in
-    record {
-      number = ap number_of e;
-      pins = ap (λ (x : CellView). x.pairs) e;
-      others = ap (λ (x : CellView). x.others) e;
-      ticks = ap (λ (x : CellView). x.ticks) e;
-      moment = ap (λ (x : CellView). x.moment) e;
-    }
-counted_still spot limit hits NoCount v w h = absurd h
-
-pub done_still : (f : Found) (hits : ℕ) (spot : Option Spot) (c : Count) (v w : CellView) → DoneAt f hits spot c v w → Still v w
-done_still NoRule hits spot c v w h = same_still v w h
-done_still (Unlimited rule) hits spot c v w h = same_still v w h
-done_still (Limited limit unit shadow rule) hits None c v w h = same_still v w h
-done_still (Limited limit unit shadow rule) hits (Some spot) c v w h = counted_still spot limit hits c v w h
-
-pub each_still : (moment : ℕ) (ps : List Planned) (ss : List Status) (v w : CellView) → DoneEach moment ps ss v w → Still v w
-each_still moment [] [] v w h = same_still v w h
-each_still moment [] (s ∷ ss) v w h = absurd h
-each_still moment (p ∷ ps) [] v w h = absurd h
-each_still moment (p ∷ ps) (s ∷ ss) v w h = still_then v h.0 w (done_still p.found p.hits p.spot s.count v h.0 h.1.1) (each_still moment ps ss h.0 w h.2)
+-- descriptors that were counted
+counts_still : (v w : CellView) → SameButCounts v w → Still v w
+counts_still v w h = record { number = h.number; pins = h.pins; others = h.others; ticks = h.ticks; moment = h.moment }
 
 -- pins that are given back
 pub leaves_still : (v w : CellView) → LeavesAllButPins v w → Still v w
@@ -186,7 +144,7 @@ module _ (limiter : LimiterView) (request : RequestParts) (now : ℕ) (p p1 p2 q
   }
 
   -- a check that counted so from some view of the cells on
-  step_with : (rules : List Found) (w : CellView) (r : Reply)
+  pub step_with : (rules : List Found) (w : CellView) (r : Reply)
       → HasRenewed p1.version p2.version
       → rules ≡ map (found_for p2.version.index request) request.descriptors
       → HasWaited p2.cells w → Still w q.cells
@@ -230,65 +188,6 @@ module _ (limiter : LimiterView) (request : RequestParts) (now : ℕ) (p p1 p2 q
         bare = bare;
         refused = refused ∙ start_refused;
       }
-
-  -- a check whose counters were pinned
-  pub step_of : (names : List CounterName) (rules : List Found) (spots : List Spot) (w mid : CellView) (r : Reply)
-      → HasRenewed p1.version p2.version
-      → rules ≡ map (found_for p2.version.index request) request.descriptors
-      → names ≡ names_under request request.descriptors rules
-      → HasPins names spots p2.cells w p2.claims q.claims
-      → DoneEach w.moment (planned_each request request.descriptors rules spots) r.statuses.items w mid
-      → LeavesAllButPins mid q.cells → q.cells.good ≡ []
-      → q.version ≡ p2.version → q.limiter ≡ p2.limiter → q.refused ≡ p2.refused
-      → r.version ≡ q.version.version → r.moment ≡ w.moment
-      → r.over ≡ (list_any (λ s. is_over_limit s.code) r.statuses.items && not limiter.global_shadow)
-      → (known : Entries) → SameSpots known q.known → KnowsUnder (length request.descriptors) request w.moment known request.descriptors rules
-      → IsPassStep limiter request now p r q
-  step_of names rules spots w mid r renewed rules_are names_are pins done leaves bare =
-      let ds = request.descriptors in
-      let config = p2.version.index in
-      let sts = r.statuses.items in
-      let all = still_then w mid q.cells (each_still w.moment (planned_each request ds rules spots) sts w mid done) (leaves_still mid q.cells leaves) in
-      let names_so : names ≡ names_under request ds (map (found_for config request) ds) = names_are ∙ ap (names_under request ds) rules_are in
-      let done_so : DoneEach w.moment (planned_each request ds (map (found_for config request) ds) spots) sts w mid
-      = subst (λ (fs : List Found). DoneEach w.moment (planned_each request ds fs spots) sts w mid) rules_are done in
-      let pins_so : HasPins (names_under request ds (map (found_for config request) ds)) spots p2.cells w p2.claims q.claims
-      = subst (λ (ns : List CounterName). HasPins ns spots p2.cells w p2.claims q.claims) names_so pins in
-      let counts = counts_of q.claims.known request w.moment config ds spots sts w mid pins_so.bound pins_so.under pins_so.count done_so in
-      let back : Keeps mid q.cells = record { looks = ap (λ (x : CellView). x.looks) leaves; charges = ap (λ (x : CellView). x.charges) leaves } in
-      let named : keys_at w.moment (names_under request ds (map (found_for config request) ds)) ≡ counters_named config request w.moment
-      = keys_named q.claims.known request w.moment config ds in
-      step_with rules w r renewed rules_are pins.waited all (subst (λ ks. HasClaimed ks w.moment p2.claims q.claims) named pins_so.claimed)
-      (each_back q.claims.known request w.moment config ds sts w mid q.cells counts back) (statuses_of q.claims.known request w.moment config ds spots sts w mid done_so) bare
-
-  -- a check whose counters were all seen above their limits before
-  pub step_over : (rules : List Found) (r : Reply)
-      → HasRenewed p1.version p2.version
-      → rules ≡ map (found_for p2.version.index request) request.descriptors
-      → q.cells ≡ p2.cells → q.claims ≡ p2.claims
-      → AreSeenEntries p2.cells q.known
-      → HaveShownOver p2.claims.known q.known request p2.cells.moment request.descriptors rules r.statuses.items
-      → p2.cells.good ≡ []
-      → q.version ≡ p2.version → q.limiter ≡ p2.limiter → q.refused ≡ p2.refused
-      → r.version ≡ q.version.version → r.moment ≡ p2.cells.moment
-      → r.over ≡ (list_any (λ s. is_over_limit s.code) r.statuses.items && not limiter.global_shadow)
-      → (known : Entries) → SameSpots known q.known → KnowsUnder (length request.descriptors) request p2.cells.moment known request.descriptors rules
-      → IsPassStep limiter request now p r q
-  step_over rules r renewed rules_are cells claims seen shown bare =
-      let ds = request.descriptors in
-      let config = p2.version.index in
-      let sts = r.statuses.items in
-      let w = p2.cells in
-      let each = subst (λ (fs : List Found). HaveShownOver p2.claims.known q.known request w.moment ds fs sts) rules_are shown in
-      let counts : CountsEach p2.claims.known config request w.moment ds sts w w
-      = counts_shown p2.claims.known q.known request w.moment w seen config ds sts each.count each.each in
-      step_with rules w r renewed rules_are (record { ticked = never_ticked w; keeps = record { looks = refl; charges = refl } }) (same_still w q.cells cells)
-      (claimed_none (counters_named config request w.moment) w.moment p2.claims q.claims
-      (subst (λ (t : KnownClaims). IsPrefix p2.claims.known t.known) (sym claims) (prefix_self p2.claims.known)) (ap (λ (t : KnownClaims). t.own) claims))
-      (subst (λ (t : KnownClaims). CountsEach t.known config request w.moment ds sts w q.cells) (sym claims)
-      (subst (λ (x : CellView). CountsEach p2.claims.known config request w.moment ds sts w x) (sym cells) counts))
-      (statuses_shown p2.claims.known q.known request w.moment w seen config ds sts each.count each.each)
-      (ap (λ (x : CellView). x.good) cells ∙ bare)
 
   -- ---- a refused check
 
@@ -385,6 +284,48 @@ module _ (limiter : LimiterView) (request : RequestParts) (now : ℕ) (p p1 p2 q
         → HasRefused now p (but_for_claims (fault_of fault) p q) × HasCause b request p (fault_of fault) q
     refusal_of fault h e =
         subst (λ (x : PassView). HasRefused now p (but_for_claims (fault_of fault) p x) × HasCause b request p (fault_of fault) x) (sym e) (ended_so fault h)
+
+-- ---- the answer of counters that are held
+
+module _ (limiter : LimiterView) (request : RequestParts) (fs : List Found) (reply : Reply) (number : ℕ) (w x : CountersView)
+    (h : HasAnswered limiter number request fs reply w x) where
+  pub answered_still : Still w.cells x.cells
+  answered_still =
+      still_then w.cells h.mid x.cells (counts_still w.cells h.mid
+      (each_same w.claims.claims.known request w.cells.moment request.descriptors fs reply.statuses.items w.cells h.mid h.counted))
+      (leaves_still h.mid x.cells h.left)
+
+  -- it is the step of a pass
+  pub step_of : (now : ℕ) (p p1 p2 : PassView) (offered : HasOffered now p.cells p1.cells) (ticked : KeepsAllButTicks p p1) (rest : KeepsAllButVersion p1 p2)
+      (versions : TableId) (cells : ℕ) (asked : List Asked) (spots : List Spot) (v : CountersView) → HasRenewed p1.version p2.version
+      → fs ≡ map (found_for p2.version.index request) request.descriptors → v.cells ≡ p2.cells → v.claims.claims ≡ p2.claims
+      → HasHeld cells request fs asked spots v w → number ≡ p2.version.version → record { claims = x.claims.list_id; versions = versions } ≡ p2.limiter
+      → IsPassStep limiter request now p reply (pass_with versions p2.version x p2.refused)
+  step_of now p p1 p2 offered ticked rest versions cells asked spots v renewed fs_are cells_are claims_are held number_is same =
+      let ds = request.descriptors in
+      let config = p2.version.index in
+      let sts = reply.statuses.items in
+      let m = w.cells.moment in
+      let q = pass_with versions p2.version x p2.refused in
+      let counted : AreCounted w.claims.claims.known request m ds (map (found_for config request) ds) sts w.cells h.mid
+      = subst (λ (l : List Found). AreCounted w.claims.claims.known request m ds l sts w.cells h.mid) fs_are h.counted in
+      let back : Keeps h.mid x.cells = record { looks = ap (λ (u : CellView). u.looks) h.left; charges = ap (λ (u : CellView). u.charges) h.left } in
+      let counts : CountsEach w.claims.claims.known config request m ds sts w.cells x.cells
+      = each_back w.claims.claims.known request m config ds sts w.cells h.mid x.cells (counts_of w.claims.claims.known request m config ds sts w.cells h.mid counted) back in
+      let named : keys_at m (names_under request ds fs) ≡ counters_named config request m
+      = ap (λ (l : List Found). keys_at m (names_under request ds l)) fs_are ∙ keys_named w.claims.claims.known request m config ds in
+      let claimed : HasClaimed (counters_named config request m) m p2.claims w.claims.claims
+      = subst (λ (t : KnownClaims). HasClaimed (counters_named config request m) m t w.claims.claims) claims_are
+      (subst (λ ks. HasClaimed ks m v.claims.claims w.claims.claims) named held.claimed) in
+      let knows : KnowsUnder (length ds) request m w.known ds fs
+      = subst (λ (l : List Found). KnowsUnder (length ds) request m w.known ds l) held.founds_are
+      (subst (λ n. KnowsUnder n request m w.known ds (founds asked)) held.asked_are.count
+      (knows_of cells request w asked held.asked_are (length asked) held.held.known)) in
+      step_with limiter request now p p1 p2 q offered ticked rest fs w.cells reply renewed fs_are (subst (λ (u : CellView). HasWaited u w.cells) cells_are held.waited)
+      answered_still (subst (λ (t : DirectoryPassView). HasClaimed (counters_named config request m) m p2.claims t.claims) (sym h.claims) claimed)
+      (subst (λ (t : DirectoryPassView). CountsEach t.claims.known config request m ds sts w.cells x.cells) (sym h.claims) counts)
+      (statuses_of w.claims.claims.known request m config ds sts w.cells h.mid counted) h.bare refl same refl (h.version_is ∙ number_is) h.moment_is h.over_is
+      w.known h.known.spots knows
 
 -- for want of memory
 pub early : (b : Bounds) (limiter : LimiterView) (request : RequestParts) (now : ℕ) (p q : PassView) (r : Result (Unit {0}) CheckFault) (reply : Reply)

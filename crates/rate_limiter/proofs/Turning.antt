@@ -1,5 +1,5 @@
 -- What a turn at the directory leaves of a pass.
-use Rattle.std.proofs.Common.{◌≡◌, ℕ, suc, ◌+◌, ◌-◌, ◌≤◌, ◌==◌, ◌&&◌, nat_lt, List, [], ◌∷◌, ◌++◌, length, All, true, refl, sym, ap, ◌∙◌, subst, arith, length-append, eq-eqb}
+use Rattle.std.proofs.Common.{◌≡◌, ℕ, ◌+◌, ◌-◌, ◌≤◌, ◌==◌, ◌&&◌, nat_lt, List, [], ◌∷◌, ◌++◌, length, All, refl, sym, ap, ◌∙◌, subst, arith, length-append, eq-eqb}
 use Rattle.std.specs.Prelude.{Ok, Err, Result, OnOk, OnErr, IfErr}
 use Rattle.std.proofs.lemmas.List.{append-nil}
 use Rattle.std.proofs.lemmas.Bool.Decides.{nat_tests}
@@ -29,11 +29,10 @@ use Rattle.rate_limiter.specs.Known.{pins_under, PinsGrow, AreClaimedOnce}
 use Rattle.rate_limiter.specs.PassStep.{HasClaimed}
 use Rattle.rate_limiter.specs.Pinned.{HasWaited, HasPins, HasNoPins}
 use Rattle.window_keys.proofs.Counters.{is_same}
-use Rattle.rate_limiter.proofs.Meeting.{never_ticked}
 use Rattle.rate_limiter.proofs.Knowing.{grow_self, grow_then}
-use Rattle.rate_limiter.proofs.Readying.{all_cons}
+use Rattle.rate_limiter.proofs.Making.{all_cons}
 use Rattle.rate_limiter.proofs.Claiming.{lawful_once}
-use Rattle.rate_limiter.proofs.Lists.{total_at, total_more, prefix_self, parts}
+use Rattle.rate_limiter.proofs.Lists.{total_at, total_more, parts}
 
 -- what pins leave of a view
 pub record Stands (v w : CellView) : Type 0 where
@@ -202,16 +201,6 @@ turned_err b names (CountersFull moment live held wanted) v w t u bare h =
       };
     }
 
--- without a turn nothing is pinned
-pub no_turn : (v : CellView) (t : KnownClaims) → HasPins [] [] v v t t
-no_turn v t = record {
-  waited = record { ticked = never_ticked v; keeps = record { looks = refl; charges = refl } };
-  count = refl;
-  bound = λ i k s a b. absurd (mathlib.Core.Option.some-ne-none k (sym a));
-  under = λ i s a. absurd (mathlib.Core.Option.some-ne-none s (sym a));
-  claimed = claimed_none [] v.moment t t (prefix_self t.known) refl;
-}
-
 -- a turn that pinned the counters, or didn't
 pub turned_pins : (b : Bounds) (names : List CounterName) (r : Result (Unit {0}) AcquireFault) (a : Acquired) (v w : CellView) (t u : KnownClaims)
     → Turned b names v (answered r a) w t u → OnOk r (HasPins names a.spots.items v w t u)
@@ -222,11 +211,6 @@ pub turned_not : (b : Bounds) (names : List CounterName) (r : Result (Unit {0}) 
     → OnErr r (w.good ≡ []) → Turned b names v (answered r a) w t u → IfErr r (λ fault. HasNoPins b names fault v w t u)
 turned_not b names (Ok x) a v w t u bare h = tt
 turned_not b names (Err fault) a v w t u bare h = turned_err b names fault v w t u bare h
-
--- without names there is no turn
-pub no_names : (names : List CounterName) (spots : List Spot) → (length names == 0) ≡ true → spots ≡ [] → (v : CellView) (t : KnownClaims) → HasPins names spots v v t t
-no_names [] spots e s v t = subst (λ (l : List Spot). HasPins [] l v v t t) (sym s) (no_turn v t)
-no_names (x ∷ xs) spots e s v t = let z : suc (length xs) ≡ 0 = grind (arith, nat_tests) in absurd (omega arith)
 
 -- ---- pins that were good
 

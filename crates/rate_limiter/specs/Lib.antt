@@ -7,10 +7,12 @@ pub mod PassStep
 pub mod Ticks
 pub mod Refusals
 pub mod Turns
-pub mod Planned
+pub mod Names
+pub mod Counters
+pub mod Asked
+pub mod Counted
 pub mod Pinned
 pub mod Sought
-pub mod SeenOver
 pub mod Replied
 pub mod Opens
 pub mod Opening

@@ -1,21 +1,26 @@
 -- Inside: what a check has after the counters of its request are pinned, or aren't.
-use Rattle.std.specs.Prelude.{◌≡◌, ℕ, ◌<◌, List, [], length, All}
+use Rattle.std.specs.Prelude.{◌≡◌, ℕ, List, [], length}
 use mathlib.Core.List.{IsPrefix}
 use mathlib.Core.Option.{some}
 use lib.ListN.{get_elem?}
 use Rattle.rate_types.specs.declared.counter_name.CounterName.{CounterName}
+use Rattle.rate_types.specs.Requests.{RequestParts}
+use Rattle.rule_lookup.specs.declared.found.Found.{Found}
 use Rattle.counter_directory.specs.Passes.{KnownClaims}
-use Rattle.counter_cells.specs.Views.{claim_on, good_on}
+use Rattle.counter_cells.specs.Views.{claim_on}
 use Rattle.counter_cells.specs.Steps.{number_of}
 use Rattle.counter_cells.specs.declared.view.CellView.{CellView}
 use Rattle.counter_cells.specs.declared.answers.Spot.{Spot}
-use Rattle.counter_directory.specs.declared.claim.Claim.{Claim}
 use Rattle.counter_directory.specs.declared.acquired.AcquireFault.{AcquireFault}
 use Rattle.counter_directory.specs.declared.acquired.AcquireFault.TheVariants.{OutOfMemory, ClaimsSpent, CountersFull}
 use Rattle.counter_directory.specs.Acquired.{Bounds}
 use Rattle.counter_directory.specs.Keys.{keys_at}
-use Rattle.counter_directory.specs.Spots.{Bound, spots_on}
+use Rattle.counter_directory.specs.Spots.{Bound}
 use Rattle.rate_limiter.specs.Counts.{Keeps}
+use Rattle.rate_limiter.specs.Names.{names_under}
+use Rattle.rate_limiter.specs.Counters.{CountersView}
+use Rattle.rate_limiter.specs.Asked.{founds, AreAsked, AreHeld}
+use Rattle.rate_limiter.specs.declared.asked.Asked.{Asked}
 use Rattle.rate_limiter.specs.Ticks.{HasTickedAlone}
 use Rattle.rate_limiter.specs.PassStep.{HasClaimed}
 use Rattle.rls_core.specs.declared.fault.CheckFault.{CheckFault}
@@ -36,16 +41,6 @@ pub record SameButPins (v w : CellView) : Type 0 where
   pub charges : w.charges ≡ v.charges
   pub held : w.held ≡ v.held
 
--- the counters of the names, at the moment of the pass, are pinned on these spots, and nothing else was done
-pub record ArePinned (cells : ℕ) (claims : List Claim) (names : List CounterName) (spots : List Spot) (v w : CellView) : Type 0 where
-  pub same : SameButPins v w
-  pub within : All (λ (s : Spot). s.cell < cells) spots
-  pub pins : (cell : ℕ) → good_on cell w ≡ spots_on cell spots
-  pub held : length w.good ≡ length spots
-  pub count : length spots ≡ length names
-  pub bound : Bound claims (keys_at v.moment names) spots
-  pub under : (i : ℕ) (s : Spot) → get_elem? spots i ≡ some s → claim_on s.cell w.good ≡ s.claim
-
 -- the counters of the names are pinned on these spots, each under a claim that binds it
 pub record HasPins (names : List CounterName) (spots : List Spot) (v w : CellView) (t u : KnownClaims) : Type 0 where
   pub waited : HasWaited v w
@@ -53,6 +48,17 @@ pub record HasPins (names : List CounterName) (spots : List Spot) (v w : CellVie
   pub bound : Bound u.known (keys_at w.moment names) spots
   pub under : (i : ℕ) (s : Spot) → get_elem? spots i ≡ some s → claim_on s.cell w.good ≡ s.claim
   pub claimed : HasClaimed (keys_at w.moment names) w.moment t u
+
+-- What a check has before it answers: the counters are known, and pinned where something is to be counted; the pass has claimed nothing but
+-- these counters, and neither looked nor charged
+pub record HasHeld (cells : ℕ) (request : RequestParts) (fs : List Found) (asked : List Asked) (spots : List Spot)
+    (v w : CountersView) : Type 0 where
+  pub founds_are : founds asked ≡ fs
+  pub asked_are : AreAsked cells request w asked
+  pub held : AreHeld cells asked spots w.cells
+  pub waited : HasWaited v.cells w.cells
+  pub claimed : HasClaimed (keys_at w.cells.moment (names_under request request.descriptors fs)) w.cells.moment v.claims.claims
+      w.claims.claims
 
 -- why they aren't
 abbrev pub HasPinCause : Bounds → List CounterName → CellView → AcquireFault → CellView → KnownClaims → Type 0

@@ -1,97 +1,106 @@
-ghost use Rattle.std.specs.Prelude.{◌≡◌};
+// The counters that are held are counted, and the reply is written.
+ghost use Rattle.std.specs.Prelude.{◌≡◌, ◌≤◌, false, length};
+ghost use mathlib.Core.Option.{some};
+ghost use lib.ListN.{get_elem?};
+ghost use Rattle.rate_types.specs.declared.request.Descriptor.{Descriptor as DescriptorValue};
+ghost use Rattle.rate_types.specs.declared.limits.TheConstants.{MOST_DESCRIPTORS};
+ghost use Rattle.rate_limiter.specs.Asked.{known_for, IsReady, AreReady, AreKnown, founds};
+ghost use Rattle.rate_limiter.specs.Counted.{AreCounted, HaveRisen};
+ghost use Rattle.rate_limiter.specs.Sought.{SameKnown};
 
 use crate::Limiter;
-use crate::count_each::count_pinned;
-use crate::known_counters::KnownCounters;
-use crate::over::finish_reply;
-use crate::plan::write_plan;
-use crate::planned::Planned;
+use crate::asked::Asked;
+use crate::emptied::empty;
+use crate::overall::finish_reply;
+use crate::pass_counters::PassCounters;
+use crate::plan::known_for;
 use arrayvec::ArrayVec;
-use counter_cells::{CellNaming, CellPass, Spot};
-use counter_directory::DirectoryPass;
-use rate_types::Request;
+use counter_cells::{CellNaming, Cells, Spot};
 use rate_types::limits::MOST_DESCRIPTORS;
-use rls_core::Reply;
-use rule_lookup::Found;
+use rate_types::{Descriptor, Request};
+use rls_core::{Reply, Status};
+
+// What is asked for a descriptor, with what the pass knows of its counter by now: that is looked up anew once a value was noted.
+fn asked_now<N: CellNaming>(
+    counters: &mut PassCounters<N>,
+    request: &Request,
+    descriptor: &Descriptor,
+    asked: &Asked,
+    is_noted: bool,
+) -> Asked
+    requires known { is_noted ≡ false → asked.now.known
+        ≡ known_for request.now counters.old.cells.moment counters.old.known descriptor.now asked.now.found }
+    ensures rest { counters.new ≡ record counters.old { known = counters.new.known } }
+    ensures same { SameKnown counters.old.known counters.new.known }
+    ensures kept { is_noted ≡ false → counters.new.known ≡ counters.old.known }
+    ensures found { result.found ≡ asked.now.found }
+    ensures hits { result.hits ≡ asked.now.hits }
+    ensures known { result.known
+        ≡ known_for request.now counters.old.cells.moment counters.old.known descriptor.now asked.now.found }
+{
+    if !is_noted {
+        return *asked;
+    }
+    let known = known_for(counters, request, descriptor, asked.found);
+    Asked {
+        found: asked.found,
+        hits: asked.hits,
+        known,
+    }
+}
+
+// Counts what is asked for each descriptor, in order, and writes their statuses. A value that was noted may be of the counter of one of
+// the next.
+fn count_each<N: CellNaming>(
+    cells: &Cells<N>,
+    counters: &mut PassCounters<N>,
+    request: &Request,
+    asked: &[Asked],
+    statuses: &mut ArrayVec<Status, MOST_DESCRIPTORS>,
+)
+    requires count { length asked.now ≡ length request.now.descriptors }
+    requires ready { AreReady N.setup.cells counters.old.claims.claims.known request.now counters.old.cells asked.now }
+    requires known { AreKnown request.now counters.old asked.now }
+    ensures counted { AreCounted counters.old.claims.claims.known request.now counters.old.cells.moment request.now.descriptors
+        (founds asked.now) statuses.new.items counters.old.cells counters.new.cells }
+    ensures claims { counters.new.claims ≡ counters.old.claims }
+    ensures risen { HaveRisen counters.old.known counters.new.known }
+{
+    empty(statuses);
+    let descriptors = request.descriptors();
+    let mut is_noted = false;
+    'asked: for place in 0..asked.len() {
+        let descriptor = &descriptors[place];
+        let now = asked_now(counters, request, descriptor, &asked[place], is_noted);
+        let answered = counters.count(cells, request, descriptor, &now);
+        statuses.push(answered.status);
+        is_noted |= answered.is_noted;
+    }
+}
 
 impl<N: CellNaming> Limiter<N> {
-    ghost use Rattle.std.specs.Prelude.{◌≡◌, ◌≤◌, ◌<◌, ◌&&◌, not, ℕ, [], All, length};
-    ghost use Rattle.std.specs.List.{list_any};
-    ghost use Rattle.counter_cells.specs.declared.view.CellView.{CellView};
-    ghost use mathlib.Core.Option.{some};
-    ghost use lib.ListN.{get_elem?};
-    ghost use Rattle.counter_directory.specs.Passes.{knows};
-    ghost use Rattle.counter_cells.specs.Views.{good_on, claim_on};
-    ghost use Rattle.counter_cells.specs.declared.answers.Spot.{Spot as SpotValue};
-    ghost use Rattle.counter_directory.specs.Keys.{keys_at};
-    ghost use Rattle.counter_directory.specs.Spots.{spots_on, Bound, LeavesAllButPins};
-    ghost use Rattle.rls_core.specs.Reply.{is_over_limit};
-    ghost use Rattle.rate_limiter.specs.Values.{looks_counted};
-    ghost use Rattle.rate_limiter.specs.Known.{AreBoundEntries, AreSeenEntries, AreClaimedOnce, SameSpots};
-    ghost use Rattle.rate_limiter.specs.Sought.{AreSeenAt};
-    ghost use Rattle.rate_limiter.specs.Planned.{names_under, planned_each, DoneEach};
+    ghost use Rattle.std.specs.Prelude.{◌≡◌};
+    ghost use Rattle.rate_limiter.specs.Asked.{AreAsked, AreHeld, founds};
+    ghost use Rattle.rate_limiter.specs.Counted.{HasAnswered};
 
-    // Writes the reply to a request whose counters are pinned on the spots: each descriptor is counted, in order, and the pins are
-    // given back. `seen` has the values that are known of the counters, or is empty.
+    /// Writes the reply to a request whose counters are held on the spots: each descriptor is counted, in order, and the pins are given
+    /// back.
     pub(crate) fn answer(
         &self,
-        claims: &DirectoryPass<N>,
-        cell_pass: &mut CellPass<N>,
-        known: &mut KnownCounters,
-        looks: &mut u64,
+        counters: &mut PassCounters<N>,
         version: u32,
         request: &Request,
-        rules: &[Found],
-        spots: &[Spot],
-        seen: &[u64],
-        plan: &mut ArrayVec<Planned, MOST_DESCRIPTORS>,
+        asked: &[Asked],
+        held: &[Spot],
         reply: &mut Reply,
     )
-        requires rules { length rules.now ≡ length request.now.descriptors }
-        requires count { length spots.now ≡ length (names_under request.now request.now.descriptors rules.now) }
-        requires within { All (λ s. s.cell < N.setup.cells) spots.now }
-        requires good { (cell : ℕ) → good_on cell cell_pass.old ≡ spots_on cell spots.now }
-        requires under { (i : ℕ) (s : SpotValue) → get_elem? spots.now i ≡ some s → claim_on s.cell cell_pass.old.good ≡ s.claim }
-        requires bound { Bound (knows claims.now).known
-            (keys_at cell_pass.old.moment (names_under request.now request.now.descriptors rules.now)) spots.now }
-        requires values { AreSeenAt (knows claims.now).known request.now cell_pass.old.moment known.old request.now.descriptors rules.now
-            seen.now }
-        requires known { AreBoundEntries N.setup.cells (knows claims.now).known cell_pass.old.pairs known.old }
-        requires seen { AreSeenEntries cell_pass.old known.old }
-        requires once { AreClaimedOnce (knows claims.now).known }
-        requires looks { looks.old ≡ looks_counted cell_pass.old }
-        ensures done { (mid : CellView)
-            × DoneEach cell_pass.old.moment (planned_each request.now request.now.descriptors rules.now spots.now)
-            reply.new.statuses.items cell_pass.old mid
-            × LeavesAllButPins mid cell_pass.new }
-        ensures bare { cell_pass.new.good ≡ [] }
-        ensures pins { cell_pass.new.pairs ≡ cell_pass.old.pairs }
-        ensures known { AreBoundEntries N.setup.cells (knows claims.now).known cell_pass.new.pairs known.new }
-        ensures seen { AreSeenEntries cell_pass.new known.new }
-        ensures spots { SameSpots known.old known.new }
-        ensures looks { looks.new ≡ looks_counted cell_pass.new }
-        ensures version { reply.new.version ≡ version }
-        ensures moment { reply.new.moment ≡ cell_pass.old.moment }
-        ensures over { reply.new.over
-            ≡ (list_any (λ s. is_over_limit s.code) reply.new.statuses.items && not self.now.global_shadow) }
+        requires asked { AreAsked N.setup.cells request.now counters.old asked.now }
+        requires held { AreHeld N.setup.cells asked.now held.now counters.old.cells }
+        ensures { HasAnswered self.now version request.now (founds asked.now) reply.new counters.old counters.new }
     {
-        let moment = cell_pass.moment();
-        let descriptors = request.descriptors();
-        write_plan(request, descriptors, rules, spots, plan);
-        count_pinned(
-            &self.cells,
-            claims,
-            cell_pass,
-            known,
-            looks,
-            request,
-            descriptors,
-            plan.as_slice(),
-            spots,
-            seen,
-            moment,
-            &mut reply.statuses,
-        );
+        let moment = counters.moment();
+        count_each(&self.cells, counters, request, asked, &mut reply.statuses);
+        counters.give_back(&self.cells, held);
         finish_reply(reply, version, moment, self.global_shadow);
     }
 }

@@ -1,12 +1,12 @@
 ghost use Rattle.std.specs.Prelude.{◌≡◌};
+ghost use Rattle.rate_limiter.specs.Pinned.{fault_of, refused_after};
 
-use crate::hold::Hold;
-use crate::pinned::refuse;
+use crate::plan::plan;
 use crate::{Limiter, Pass};
 use counter_cells::CellNaming;
+use counter_directory::AcquireFault;
 use rate_types::{Request, Seconds};
 use rls_core::{CheckFault, Reply};
-use rule_lookup::find_rules_into;
 use std::alloc::Global;
 use std::sync::Wait;
 
@@ -64,54 +64,48 @@ impl<N: CellNaming> Limiter<N> {
         self.tick(pass, now);
         self.renew(rt, pass)?;
         let scratch = &mut *pass.scratch;
-        find_rules_into(
-            pass.version.index(),
-            request.domain(),
-            descriptors,
-            &mut scratch.rules,
-        );
-        match self.pin_counters(
-            rt,
-            alloc,
-            &mut pass.claims,
-            &mut pass.cells,
-            &mut pass.known,
-            request,
-            descriptors,
-            scratch.rules.as_slice(),
-            &mut scratch.found,
-            &mut scratch.seen,
-            &mut scratch.acquired,
-        ) {
+        let index = pass.version.index();
+        plan(index, &mut pass.counters, request, descriptors, scratch);
+        match self.hold(rt, alloc, &mut pass.counters, request, scratch) {
             Err(fault) => Err(refuse(&mut pass.refused, fault)),
-            Ok(Hold::SeenOver) => {
-                self.answer_seen(
-                    &pass.claims,
-                    &pass.cells,
-                    &pass.known,
+            Ok(()) => {
+                self.answer(
+                    &mut pass.counters,
                     pass.version.version(),
                     request,
-                    scratch.rules.as_slice(),
-                    scratch.seen.as_slice(),
+                    scratch.asked.as_slice(),
+                    scratch.acquired.spots.as_slice(),
                     reply,
                 );
                 Ok(())
             }
-            Ok(Hold::Pinned) => {
-                self.answer(
-                    &pass.claims,
-                    &mut pass.cells,
-                    &mut pass.known,
-                    &mut pass.looks,
-                    pass.version.version(),
-                    request,
-                    scratch.rules.as_slice(),
-                    scratch.acquired.spots.as_slice(),
-                    scratch.seen.as_slice(),
-                    &mut scratch.plan,
-                    reply,
-                );
-                Ok(())
+        }
+    }
+}
+
+// The fault of a check whose counters aren't pinned. A refused check counts, but for want of memory.
+fn refuse(refused: &mut u64, fault: AcquireFault) -> CheckFault
+    ensures fault { result ≡ fault_of fault }
+    ensures refused { refused.new ≡ refused_after fault refused.old }
+{
+    match fault {
+        AcquireFault::OutOfMemory => CheckFault::OutOfMemory,
+        AcquireFault::ClaimsSpent { claims, wanted } => {
+            *refused = refused.saturating_add(1);
+            CheckFault::ClaimsSpent { claims, wanted }
+        }
+        AcquireFault::CountersFull {
+            moment,
+            live,
+            held,
+            wanted,
+        } => {
+            *refused = refused.saturating_add(1);
+            CheckFault::CountersFull {
+                moment,
+                live,
+                held,
+                wanted,
             }
         }
     }

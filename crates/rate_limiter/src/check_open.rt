@@ -1,12 +1,11 @@
 ghost use Rattle.std.specs.Prelude.{◌≡◌};
 
-use crate::hold::Hold;
-use crate::sought::pin_known;
+use crate::hold::hold_known;
+use crate::plan::plan;
 use crate::{Limiter, NotOpen, Pass};
 use counter_cells::CellNaming;
 use rate_types::{Request, Seconds};
 use rls_core::Reply;
-use rule_lookup::find_rules_into;
 
 impl<N: CellNaming> Limiter<N> {
     ghost use Rattle.std.specs.Prelude.{◌≡◌, ◌≤◌, length, OnErr};
@@ -55,55 +54,27 @@ impl<N: CellNaming> Limiter<N> {
         ensures kept { OnErr result (reply.new ≡ reply.old) }
     {
         let descriptors = request.descriptors();
-        if let Some(version) = self.versions.is_behind(&mut pass.version) {
+        if let Some(version) = self.newer_version(pass) {
             return Err(NotOpen::Behind { version });
         }
         self.tick(pass, now);
         let scratch = &mut *pass.scratch;
-        find_rules_into(
-            pass.version.index(),
-            request.domain(),
-            descriptors,
-            &mut scratch.rules,
-        );
-        match pin_known(
+        let index = pass.version.index();
+        plan(index, &mut pass.counters, request, descriptors, scratch);
+        match hold_known(
             &self.cells,
-            &pass.claims,
-            &mut pass.cells,
-            &mut pass.known,
-            request,
-            descriptors,
-            scratch.rules.as_slice(),
-            &mut scratch.found,
+            &mut pass.counters,
+            scratch.asked.as_slice(),
             &mut scratch.acquired.spots,
-            &mut scratch.seen,
         ) {
             Err(missed) => Err(NotOpen::of(missed)),
-            Ok(Hold::SeenOver) => {
-                self.answer_seen(
-                    &pass.claims,
-                    &pass.cells,
-                    &pass.known,
-                    pass.version.version(),
-                    request,
-                    scratch.rules.as_slice(),
-                    scratch.seen.as_slice(),
-                    reply,
-                );
-                Ok(())
-            }
-            Ok(Hold::Pinned) => {
+            Ok(()) => {
                 self.answer(
-                    &pass.claims,
-                    &mut pass.cells,
-                    &mut pass.known,
-                    &mut pass.looks,
+                    &mut pass.counters,
                     pass.version.version(),
                     request,
-                    scratch.rules.as_slice(),
+                    scratch.asked.as_slice(),
                     scratch.acquired.spots.as_slice(),
-                    scratch.seen.as_slice(),
-                    &mut scratch.plan,
                     reply,
                 );
                 Ok(())

@@ -80,8 +80,7 @@ impl KnownCounters {
         self.counters.known(self.key.as_slice())
     }
 
-    /// Notes the spot of the counter in the window of the moment, and answers the value that is known there then. What was seen there
-    /// under an equal claim stays known.
+    /// Notes the spot of the counter in the window of the moment. What was seen there under an equal claim stays known.
     pub(crate) fn note(
         &mut self,
         domain: &Text,
@@ -89,21 +88,18 @@ impl KnownCounters {
         unit: Unit,
         moment: Seconds,
         spot: Spot,
-    ) -> Result<u64, OutOfMemory>
+    ) -> Result<(), OutOfMemory>
         ensures noted { OnOk result
             (self.new ≡ noted (key_of (counter_named domain.now entries.now unit moment)) spot 0 self.old) }
         ensures refused { OnErr result (self.new ≡ self.old) }
         ensures others { OnOk result ((other : List ℕ) (known : KnownValue)
             → is_key other (key_of (counter_named domain.now entries.now unit moment)) ≡ false
             → known_of other self.new ≡ Some known → known_of other self.old ≡ Some known) }
-        ensures value { IfOk result
-            (λ seen. seen_in (known_of (key_of (counter_named domain.now entries.now unit moment)) self.new) ≡ seen) }
         ensures alone { (q : CounterKey) → key_of q ≡ key_of (counter_named domain.now entries.now unit moment)
             → q ≡ counter_named domain.now entries.now unit moment }
     {
         write_counter(domain, entries, unit, moment, &mut self.key);
-        self.counters.note(self.key.as_slice(), spot, 0)?;
-        Ok(seen_of(self.counters.known(self.key.as_slice())))
+        self.counters.note(self.key.as_slice(), spot, 0)
     }
 
     /// Notes a value of the counter in the window of the moment, where the counter is known. Else nothing changes. It takes no

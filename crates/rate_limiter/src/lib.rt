@@ -17,15 +17,15 @@
 //! The limits: `check`, `reload` and `meet` may wait for other calls on the limiter.
 #![tactic(auto)]
 
+mod acquire;
 mod answer;
+mod asked;
 mod check;
 mod check_open;
 mod close;
-mod count_each;
-mod count_one;
+mod count;
 mod emptied;
 mod hold;
-mod known;
 mod known_counters;
 mod limiter;
 mod make;
@@ -33,16 +33,13 @@ mod meet;
 mod missed;
 mod names;
 mod not_open;
-mod over;
+mod overall;
 mod pass;
-mod pinned;
+mod pass_counters;
 mod plan;
-mod planned;
 mod reload;
 mod renew;
 mod scratch;
-mod seen_over;
-mod sought;
 mod split;
 mod totals;
 

@@ -7,6 +7,7 @@ ghost use Rattle.rate_limiter.specs.Passes.{IsNewPass};
 ghost use Rattle.rate_limiter.specs.Made.{IsNewCellPass};
 
 use crate::known_counters::KnownCounters;
+use crate::pass_counters::PassCounters;
 use crate::scratch::Scratch;
 use crate::{Limiter, Limits, Pass};
 use config_versions::{VersionPass, Versions};
@@ -54,7 +55,8 @@ fn passes_of<N: CellNaming>(
         };
         let known = KnownCounters::make(alloc, seed)?;
         let scratch = Box::new(alloc, Scratch::new())?;
-        let pass = Pass::new(version, claims, cells, known, scratch);
+        let counters = PassCounters::new(claims, cells, known);
+        let pass = Pass::new(version, counters, scratch);
         passes.push_reserved(pass);
     }
     Ok(passes)

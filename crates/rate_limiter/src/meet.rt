@@ -26,8 +26,8 @@ impl<N: CellNaming> Limiter<N> {
         ensures ticked { HasTickedAlone pass.old.cells pass.new.cells }
         ensures rest { KeepsAllButTicks pass.old pass.new }
     {
-        let now = pass.cells.moment();
-        self.cells.tick(&mut pass.cells, now);
+        let now = pass.counters.moment();
+        pass.counters.tick(&self.cells, now);
     }
 
     // Brings two passes to one version.

@@ -1,6 +1,6 @@
 // The names of the counters that a request asks for.
 ghost use Rattle.std.specs.Prelude.{◌≡◌, ◌≤◌, ◌++◌, [], ◌∷◌, length, IfOk, OnOk, IfSome};
-ghost use Rattle.rate_limiter.specs.Planned.{name_under, names_under};
+ghost use Rattle.rate_limiter.specs.Names.{name_under, names_under};
 
 use counter_directory::SoughtName;
 use rate_types::{Descriptor, OutOfMemory, Request};

@@ -6,11 +6,12 @@ use rate_types::{OutOfMemory, Seconds};
 use std::sync::Wait;
 
 impl<N: CellNaming> Limiter<N> {
-    ghost use Rattle.std.specs.Prelude.{◌≡◌, [], OnOk, OnErr};
+    ghost use Rattle.std.specs.Prelude.{◌≡◌, ◌+◌, ◌<◌, [], OnOk, OnErr, MatchOption};
     ghost use Rattle.counter_cells.specs.Steps.{ticked};
     ghost use Rattle.rate_limiter.specs.Passes.{KeepsAllButVersion, KeepsAllButTicks};
     ghost use Rattle.rate_limiter.specs.PassStep.{HasRenewed, HasOffered};
     ghost use Rattle.rate_limiter.specs.Versions.{HasStayed};
+    ghost use Rattle.config_versions.specs.PassState.{HasLoaded, IsVersion};
 
     /// Offers a moment to the clock. The answer is the pass's moment afterwards: at least `now`, and no earlier than before.
     /// It waits for nobody.
@@ -20,7 +21,7 @@ impl<N: CellNaming> Limiter<N> {
         ensures offered { HasOffered now pass.old.cells pass.new.cells }
         ensures rest { KeepsAllButTicks pass.old pass.new }
     {
-        self.cells.tick(&mut pass.cells, now)
+        pass.counters.tick(&self.cells, now)
     }
 
     // Brings the pass to the newest version where one load shows that it is behind.
@@ -35,5 +36,17 @@ impl<N: CellNaming> Limiter<N> {
             return Ok(());
         }
         self.versions.refresh(rt, &mut pass.version)
+    }
+
+    // The number of the newest version, where one load shows that the pass is behind it.
+    pub(crate) fn newer_version(&self, pass: &mut Pass<N>) -> Option<u32>
+        requires pass { pass.old.limiter ≡ self.now.id }
+        ensures answer { MatchOption result (pass.new.version.view.shown ≡ pass.old.version.version + 1)
+            (λ n. (n + 1 ≡ pass.new.version.view.shown) × (pass.old.version.version < n)) }
+        ensures loaded { HasLoaded pass.old.version pass.new.version }
+        ensures at { IsVersion pass.new.version.view.known pass.new.version.version pass.new.version.index }
+        ensures rest { KeepsAllButVersion pass.old pass.new }
+    {
+        self.versions.is_behind(&mut pass.version)
     }
 }

@@ -1,6 +1,5 @@
-use crate::planned::Planned;
+use crate::asked::Asked;
 use arrayvec::ArrayVec;
-use counter_cells::Spot;
 use counter_directory::Acquired;
 use rate_types::limits::MOST_DESCRIPTORS;
 use rule_lookup::Rules;
@@ -11,14 +10,10 @@ use rule_lookup::Rules;
 pub(crate) struct Scratch {
     /// What each descriptor finds.
     pub rules: Rules,
-    /// Where the counter of each descriptor is known, where it has one.
-    pub found: ArrayVec<Option<Spot>, MOST_DESCRIPTORS>,
-    /// The values that are known of the counters.
-    pub seen: ArrayVec<u64, MOST_DESCRIPTORS>,
+    /// What is asked for each descriptor.
+    pub asked: ArrayVec<Asked, MOST_DESCRIPTORS>,
     /// Where the counters are pinned.
     pub acquired: Acquired,
-    /// What is planned for each descriptor.
-    pub plan: ArrayVec<Planned, MOST_DESCRIPTORS>,
 }
 
 impl Scratch {
@@ -26,10 +21,8 @@ impl Scratch {
     pub(crate) fn new() -> Scratch {
         Scratch {
             rules: ArrayVec::new(),
-            found: ArrayVec::new(),
-            seen: ArrayVec::new(),
+            asked: ArrayVec::new(),
             acquired: Acquired::new(),
-            plan: ArrayVec::new(),
         }
     }
 }

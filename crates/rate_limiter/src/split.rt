@@ -4,6 +4,7 @@ ghost use Rattle.counter_directory.specs.Passes.{list_of, knows};
 ghost use Rattle.config_versions.specs.Passes.{pass_state, versions_of};
 
 use crate::Pass;
+use crate::pass_counters::PassCounters;
 use config_versions::VersionPass;
 use counter_cells::{CellNaming, CellPass};
 use counter_directory::DirectoryPass;
@@ -38,13 +39,16 @@ pub(crate) fn parts_of<N: CellNaming>(
     for pass in passes {
         let Pass {
             version,
+            counters,
+            refused: _,
+            scratch: _,
+        } = pass;
+        let PassCounters {
             claims: claim_pass,
             cells: cell_pass,
             known: _,
             looks: _,
-            refused: _,
-            scratch: _,
-        } = pass;
+        } = counters;
         versions.push_reserved(version);
         claims.push_reserved(claim_pass);
         cells.push_reserved(cell_pass);

@@ -7,6 +7,7 @@ use Rattle.std.proofs.lemmas.Grind.{common_steps}
 use Rattle.counter_directory.specs.Passes.{list_of, knows, IsFresh}
 use Rattle.config_versions.specs.PassState.{IsFirst}
 use Rattle.config_versions.specs.Passes.{IsPassOf, pass_state, versions_id, versions_of}
+use Rattle.rate_limiter.specs.Counters.{CountersView, pass_with}
 use Rattle.rate_limiter.specs.Passes.{LimiterId, PassView, IsNewPass}
 use Rattle.rate_limiter.specs.Made.{IsNewCellPass}
 use Rattle.rate_limiter.proofs.Making.{all_tail, new_pass_of}
@@ -31,6 +32,8 @@ loop-cells-preserved g c =
     c.pop-in-loop-cells.result c.pop-in-loop-cells.ensures.items before.versions in
     let version = subst (λ r. IfSome r (λ p. IsPassOf vs p × IsFirst first (pass_state p))) c.in-Some-pop-2.is q.1 in
     let n = ap length steps in
+    let made : c.new-pass.result ≡ pass_with (versions_of v) (pass_state v) (record { claims = s; cells = h; known = [] }) 0
+    = c.new-pass.ensures ∙ ap (λ (u : CountersView). pass_with (versions_of v) (pass_state v) u 0) c.new-counters.ensures in
     record {
       whole = append_assoc c.loop-cells.yielded (h ∷ []) c.next.new.self.rest.items ∙ ap (λ l. c.loop-cells.yielded ++ l) (sym steps) ∙ before.whole;
       rest = t.1;
@@ -40,7 +43,7 @@ loop-cells-preserved g c =
       versions_left = grind (arith, common_steps);
       passes = subst (All (λ (x : PassView). (x.limiter ≡ id) × IsNewPass first start x)) (sym c.push_reserved.ensures.items)
           (All-push (λ (x : PassView). (x.limiter ≡ id) × IsNewPass first start x) c.loop-cells.passes.items c.new-pass.result before.passes
-          (subst (λ (x : PassView). (x.limiter ≡ id) × IsNewPass first start x) (sym c.new-pass.ensures) (
+          (subst (λ (x : PassView). (x.limiter ≡ id) × IsNewPass first start x) (sym made) (
             λ j. record { claims = claims.0 j; versions = version.0 j },
             new_pass_of first start (record { claims = list_of s; versions = versions_of v }) (pass_state v) (knows s) h version.1 claims.1 t.0,
           )));
@@ -48,7 +51,7 @@ loop-cells-preserved g c =
           ap (map (λ (x : PassView). x.cells)) c.push_reserved.ensures.items
           ∙ map-append (λ (x : PassView). x.cells) c.loop-cells.passes.items (c.new-pass.result ∷ [])
           ∙ ap (λ l. l ++ c.new-pass.result.cells ∷ []) before.cells
-          ∙ ap (λ (x : PassView). c.loop-cells.yielded ++ x.cells ∷ []) c.new-pass.ensures;
+          ∙ ap (λ (x : PassView). c.loop-cells.yielded ++ x.cells ∷ []) made;
       made = grind (arith, common_steps);
       room = grind (arith, common_steps);
     }

@@ -3,7 +3,7 @@ use Rattle.rate_types.specs.declared.counter_name.CounterName.{CounterName}
 use Rattle.rate_types.specs.declared.request.Descriptor.{Descriptor}
 use Rattle.rule_lookup.specs.declared.found.Found.{Found}
 use Rattle.rule_lookup.specs.declared.found.Found.TheVariants.{NoRule}
-use Rattle.rate_limiter.specs.Planned.{name_under, names_under}
+use Rattle.rate_limiter.specs.Names.{name_under, names_under}
 use Rattle.rate_limiter.proofs.Counting.{names_next}
 use Rattle.rate_limiter.proofs.names.names_of.Goals as goal
 

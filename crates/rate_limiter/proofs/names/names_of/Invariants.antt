@@ -1,5 +1,5 @@
 use Rattle.std.proofs.Common.{◌≡◌, take}
-use Rattle.rate_limiter.specs.Planned.{names_under}
+use Rattle.rate_limiter.specs.Names.{names_under}
 use Rattle.rate_limiter.proofs.names.names_of.Given as goal
 
 abbrev pub invariant-descriptors : goal.invariant-descriptors

@@ -4,6 +4,7 @@ use Rattle.std.proofs.lemmas.List.{map-append}
 use Rattle.std.proofs.lemmas.Grind.{common_steps}
 use Rattle.counter_directory.specs.Passes.{list_of, knows}
 use Rattle.config_versions.specs.Passes.{pass_state, versions_of}
+use Rattle.rate_limiter.specs.Counters.{CountersView, pass_with}
 use Rattle.rate_limiter.specs.Passes.{PassView}
 use Rattle.rate_limiter.proofs.split.parts_of.Goals as goal
 
@@ -13,10 +14,11 @@ loop-pass-preserved g c =
     let p = c.in-Some.pass in
     let steps = c.in-Some.ensures.steps.0 in
     let y = c.loop-pass.yielded in
-    let is = c.pass.view_is in
     let version = c.pass.inside.version in
-    let claim = c.pass.inside.claims in
-    let cell = c.pass.inside.cells in
+    let claim = c.counters.inside.claims in
+    let cell = c.counters.inside.cells in
+    let is : pass_with (versions_of version) (pass_state version) (record { claims = claim; cells = cell; known = c.counters.inside.known }) c.pass.inside.refused ≡ p
+    = ap (λ (u : CountersView). pass_with (versions_of version) (pass_state version) u c.pass.inside.refused) c.counters.view_is ∙ c.pass.view_is in
     let vs = c.loop-pass.versions.items in
     let cs = c.loop-pass.claims.items in
     record {
@@ -27,7 +29,7 @@ loop-pass-preserved g c =
           ∙ ap (λ (x : PassView). map (λ p. p.cells) y ++ x.cells ∷ []) is
           ∙ sym (map-append (λ p. p.cells) y (p ∷ []));
       bare = subst (All (λ v. v.good ≡ [])) (sym c.push_reserved-in-loop-pass-2.ensures.items)
-          (All-push (λ v. v.good ≡ []) c.loop-pass.cells.items cell before.bare c.pass.invariant.0);
+          (All-push (λ v. v.good ≡ []) c.loop-pass.cells.items cell before.bare (ap (λ (u : CountersView). u.cells.good) c.counters.view_is ∙ c.pass.invariant));
       claims =
           ap (map knows) c.push_reserved-in-loop-pass.ensures.items
           ∙ map-append knows cs (claim ∷ [])

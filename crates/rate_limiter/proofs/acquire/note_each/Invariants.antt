@@ -1,0 +1,9 @@
+use Rattle.std.proofs.Common.{◌≡◌}
+use Rattle.rate_limiter.proofs.Noting.{AreWithin}
+use Rattle.rate_limiter.proofs.acquire.note_each.Given as goal
+
+abbrev pub invariant-names : goal.invariant-names
+invariant-names g l = record {
+  rest : l.counters ≡ record l.initial.counters { known = l.counters.known };
+  noted : AreWithin l.names l.place l.initial.counters.cells.moment l.counters.known;
+}
