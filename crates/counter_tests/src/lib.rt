@@ -1,4 +1,4 @@
-//! Tests of the layers that threads share. They stand in a crate of their own, since a crate with tests is proved twice.
+//! Tests of cells, directories and what a pass knows of its counters. They stand in a crate of their own, since a crate with tests is proved twice.
 #![tactic(auto)]
 
 #[cfg(test)]
@@ -9,9 +9,3 @@ mod directory;
 mod hashes;
 #[cfg(test)]
 mod known;
-#[cfg(test)]
-mod numbers;
-#[cfg(test)]
-mod told;
-#[cfg(test)]
-mod versions;

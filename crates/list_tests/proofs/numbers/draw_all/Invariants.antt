@@ -1,6 +1,6 @@
 use Rattle.std.proofs.Common.{◌≡◌, ◌+◌, ◌≤◌, vec_len, vec_capacity}
 use Rattle.line_numbers.specs.Batches.{batches_of}
-use Rattle.counter_tests.proofs.numbers.draw_all.Given as goal
+use Rattle.list_tests.proofs.numbers.draw_all.Given as goal
 
 abbrev pub invariant-loop : goal.invariant-loop
 invariant-loop l = record {

@@ -1,5 +1,5 @@
 use Rattle.config_versions.specs.Passes.{IsPassOf}
-use Rattle.counter_tests.proofs.versions.fill.Given as goal
+use Rattle.list_tests.proofs.versions.work.Given as goal
 
 abbrev pub invariant-loop : goal.invariant-loop
 invariant-loop g l = IsPassOf l.versions l.pass
