@@ -23,7 +23,7 @@ use Rattle.rls_core.specs.declared.fault.CheckFault.TheVariants.{CountersFull, C
 use Rattle.rls_core.specs.declared.reply.Reply.{Reply}
 use Rattle.rate_limiter.specs.Passes.{LimiterView, PassView, bounds_of}
 use Rattle.rate_limiter.specs.Refusals.{AreClaimsSpent, AreCountersFull}
-use Rattle.rate_limiter.proofs.Places.{prefix_at, prefix_get, total_there, append_at, back_at}
+use Rattle.rate_limiter.proofs.Places.{prefix_at, prefix_get, total_there, append_at, back_at, all_both}
 use Rattle.rate_limiter.proofs.CounterLists.{count, Differ}
 use Rattle.rate_limiter.proofs.OpenClaims.{keys_in, keys_count, live_few}
 use Rattle.rate_limiter.proofs.LawfulClaims.{first_lawful, keys_differ}
@@ -35,7 +35,7 @@ use Rattle.http_checks.specs.Deeds.{At, at_pass, Deed, checked, reloaded, Does, 
 use Rattle.http_checks.specs.Named.{IsNamed}
 use Rattle.http_checks.specs.Causes.{IsCause, HasCause}
 use Rattle.http_checks.specs.Versions.{all_deeds, DeedsEach}
-use Rattle.http_checks.proofs.Grown.{prefix_on, both}
+use Rattle.http_checks.proofs.Grown.{prefix_on}
 use Rattle.http_checks.proofs.Deeds.{one_did, all_did}
 
 -- a check of these deeds
@@ -206,7 +206,7 @@ module _ (size : ℕ) (configs : List (List DomainTree)) (claims : List Claim) (
       → AllByRecursion (HasCause size limiter configs all) (all_deeds deeds)
   each_caused limiter [] [] [] h known claimed there = tt
   each_caused limiter (p ∷ ps) (xs ∷ deeds) (q ∷ qs) h known claimed there =
-      both (HasCause size limiter configs all) xs (all_deeds deeds)
+      all_both (HasCause size limiter configs all) xs (all_deeds deeds)
       (all_caused (checker limiter p) xs (checker limiter q) h.0 known.0 claimed.0 (λ i d g. there i d (append_at xs (all_deeds deeds) i d g)))
       (each_caused limiter ps deeds qs h.1 known.1 claimed.1 (λ i d g. there (length xs + i) d (back_at xs (all_deeds deeds) i d g)))
   each_caused limiter before deeds after h known claimed there = absurd h

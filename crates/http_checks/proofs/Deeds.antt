@@ -24,13 +24,14 @@ use Rattle.rate_limiter.specs.Passes.{LimiterView, PassView}
 use Rattle.rate_limiter.specs.Versions.{Reloads}
 use Rattle.rate_limiter.specs.Named.{AreNamed}
 use Rattle.rate_limiter.specs.Values.{HasSight}
+use Rattle.rate_limiter.proofs.Places.{prefix_get, prefix_length, all_both}
 use Rattle.http_checks.specs.Checker.{Checker, ChecksBy}
 use Rattle.http_checks.specs.Deeds.{At, at_pass, Deed, checked, reloaded, ReloadsBy, Does, Deeds}
 use Rattle.http_checks.specs.Versions.{charges_of, sights_of, ledger_of, sights_in, installed_by, installs, IsAnsweredBy, IsInForce, GoesBy}
 use Rattle.http_checks.specs.Versions.{version_answered, IsAbove, VersionsRise}
-use Rattle.http_checks.proofs.Grown.{prefix_self, prefix_same, prefix_on, prefix_added, both, named_grows, named_append, sights_grow}
+use Rattle.http_checks.proofs.Grown.{prefix_self, prefix_same, prefix_on, prefix_added, named_grows, named_append, sights_grow}
 use Rattle.http_checks.proofs.Ledger.{one_made}
-use Rattle.http_checks.proofs.Replied.{prefix_get, prefix_length, last_at}
+use Rattle.http_checks.proofs.Replied.{last_at}
 
 -- what deeds make of a pass: what checks make of it, and these versions of its own
 pub record Did (p q : Checker) (charges : List (Charge CounterKey)) (sights : List (Sight CounterKey)) (made : ℕ → ℕ) : Type 0 where
@@ -125,7 +126,7 @@ module _ (size : ℕ) where
             (sym (map-append charge_of one.added more.added))
             (named_append q.pass.claims.known (map charge_of one.added) _ (map charge_of more.added) _
             (named_grows mid.pass.claims.known q.pass.claims.known more.claims (map charge_of one.added) _ one.named) more.named);
-        seen = both (HasSight q.pass.claims.known q.pass.cells) (sights_of d) (sights_in deeds)
+        seen = all_both (HasSight q.pass.claims.known q.pass.cells) (sights_of d) (sights_in deeds)
             (sights_grow mid.pass.claims.known q.pass.claims.known mid.pass.cells q.pass.cells more.claims more.looks (more.added, sym more.grew)
             (sights_of d) one.seen) more.seen;
         claims = prefix_on p.pass.claims.known mid.pass.claims.known q.pass.claims.known one.claims more.claims;

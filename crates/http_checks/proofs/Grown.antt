@@ -13,6 +13,7 @@ use Rattle.counter_cells.specs.declared.view.Charge as cell_charge
 use Rattle.counter_directory.specs.declared.claim.Claim.{Claim}
 use Rattle.rate_limiter.specs.Named.{claimed_as, AreNamed}
 use Rattle.rate_limiter.specs.Values.{HasValue, HasSight, HasSights}
+use Rattle.rate_limiter.proofs.Places.{all_weaker}
 
 module _ {A : Type 0} where
   pub prefix_self : (xs : List A) → IsPrefix xs xs
@@ -26,14 +27,6 @@ module _ {A : Type 0} where
 
   pub prefix_added : (xs ys zs ws : List A) → IsPrefix xs ys → ws ≡ ys ++ zs → IsPrefix xs ws
   prefix_added xs ys zs ws p e = (p.0 ++ zs, sym (append_assoc xs p.0 zs) ∙ ap (λ l. l ++ zs) p.1 ∙ sym e)
-
-  pub weaker : (P Q : A → Type 0) → ((x : A) → P x → Q x) → (xs : List A) → AllByRecursion P xs → AllByRecursion Q xs
-  weaker P Q f [] h = tt
-  weaker P Q f (x ∷ xs) h = (f x h.0, weaker P Q f xs h.1)
-
-  pub both : (P : A → Type 0) (xs ys : List A) → AllByRecursion P xs → AllByRecursion P ys → AllByRecursion P (xs ++ ys)
-  both P [] ys h k = k
-  both P (x ∷ xs) ys h k = (h.0, both P xs ys h.1 k)
 
 claimed_grows : (q : CounterKey) (n : ℕ) (xs ys : List Claim) → IsPrefix xs ys → claimed_as q n xs ≤ claimed_as q n ys
 claimed_grows q n xs ys p =
@@ -76,4 +69,4 @@ sight_grows c d v w claims looks charges x h =
 -- sights that a pass had it has
 pub sights_grow : (c d : List Claim) (v w : CellView) → IsPrefix c d → IsPrefix v.looks w.looks → IsPrefix v.charges w.charges → (xs : List (Sight CounterKey)) → HasSights c v xs
     → HasSights d w xs
-sights_grow c d v w claims looks charges xs h = weaker (HasSight c v) (HasSight d w) (sight_grows c d v w claims looks charges) xs h
+sights_grow c d v w claims looks charges xs h = all_weaker (HasSight c v) (HasSight d w) (sight_grows c d v w claims looks charges) xs h

@@ -21,9 +21,10 @@ use Rattle.rate_limiter.specs.PassStep.{HasRenewed, HasClaimed}
 use Rattle.rate_limiter.specs.Refusals.{HasRefused}
 use Rattle.rate_limiter.specs.Named.{AreNamed}
 use Rattle.rate_limiter.specs.Values.{HasSights}
+use Rattle.rate_limiter.proofs.Places.{all_weaker}
 use Rattle.http_checks.specs.Checker.{Checker, ChecksBy}
 use Rattle.http_checks.specs.Ledger.{charges_shown, sights_shown}
-use Rattle.http_checks.proofs.Grown.{prefix_same, prefix_added, weaker}
+use Rattle.http_checks.proofs.Grown.{prefix_same, prefix_added}
 
 -- what checks with these charges and sights made of a pass: it charged them and nothing else, and has what they saw; no version is its own
 pub record Made (p q : Checker) (charges : List (Charge CounterKey)) (sights : List (Sight CounterKey)) : Type 0 where
@@ -88,10 +89,10 @@ module _ (config : List DomainTree) (start : ℕ) where
   IsNew p = IsNewPass config start p
 
   pub none_charged : (ps : List PassView) → AllByRecursion IsNew ps → AllByRecursion (λ (p : PassView). p.cells.charges ≡ []) ps
-  none_charged ps h = weaker IsNew (λ (p : PassView). p.cells.charges ≡ []) (λ p n. ap (λ (v : CellView). v.charges) n.cells) ps h
+  none_charged ps h = all_weaker IsNew (λ (p : PassView). p.cells.charges ≡ []) (λ p n. ap (λ (v : CellView). v.charges) n.cells) ps h
 
   pub none_owned : (ps : List PassView) → AllByRecursion IsNew ps → AllByRecursion (λ (p : PassView). p.version.view.own ≡ []) ps
-  none_owned ps h = weaker IsNew (λ (p : PassView). p.version.view.own ≡ []) (λ p n. n.version.own) ps h
+  none_owned ps h = all_weaker IsNew (λ (p : PassView). p.version.view.own ≡ []) (λ p n. n.version.own) ps h
 
   pub one_known : (ps : List PassView) → AllByRecursion IsNew ps → AllByRecursion (λ (p : PassView). p.version.view.known ≡ config ∷ []) ps
-  one_known ps h = weaker IsNew (λ (p : PassView). p.version.view.known ≡ config ∷ []) (λ p n. n.version.known) ps h
+  one_known ps h = all_weaker IsNew (λ (p : PassView). p.version.view.known ≡ config ∷ []) (λ p n. n.version.known) ps h

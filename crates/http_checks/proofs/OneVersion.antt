@@ -12,6 +12,7 @@ use Rattle.rls_core.specs.Reply.{IsReplyOf}
 use Rattle.rls_core.specs.declared.fault.CheckFault.{CheckFault}
 use Rattle.rls_core.specs.declared.reply.Reply.{Reply}
 use Rattle.rate_limiter.specs.Passes.{LimiterView, PassView}
+use Rattle.rate_limiter.proofs.Places.{none_some, same_some}
 use Rattle.http_endpoint.specs.Answers.{Asked, Lead}
 use Rattle.http_checks.specs.Checker.{Checker, checker, ChecksBy}
 use Rattle.http_checks.specs.Ledger.{charges_shown, sights_shown, IsByConfig, AreLawfulChecks, all_asked, LeadEach, HasClosed}
@@ -19,7 +20,7 @@ use Rattle.http_checks.specs.Ledger as checks
 use Rattle.http_checks.specs.Deeds.{At, at_pass, Deed, checked, Deeds}
 use Rattle.http_checks.specs.Versions.{ledger_of, sights_in, installs, IsAnsweredBy, GoesBy, as_deeds, asked_of, all_deeds, AreLawfulDeeds, AreLawfulAlone, DeedsEach, HasClosedVersions}
 use Rattle.http_checks.proofs.Grown.{prefix_self}
-use Rattle.http_checks.proofs.Replied.{none_some, same_some, only_get, nobody_owns}
+use Rattle.http_checks.proofs.Replied.{only_get, nobody_owns}
 
 -- all of them, one pass after the other
 abbrev all_placed : List (List (Asked × At)) → List (Asked × At)

@@ -18,12 +18,11 @@ use Rattle.rls_core.specs.declared.reply.Reply.{Reply}
 use Rattle.rate_limiter.specs.Passes.{LimiterView, PassView}
 use Rattle.rate_limiter.specs.PassStep.{HasOffered}
 use Rattle.rate_limiter.specs.Closing.{cells_of}
-use Rattle.rate_limiter.proofs.Places.{all_front, all_back}
+use Rattle.rate_limiter.proofs.Places.{all_front, all_back, append_nil, all_both}
 use Rattle.http_checks.specs.Checker.{Checker, checker, ChecksBy}
 use Rattle.http_checks.specs.Deeds.{At, Deed, checked, reloaded, Does, Deeds}
 use Rattle.http_checks.specs.Moments.{MomentsRise, offered_by, IsOffered, HasSource}
 use Rattle.http_checks.specs.Versions.{all_deeds, DeedsEach}
-use Rattle.http_checks.proofs.Grown.{both}
 
 -- ---- ticks
 
@@ -134,13 +133,9 @@ module _ (size : ℕ) where
       }
   one_ticked p (reloaded config result) q h = record {
     added = [];
-    ticks = ap (λ (x : PassView). x.cells.ticks) h.rest ∙ nothing p.pass.cells.ticks;
+    ticks = ap (λ (x : PassView). x.cells.ticks) h.rest ∙ append_nil p.pass.cells.ticks;
     offers = λ m s. absurd (omega arith);
   }
-    where
-      nothing : (xs : List Tick) → xs ≡ xs ++ []
-      nothing [] = refl
-      nothing (x ∷ xs) = ap (λ (l : List Tick). x ∷ l) (nothing xs)
 
   record HaveTicked (deeds : List Deed) (v w : CellView) : Type 0 where
     added : List Tick
@@ -150,13 +145,9 @@ module _ (size : ℕ) where
   all_ticked : (p : Checker) (deeds : List Deed) (q : Checker) → Deeds size p deeds q → HaveTicked deeds p.pass.cells q.pass.cells
   all_ticked p [] q h = record {
     added = [];
-    ticks = ap (λ (c : Checker). c.pass.cells.ticks) h ∙ nothing p.pass.cells.ticks;
+    ticks = ap (λ (c : Checker). c.pass.cells.ticks) h ∙ append_nil p.pass.cells.ticks;
     offers = λ m s. absurd (omega arith);
   }
-    where
-      nothing : (xs : List Tick) → xs ≡ xs ++ []
-      nothing [] = refl
-      nothing (x ∷ xs) = ap (λ (l : List Tick). x ∷ l) (nothing xs)
   all_ticked p (d ∷ deeds) q h =
       let one = one_ticked p d h.0 h.1 in
       let more = all_ticked h.0 deeds q h.2 in
@@ -216,7 +207,7 @@ module _ (size : ℕ) where
         → AllByRecursion (λ (x : Tick). IsOffered start all x.moment) (ticks_of (cells_of after)) → AllByRecursion (HasSource start all) (all_deeds deeds)
     each_sourced start all [] [] [] h o = tt
     each_sourced start all (p ∷ ps) (xs ∷ deeds) (q ∷ qs) h o =
-        both (HasSource start all) xs (all_deeds deeds)
+        all_both (HasSource start all) xs (all_deeds deeds)
         (all_sourced start all (checker limiter p) xs (checker limiter q) h.0
         (all_front (λ (x : Tick). IsOffered start all x.moment) q.cells.ticks (ticks_of (cells_of qs)) o))
         (each_sourced start all ps deeds qs h.1 (all_back (λ (x : Tick). IsOffered start all x.moment) q.cells.ticks (ticks_of (cells_of qs)) o))

@@ -28,14 +28,13 @@ use Rattle.rate_limiter.specs.Passes.{LimiterView, PassView, IsNewPass}
 use Rattle.rate_limiter.specs.Named.{AreNamed}
 use Rattle.rate_limiter.specs.Values.{HasSight}
 use Rattle.rate_limiter.specs.Closing.{cells_of, IsOneLedger, AreSightsInIt}
-use Rattle.rate_limiter.proofs.Places.{below}
+use Rattle.rate_limiter.proofs.Places.{below, prefix_get, all_weaker, all_both}
 use Rattle.script_run.proofs.Admits.{limit_holds}
 use Rattle.http_checks.specs.Checker.{checker}
 use Rattle.http_checks.specs.Deeds.{Deed, Deeds}
 use Rattle.http_checks.specs.Versions.{charges_of, sights_of, ledger_of, sights_in, installed_by, installs, GoesBy, VersionsRise, all_deeds, AreLawfulDeeds, DeedsEach, HasClosedVersions}
-use Rattle.http_checks.proofs.Grown.{prefix_self, prefix_on, both, named_grows, named_append, sight_grows, weaker}
+use Rattle.http_checks.proofs.Grown.{prefix_self, prefix_on, named_grows, named_append, sight_grows}
 use Rattle.http_checks.proofs.Ledger.{none_charged, none_owned}
-use Rattle.http_checks.proofs.Replied.{prefix_get}
 use Rattle.http_checks.proofs.OneVersion.{alone_of}
 use Rattle.http_checks.proofs.Owners.{owned_named}
 use Rattle.http_checks.proofs.Caused.{each_caused}
@@ -70,10 +69,10 @@ module _ (size : ℕ) (limiter : LimiterView) where
   all_seen claims P [] [] [] h known lawful = tt
   all_seen claims P (p ∷ ps) (xs ∷ deeds) (q ∷ qs) h known lawful =
       let m = did p xs q h.0 in
-      let mine = weaker (HasSight q.claims.known q.cells) P
+      let mine = all_weaker (HasSight q.claims.known q.cells) P
       (λ s x. lawful.0 s (sight_grows q.claims.known claims q.cells q.cells known.0 (prefix_self q.cells.looks) (prefix_self q.cells.charges) s x)) (sights_in xs) m.seen in
       subst (AllByRecursion P) (sym (flat_map-append sights_of xs (all_deeds deeds)))
-      (both P (sights_in xs) (sights_in (all_deeds deeds)) mine (all_seen claims P ps deeds qs h.1 known.1 lawful.1))
+      (all_both P (sights_in xs) (sights_in (all_deeds deeds)) mine (all_seen claims P ps deeds qs h.1 known.1 lawful.1))
   all_seen claims P before deeds after h known lawful = absurd h
 
   -- what all passes have of a version is what their deeds installed
@@ -106,7 +105,7 @@ module _ (size : ℕ) (limiter : LimiterView) where
       → AllByRecursion (GoesBy configs limiter.global_shadow) (all_deeds deeds)
   all_go configs few [] [] [] h known = tt
   all_go configs few (p ∷ ps) (xs ∷ deeds) (q ∷ qs) h known =
-      both (GoesBy configs limiter.global_shadow) xs (all_deeds deeds) (all_by size configs few (checker limiter p) xs (checker limiter q) h.0 known.0)
+      all_both (GoesBy configs limiter.global_shadow) xs (all_deeds deeds) (all_by size configs few (checker limiter p) xs (checker limiter q) h.0 known.0)
       (all_go configs few ps deeds qs h.1 known.1)
   all_go configs few before deeds after h known = absurd h
 
@@ -137,13 +136,13 @@ at_most len owned none once = pick (dec_le len MOST_VERSIONS)
 
 module _ (config : List DomainTree) (start : ℕ) where
   none_claimed : (ps : List PassView) → AllByRecursion (IsNewPass config start) ps → AllByRecursion (λ (p : PassView). p.claims.own ≡ []) ps
-  none_claimed ps h = weaker (IsNewPass config start) (λ (p : PassView). p.claims.own ≡ []) (λ p n. n.claims.own) ps h
+  none_claimed ps h = all_weaker (IsNewPass config start) (λ (p : PassView). p.claims.own ≡ []) (λ p n. n.claims.own) ps h
 
   none_ticked : (ps : List PassView) → AllByRecursion (IsNewPass config start) ps → AllByRecursion (λ (p : PassView). p.cells.ticks ≡ []) ps
-  none_ticked ps h = weaker (IsNewPass config start) (λ (p : PassView). p.cells.ticks ≡ []) (λ p n. ap (λ (v : CellView). v.ticks) n.cells) ps h
+  none_ticked ps h = all_weaker (IsNewPass config start) (λ (p : PassView). p.cells.ticks ≡ []) (λ p n. ap (λ (v : CellView). v.ticks) n.cells) ps h
 
   at_start : (ps : List PassView) → AllByRecursion (IsNewPass config start) ps → AllByRecursion (λ (p : PassView). start ≤ p.cells.moment) ps
-  at_start ps h = weaker (IsNewPass config start) (λ (p : PassView). start ≤ p.cells.moment) (λ p n. let e = ap (λ (v : CellView). v.moment) n.cells in omega arith) ps h
+  at_start ps h = all_weaker (IsNewPass config start) (λ (p : PassView). start ≤ p.cells.moment) (λ p n. let e = ap (λ (v : CellView). v.moment) n.cells in omega arith) ps h
 
 -- ---- the closed limiter
 
