@@ -34,21 +34,28 @@ is 'the other lines are those of a run without --stats' \
     "$("$program" drive --stats "$work/five.json" <"$work/seven" | head -n 8)"
 is 'a script without checks has no statistics' '' "$(printf '' | "$program" drive --stats "$work/five.json")"
 
+# drive LINES: a made-up script of so many lines, run by four workers
+drive() {
+    python3 "$here/stress_script.py" 7 "$1" "$work/config.json" "$work/script" &&
+        "$program" drive --stats --workers 4 --cells 100000 "$work/config.json" <"$work/script" >"$work/out"
+}
+
 # ends_with STATUS NAME FILE: the status of the plain program over what was printed
 ends_with() {
     python3 "$here/run_check.py" "$work/config.json" "$work/script" "$3" --workers 4 --cells 100000 --stats >"$work/said" 2>&1
     is "$2: $(tail -n 1 "$work/said")" "$1" "$?"
 }
 
-python3 "$here/stress_script.py" 7 100000 "$work/config.json" "$work/script" || exit 1
-"$program" drive --stats --workers 4 --cells 100000 "$work/config.json" <"$work/script" >"$work/out" || exit 1
-is 'rules that counted anything' yes "$([ "$(grep -c '^{"stats":' "$work/out")" -ge 20 ] && printf yes)"
-is 'hits that a shadow rule let pass' yes "$(grep '^{"stats":' "$work/out" | grep -qv '"shadow":0' && printf yes)"
-ends_with 0 'four workers' "$work/out"
+drive 5000 || exit 1
+ends_with 0 '5,000 lines' "$work/out"
 sed '$s/"within":\([0-9]*\)/"within":1\1/' "$work/out" >"$work/changed"
 ends_with 1 'a number that was changed' "$work/changed"
 sed '$d' "$work/out" >"$work/changed"
 ends_with 1 'a rule that was left out' "$work/changed"
+drive 100000 || exit 1
+is 'rules that counted anything' yes "$([ "$(grep -c '^{"stats":' "$work/out")" -ge 20 ] && printf yes)"
+is 'hits that a shadow rule let pass' yes "$(grep '^{"stats":' "$work/out" | grep -qv '"shadow":0' && printf yes)"
+ends_with 0 '100,000 lines' "$work/out"
 
 printf 'statistics: %d passed, %d failed\n' "$passed" "$failed"
 [ "$failed" -eq 0 ]
