@@ -1,0 +1,5 @@
+//! Tests of connections that are polled.
+#![tactic(auto)]
+
+#[cfg(test)]
+mod tasks;
