@@ -174,7 +174,7 @@ class Script:
 
 class Options:
     def __init__(self, workers, cells, start):
-        self.workers, self.cells, self.start, self.global_shadow = workers, cells, start, False
+        self.workers, self.cells, self.start, self.global_shadow, self.stats = workers, cells, start, False, False
 
     def words(self):
         return ["--workers", str(self.workers), "--cells", str(self.cells), "--start", str(self.start)]
@@ -185,7 +185,7 @@ def lawful(script, config, lines, options):
     records = [line for line in lines if "charged" not in line]
     first = run_check.Config(config)
     try:
-        run_check.Run(first, script, records, options).check(lines[len(records) :])
+        run_check.Run(first, script, records, options).check(lines[len(records) :], [])
     except run_check.Fault as fault:
         raise Fault(str(fault)) from None
 

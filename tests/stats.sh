@@ -43,7 +43,8 @@ drive() {
 # ends_with STATUS NAME FILE: the status of the plain program over what was printed
 ends_with() {
     python3 "$here/run_check.py" "$work/config.json" "$work/script" "$3" --workers 4 --cells 100000 --stats >"$work/said" 2>&1
-    is "$2: $(tail -n 1 "$work/said")" "$1" "$?"
+    local status=$?
+    is "$2: $(tail -n 1 "$work/said")" "$1" "$status"
 }
 
 drive 5000 || exit 1

@@ -45,7 +45,7 @@ for block in *.run; do
     same "${block%.run}: $(head -n 1 "$block" | cut -c 1-60)" '' "$(diff said "$next" 2>&1)"
     runs=$((runs + 1))
 done
-same 'blocks that ran' 4 "$runs"
+same 'blocks that ran' 5 "$runs"
 same 'the limits that the page shows' '' "$(diff examples/tune/limits.json ./*4.shown 2>&1)"
 
 # One line of each format, with an address of each kind.
