@@ -58,16 +58,11 @@ served_from config setup old new services is_all h = record {
   grew = h.served.handled;
   served = record {
     limiter = h.limiter;
-    passes = h.passes;
-    claims = h.claims;
-    shadow = h.shadow;
     before = h.before;
-    as_many = h.as_many;
-    fresh = h.fresh;
+    made = h.made;
     after = h.after;
     served = record { numbered = h.served.numbered; asked = h.served.asked; served = h.served.served; handled = refl };
-    lawful = h.lawful;
-    alone = h.alone;
+    closed = h.closed;
   };
 }
 

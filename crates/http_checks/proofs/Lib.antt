@@ -9,3 +9,4 @@ pub mod OneVersion
 pub mod Owners
 pub mod Caused
 pub mod Timed
+pub mod Leading

@@ -5,13 +5,16 @@
 //! of the connections that one pass serves one after the other, are steps of that pass in order; [`PassChecks::reload`] puts a new
 //! configuration in force between them.
 //!
+//! [`LimiterParts`] makes a limiter that serves connections, of one configuration, with its passes (`specs/Made.antt`).
 //! At the end [`close_served`] closes the limiter. What it then tells of all passes together is `AreLawfulDeeds`
 //! (`specs/Versions.antt`): each reply is that of one version, versions and moments never fall along a pass, each moment was offered,
 //! each refusal has its cause, and the charges of all replies are one lawful ledger with lawful sights.
 #![tactic(auto)]
 
 mod close;
+mod parts;
 mod pass_checks;
 
 pub use close::close_served;
+pub use parts::{LimiterParts, SERVED_CLAIMS};
 pub use pass_checks::PassChecks;

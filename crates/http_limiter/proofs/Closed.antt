@@ -1,5 +1,5 @@
 -- From links that were served by checkers to the passes with which the limiter is closed.
-use Rattle.std.proofs.Common.{◌≡◌, ℕ, suc, List, [], ◌∷◌, length, map, Bool, true, refl, sym, ap, ◌∙◌, subst, arith}
+use Rattle.std.proofs.Common.{◌≡◌, ℕ, suc, List, [], ◌∷◌, length, map, true, refl, sym, ap, ◌∙◌, subst, arith}
 use Rattle.std.proofs.lemmas.List.{length-map}
 use Rattle.std.proofs.lemmas.List.Elements.{All-from_recursion}
 use Rattle.std.specs.Prelude.{All}
@@ -11,13 +11,14 @@ use Rattle.descriptor_tree.specs.Trees.{DomainTree}
 use Rattle.rate_limiter.specs.Passes.{LimiterId, LimiterView, PassView, IsNewPass}
 use Rattle.http_endpoint.specs.Answers.{Asked, Lead}
 use Rattle.http_checks.specs.Checker.{Checker, checker, ChecksBy}
-use Rattle.http_checks.specs.Ledger.{LeadEach, HasClosed, AreLawfulChecks, all_asked}
-use Rattle.http_checks.specs.Versions.{HasClosedVersions, AreLawfulAlone}
+use Rattle.http_checks.specs.Ledger.{LeadEach, HasClosed}
+use Rattle.http_checks.specs.Versions.{HasClosedVersions}
+use Rattle.http_checks.specs.Made.{checkers, IsMade, IsClosedAfter}
+use Rattle.http_checks.proofs.Leading.{stays, led_on, closed_after}
 use Rattle.http_serve.specs.Service.{Service, AreServed, AreServedBy}
 use Rattle.http_serve.specs.Links.{AllServed}
-use Rattle.http_limiter.specs.Limited.{checkers, ServedByLimiter}
+use Rattle.http_limiter.specs.Limited.{ServedByLimiter}
 use Rattle.http_limiter.specs.declared.limited.Setup.{Setup}
-use Rattle.http_limiter.specs.declared.limited.TheConstants.{SERVED_CLAIMS}
 
 -- the passes of checkers
 abbrev pub passes_in : List Checker → List PassView
@@ -41,11 +42,6 @@ same_ids limiter [] h = tt
 same_ids limiter (c ∷ cs) h = (ap (λ (l : LimiterView). l.id) h.0, same_ids limiter cs h.1)
 
 module _ (cells : ℕ) (limiter : LimiterView) where
-  -- checks leave a checker its limiter
-  stays : (p : Checker) (asked : List Asked) (q : Checker) → Lead (ChecksBy cells) p asked q → q.limiter ≡ p.limiter
-  stays p [] q h = ap (λ (c : Checker). c.limiter) h
-  stays p (a ∷ asked) q h = stays h.0 asked q h.2 ∙ h.1.limiter
-
   abbrev LedBy : List PassView → List (List Service) → List (List Asked) → List Checker → Type 0
   LedBy before lists asked after = (w : ℕ) (p : Checker) (ss : List Service) (xs : List Asked) (q : Checker) → get_elem? (checkers limiter before) w ≡ some p
       → get_elem? lists w ≡ some ss → get_elem? asked w ≡ some xs → get_elem? after w ≡ some q
@@ -65,11 +61,8 @@ module _ (cells : ℕ) (limiter : LimiterView) where
   each_led (p ∷ ps) (s ∷ ls) [] (q ∷ qs) a l j each = absurd (omega arith)
   each_led (p ∷ ps) (s ∷ ls) (x ∷ xs) (q ∷ qs) a l j each =
       let one = (each 0 (checker limiter p) s x q refl refl refl refl).1 in
-      let same = stays (checker limiter p) x q one in
-      let more = each_led ps ls xs qs (omega arith) (omega arith) (omega arith) (λ w p' s' x' q' e f g h. each (suc w) p' s' x' q' e f g h) in (
-        (subst (λ (l : LimiterView). Lead (ChecksBy cells) (checker limiter p) x (checker l q.pass)) same one, more.0),
-        (same, more.1),
-      )
+      let more = each_led ps ls xs qs (omega arith) (omega arith) (omega arith) (λ w p' s' x' q' e f g h. each (suc w) p' s' x' q' e f g h) in
+      ((led_on cells limiter p x q one, more.0), (stays cells limiter (checker limiter p) x q one, more.1))
 
   pub led : (before : List PassView) (after : List Checker) (services : List Service) (asked : List (List Asked))
       → AreServedBy (ChecksBy cells) (checkers limiter before) after services asked → Led before asked after
@@ -91,35 +84,22 @@ module _ (cells : ℕ) (limiter : LimiterView) where
         ap length is ∙ length-map after (λ (c : Checker). c.pass) ∙ served.served.as_many.0 ∙ length-map before (checker limiter)
 
     -- once the limiter is closed with them, the checks of all links are lawful
-    pub lawful : (config : List DomainTree) → All (λ (p : PassView). IsNewPass config 0 p) before → passes ≡ passes_in after → HasClosed cells limiter 0 passes
-        → AreLawfulChecks config limiter.global_shadow (all_asked served.asked)
-    lawful config fresh is closed =
-        closed.lawful config before served.asked fresh
-        (subst (λ (ps : List PassView). LeadEach cells limiter before served.asked ps) (sym is) (led before after services served.asked served.served).0)
-
-    pub lawful_alone : (config : List DomainTree) → All (λ (p : PassView). IsNewPass config 0 p) before → passes ≡ passes_in after → HasClosedVersions cells limiter 0 passes
-        → AreLawfulAlone cells limiter config 0 served.asked
-    lawful_alone config fresh is closed =
-        closed.alone config before served.asked fresh
-        (subst (λ (ps : List PassView). LeadEach cells limiter before served.asked ps) (sym is) (led before after services served.asked served.served).0)
+    pub closed : (config : List DomainTree) → All (λ (p : PassView). IsNewPass config 0 p) before → passes ≡ passes_in after → HasClosed cells limiter 0 passes
+        → HasClosedVersions cells limiter 0 passes → IsClosedAfter config 0 cells limiter served.asked
+    closed config fresh is checks versions =
+        closed_after cells limiter config 0 before served.asked passes fresh
+        (subst (λ (ps : List PassView). LeadEach cells limiter before served.asked ps) (sym is) (led before after services served.asked served.served).0) checks versions
 
 -- all that was served, by a limiter that was closed
 pub served_all : (config : List DomainTree) (setup : Setup) (old new : List ListenEvent) (services : List Service) (limiter : LimiterView)
-    (before : List PassView) (after : List Checker) (passes : List PassView) → limiter.passes ≡ setup.workers → limiter.claims_max ≡ SERVED_CLAIMS
-    → limiter.global_shadow ≡ setup.global_shadow → length before ≡ setup.workers → All (λ (p : PassView). IsNewPass config 0 p) before
+    (before : List PassView) (after : List Checker) (passes : List PassView) → IsMade config 0 setup.workers setup.global_shadow limiter before
     → AllServed (ChecksBy setup.cells) (checkers limiter before) after old new services true → passes ≡ passes_in after → HasClosed setup.cells limiter 0 passes
     → HasClosedVersions setup.cells limiter 0 passes → ServedByLimiter config setup old new services true
-served_all config setup old new services limiter before after passes many claims shadow as_many fresh served is closed versions = record {
+served_all config setup old new services limiter before after passes made served is checks versions = record {
   limiter = limiter;
-  passes = many;
-  claims = claims;
-  shadow = shadow;
   before = before;
-  as_many = as_many;
-  fresh = fresh;
+  made = made;
   after = after;
   served = served;
-  lawful = λ _. subst (λ (b : Bool). AreLawfulChecks config b (all_asked served.asked)) shadow
-      (lawful setup.cells limiter before after old new services served passes config fresh is closed);
-  alone = λ _. lawful_alone setup.cells limiter before after old new services served passes config fresh is versions;
+  closed = λ _. closed setup.cells limiter before after old new services served passes config made.fresh is checks versions;
 }

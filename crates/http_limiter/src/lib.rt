@@ -10,4 +10,4 @@
 mod limited;
 mod passes;
 
-pub use limited::{SERVED_CLAIMS, Setup, serve_limited};
+pub use limited::{Setup, serve_limited};

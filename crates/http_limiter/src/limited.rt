@@ -1,27 +1,22 @@
-ghost use Rattle.std.specs.Prelude.{◌≡◌, IfOk};
+ghost use Rattle.std.specs.Prelude.{◌≡◌};
 ghost use Rattle.std.specs.Arc.{arc_value};
 ghost use Rattle.descriptor_tree.specs.Views.{config_view};
 ghost use Rattle.counter_cells.specs.Opened.{table_of, setup_of};
-ghost use Rattle.http_serve.specs.Links.{IsUnused};
-ghost use Rattle.http_limiter.specs.Limited.{IsInRange, ServesLimited, ends_in};
+ghost use Rattle.http_serve.specs.Links.{IsUnused, ends_in};
+ghost use Rattle.http_limiter.specs.Limited.{IsInRange, ServesLimited};
 
 use crate::passes::{checks_of, passes_of};
-use counter_cells::{CellNaming, OpenedCells};
+use counter_cells::CellNaming;
 use descriptor_tree::Config;
-use http_checks::close_served;
+use http_checks::{LimiterParts, close_served};
 use http_endpoint::LinkEnd;
 use http_serve::{LinksFault, serve_links};
 use rate_io::Listen;
-use rate_limiter::{Limiter, Limits};
-use rate_types::{OutOfMemory, Seconds};
 use std::alloc::Global;
 use std::hash::RandomState;
 use std::marker::Brand;
-use std::sync::{Arc, Wait};
+use std::sync::Wait;
 use std::thread::Threads;
-
-/// How many counters are given cells, one after the other, before the program has to be started anew.
-pub const SERVED_CLAIMS: u64 = 16_777_216;
 
 /// What a limiter that serves links has.
 #[derive(Clone, Copy, Debug, PartialEq, Eq)]
@@ -34,39 +29,26 @@ pub struct Setup {
     pub global_shadow: bool,
 }
 
-// A configuration that a limiter's versions share.
-fn shared(alloc: Global, config: Config) -> Result<Arc<Config>, OutOfMemory>
-    ensures { IfOk result (λ c. arc_value c ≡ config) }
-{
-    let config = Arc::new(alloc, config)?;
-    Ok(config)
-}
-
-// Serves links by a limiter on these cells, and closes it after the last.
-fn serve_opened<N: CellNaming + Send + Sync, R: Threads + Wait + Sync, L: Listen>(
+// Serves links by the limiter that these parts make, and closes it after the last.
+fn serve_made<N: CellNaming + Send + Sync, R: Threads + Wait + Sync, L: Listen>(
     rt: &R,
     alloc: Global,
-    seed: RandomState,
-    config: Arc<Config>,
-    opened: OpenedCells,
+    parts: LimiterParts,
     setup: Setup,
     listen: &mut L,
     connections: u32,
 ) -> Result<Vec<LinkEnd>, LinksFault>
 where
     L::Link: Send,
-    requires name { (table_of opened ≡ N.table) × (setup_of opened ≡ N.setup) }
+    requires name { (table_of parts.opened ≡ N.table) × (setup_of parts.opened ≡ N.setup) }
     requires cells { N.setup ≡ record { cells = setup.cells; passes = setup.workers; start = 0 } }
+    requires shadow { parts.global_shadow ≡ setup.global_shadow }
     requires range { IsInRange setup connections }
     requires unused { IsUnused (L.history listen.old) }
-    ensures { ServesLimited (config_view (arc_value config)) setup connections (L.history listen.old)
+    ensures { ServesLimited (config_view (arc_value parts.config)) setup connections (L.history listen.old)
         (L.history listen.new) (L.faults listen.old, L.faults listen.new) (ends_in result) }
 {
-    let limits = Limits {
-        claims_max: SERVED_CLAIMS,
-        global_shadow: setup.global_shadow,
-    };
-    let (limiter, passes) = Limiter::<N>::make(alloc, config, opened, limits, seed)?;
+    let (limiter, passes) = parts.make::<N>(alloc)?;
     let checks = checks_of(alloc, &limiter, passes)?;
     let (checks, ends) = match serve_links(rt, alloc, checks, listen, connections) {
         Ok(served) => served,
@@ -80,7 +62,7 @@ where
 
 /// Serves so many links of a listener, each once, by a limiter of this configuration, which starts at moment 0 and is closed after the
 /// last link. Answers how each link ended. The listener has a port. A check is refused where its counters find no cells, or where
-/// [`SERVED_CLAIMS`] counters had cells before.
+/// [`SERVED_CLAIMS`](http_checks::SERVED_CLAIMS) counters had cells before.
 pub fn serve_limited<R: Threads + Wait + Sync, L: Listen>(
     rt: &R,
     alloc: Global,
@@ -97,7 +79,13 @@ where
     ensures { ServesLimited (config_view config) setup connections (L.history listen.old) (L.history listen.new)
         (L.faults listen.old, L.faults listen.new) (ends_in result) }
 {
-    let opened = OpenedCells::make(alloc, setup.cells, setup.workers, Seconds::capped(0))?;
-    let config = shared(alloc, config)?;
-    serve_opened::<Brand, R, L>(rt, alloc, seed, config, opened, setup, listen, connections)
+    let parts = LimiterParts::open(
+        alloc,
+        seed,
+        config,
+        setup.workers,
+        setup.cells,
+        setup.global_shadow,
+    )?;
+    serve_made::<Brand, R, L>(rt, alloc, parts, setup, listen, connections)
 }

@@ -1,6 +1,6 @@
 // From passes to checkers, and back.
 ghost use Rattle.std.specs.Prelude.{◌≡◌, All, IfOk, map};
-ghost use Rattle.http_limiter.specs.Limited.{checkers};
+ghost use Rattle.http_checks.specs.Made.{checkers};
 
 use counter_cells::CellNaming;
 use http_checks::PassChecks;

@@ -1,5 +1,5 @@
 -- The calls of a listener whose links are accepted and given back.
-use Rattle.std.proofs.Common.{◌≡◌, ℕ, zero, suc, ◌+◌, ◌≤◌, ◌==◌, List, [], ◌∷◌, ◌++◌, length, map, replicate, cond, Bool, true, false, refl, sym, ap, ◌∙◌, subst, arith}
+use Rattle.std.proofs.Common.{◌≡◌, ℕ, zero, suc, ◌+◌, ◌≤◌, ◌==◌, List, [], ◌∷◌, ◌++◌, length, map, replicate, cond, Bool, true, false, refl, sym, ap, ◌∙◌, subst, arith, append_assoc}
 use Rattle.std.proofs.Common.{length-append}
 use Rattle.std.proofs.lemmas.List.{map-append, append-nil}
 use Rattle.std.proofs.lemmas.List.Elements.{filter_map-append}
@@ -7,10 +7,11 @@ use Rattle.std.proofs.lemmas.List.Sums.{sum_by-append, sum_by-cons}
 use Rattle.std.specs.Prelude.{⊤}
 use Rattle.std.specs.List.{filter_map, count_by}
 use Rattle.rate_types.proofs.Sums.{cond_no}
-use Rattle.rate_io.specs.Events.{Grew}
+use Rattle.rate_io.specs.Events.{Event, Grew}
 use Rattle.rate_io.specs.Listeners.{ListenEvent, accepted, accept_failed, gave_back, is_accepted, accepted_count, number_back, IsOut}
+use Rattle.http_endpoint.specs.declared.link_end.LinkEnd.{LinkEnd}
 use Rattle.http_serve.specs.Service.{Service}
-use Rattle.http_serve.specs.Links.{AreNumbered, given_back, accepts}
+use Rattle.http_serve.specs.Links.{AreNumbered, given_back, accepts, ends_of}
 
 -- a history that grew, or stayed
 pub grown : (old new events : List ListenEvent) → new ≡ old ++ events → Grew old new (λ e. ⊤)
@@ -28,6 +29,24 @@ accept_push n = let e : n + 1 ≡ suc n = omega arith in ap (λ (k : ℕ). repli
 
 pub back_push : (ss : List Service) (s : Service) → given_back (ss ++ s ∷ []) ≡ given_back ss ++ gave_back s.number s.calls true ∷ []
 back_push ss s = map-append (λ (x : Service). gave_back x.number x.calls true) ss (s ∷ [])
+
+-- one more came back
+pub back_more : (old before after : List ListenEvent) (done : List Service) (s : Service) (number : ℕ) (calls : List Event) (link_end : LinkEnd) (is_shut : Bool)
+    → before ≡ old ++ given_back done → after ≡ before ++ gave_back number calls is_shut ∷ [] → is_shut ≡ true
+    → record { number = number; calls = calls; link_end = link_end } ≡ s → after ≡ old ++ given_back (done ++ s ∷ [])
+back_more old before after done s number calls link_end is_shut so event shut is =
+    event ∙ ap (λ (l : List ListenEvent). l ++ gave_back number calls is_shut ∷ []) so
+    ∙ append_assoc old (given_back done) (gave_back number calls is_shut ∷ [])
+    ∙ ap (λ (e : ListenEvent). old ++ (given_back done ++ e ∷ []))
+    (ap (λ (b : Bool). gave_back number calls b) shut ∙ ap (λ (x : Service). gave_back x.number x.calls true) is)
+    ∙ ap (λ (l : List ListenEvent). old ++ l) (sym (back_push done s))
+
+-- and its end was noted
+pub ends_more : (before after : List LinkEnd) (done : List Service) (s : Service) (link_end : LinkEnd) → before ≡ ends_of done → after ≡ before ++ link_end ∷ []
+    → link_end ≡ s.link_end → after ≡ ends_of (done ++ s ∷ [])
+ends_more before after done s link_end so pushed is =
+    pushed ∙ ap (λ (l : List LinkEnd). l ++ link_end ∷ []) so ∙ ap (λ (e : LinkEnd). ends_of done ++ e ∷ []) is
+    ∙ sym (map-append (λ (x : Service). x.link_end) done (s ∷ []))
 
 counted : (xs ys : List ListenEvent) → accepted_count (xs ++ ys) ≡ accepted_count xs + accepted_count ys
 counted xs ys = sum_by-append (λ (x : ListenEvent). cond (is_accepted x) 1 0) xs ys
@@ -96,7 +115,7 @@ number_at n [] ys s h = let is = h.0 in omega arith
 number_at n (x ∷ xs) ys s h = let r = number_at (n + 1) xs ys s h.1 in omega arith
 
 -- the next link is out
-pub is_out : (old : List ListenEvent) (done rest all : List Service) (s : Service) → filter_map number_back old ≡ [] → length all ≤ accepted_count old → AreNumbered 0 all
+is_out : (old : List ListenEvent) (done rest all : List Service) (s : Service) → filter_map number_back old ≡ [] → length all ≤ accepted_count old → AreNumbered 0 all
     → all ≡ done ++ s ∷ rest → IsOut (old ++ given_back done) s.number
 is_out old done rest all s none few numbered is =
     let h : AreNumbered 0 (done ++ s ∷ rest) = subst (AreNumbered 0) is numbered in
@@ -109,3 +128,9 @@ is_out old done rest all s none few numbered is =
       accepted = let a = counted old (given_back done) in let b = none_accepted done in omega arith;
       not_back = ap (count_by (λ n. n == s.number)) back ∙ none_of 0 done s.number (numbered_front 0 done (s ∷ rest) h) (omega arith);
     }
+
+pub next_out : (old before : List ListenEvent) (done rest all : List Service) (s : Service) (number : ℕ) → before ≡ old ++ given_back done → number ≡ s.number
+    → filter_map number_back old ≡ [] → length all ≤ accepted_count old → AreNumbered 0 all → all ≡ done ++ s ∷ rest → IsOut before number
+next_out old before done rest all s number so same none few numbered is =
+    subst (λ (h : List ListenEvent). IsOut h number) (sym so)
+    (subst (λ (n : ℕ). IsOut (old ++ given_back done) n) (sym same) (is_out old done rest all s none few numbered is))

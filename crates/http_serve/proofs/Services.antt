@@ -1,5 +1,5 @@
 -- Links that were served, with one link more.
-use Rattle.std.proofs.Common.{ℕ, List, [], ◌∷◌, ◌++◌, refl, sym, ap, ◌∙◌, subst, append_assoc}
+use Rattle.std.proofs.Common.{List, [], ◌∷◌, ◌++◌, refl, sym, ap, ◌∙◌, subst, append_assoc}
 use Rattle.std.proofs.lemmas.List.{append-nil}
 use Rattle.http_endpoint.specs.Answers.{CheckStep, Asked, Lead}
 use Rattle.http_serve.specs.Service.{Service, IsServed, AreServed}

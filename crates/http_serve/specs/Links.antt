@@ -38,6 +38,11 @@ HasHandled old new services is_all = new ≡ old ++ (accepts (length services) i
 abbrev pub ends_of : List Service → List LinkEnd
 ends_of services = map (λ s. s.link_end) services
 
+-- the same of an answer, as a list
+abbrev pub ends_in : {E A : Type 0} → Result (Vec LinkEnd A) E → Result (List LinkEnd) E
+ends_in (Ok ends) = Ok ends.items
+ends_in (Err e) = Err e
+
 -- the answer of serving links, as lists
 abbrev pub answer_of : {S E A : Type 0} → Result (Vec S A × Vec LinkEnd A) E → Result (List S × List LinkEnd) E
 answer_of (Ok r) = Ok (r.0.items, r.1.items)

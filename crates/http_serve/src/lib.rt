@@ -19,4 +19,5 @@ mod serving;
 mod worker;
 
 pub use links::{LinksFault, serve_links};
+pub use merging::filled;
 pub use served::{Fresh, Served};

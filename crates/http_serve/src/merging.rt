@@ -33,18 +33,15 @@ fn put<N: Link + Drop>(places: &mut Vec<Option<Served<N>>>, list: Items<Served<N
     }
 }
 
-// The links, where there is one at each place.
-fn filled<N: Link + Drop>(
-    alloc: Global,
-    places: Vec<Option<Served<N>>>,
-) -> Result<Vec<Served<N>>, OutOfMemory>
+/// What is at the places, where there is something at each.
+pub fn filled<T: Drop>(alloc: Global, places: Vec<Option<T>>) -> Result<Vec<T>, OutOfMemory>
     requires { AllByRecursion (λ p. IsSome p) places.items }
     ensures { IfOk result (λ r. map Some r.items ≡ places.items) }
 {
     let mut all = Vec::with_capacity(alloc, places.len())?;
     for place in places {
-        let Some(served) = place else { unreachable!() };
-        all.push_reserved(served);
+        let Some(one) = place else { unreachable!() };
+        all.push_reserved(one);
     }
     Ok(all)
 }

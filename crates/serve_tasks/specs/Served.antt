@@ -1,5 +1,5 @@
 -- What serving the links of a listener on one thread comes to.
-use Rattle.std.specs.Prelude.{◌≡◌, ℕ, ◌<◌, ◌⊎◌, List, length, Bool, true, false, Vec, Result, Ok, Err, ⊤}
+use Rattle.std.specs.Prelude.{◌≡◌, ℕ, ◌<◌, ◌⊎◌, List, length, Bool, true, false, Result, Ok, Err, ⊤}
 use Rattle.rate_io.specs.Causes.{Rose}
 use Rattle.rate_io.specs.Events.{Grew}
 use Rattle.rate_io.specs.Listeners.{ListenEvent}
@@ -10,11 +10,6 @@ use Rattle.http_serve.specs.Links.{AreNumbered, HasHandled, ends_of}
 use Rattle.http_serve.specs.declared.links.LinksFault.{LinksFault}
 use Rattle.http_serve.specs.declared.links.LinksFault.TheVariants.{Listen, OutOfMemory}
 use Rattle.serve_tasks.specs.Service.{AreTasksServed}
-
--- the ends, as a list
-abbrev pub ends_in : {E A : Type 0} → Result (Vec LinkEnd A) E → Result (List LinkEnd) E
-ends_in (Ok ends) = Ok ends.items
-ends_in (Err e) = Err e
 
 module _ {S : Type 0} (answers : CheckStep S) where
   -- so many links, numbered from 0, were accepted, served by one checker and given back, each once

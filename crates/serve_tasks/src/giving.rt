@@ -1,31 +1,15 @@
 // Links that are done.
-ghost use Rattle.std.specs.Prelude.{⊤, ◌≡◌, ◌≤◌, ◌++◌, [], IfOk, IsSome, Some, map, vec_len};
-ghost use Rattle.std.specs.List.{AllByRecursion, filter_map};
+ghost use Rattle.std.specs.Prelude.{⊤, ◌≡◌, ◌≤◌, ◌++◌, [], IfOk, vec_len};
+ghost use Rattle.std.specs.List.{filter_map};
 ghost use Rattle.rate_io.specs.Events.{Grew};
 ghost use Rattle.rate_io.specs.Listeners.{accepted_count, number_back};
 ghost use Rattle.http_serve.specs.Links.{AreNumbered, given_back, ends_of};
 
 use crate::running::ServedTask;
-use conn_tasks::{PollLink, PollListen};
+use conn_tasks::PollListen;
 use http_endpoint::LinkEnd;
 use rate_types::OutOfMemory;
 use std::alloc::Global;
-
-/// The links, where each was served.
-pub fn all_served<N: PollLink + Drop>(
-    alloc: Global,
-    places: Vec<Option<ServedTask<N>>>,
-) -> Result<Vec<ServedTask<N>>, OutOfMemory>
-    requires { AllByRecursion (λ p. IsSome p) places.items }
-    ensures { IfOk result (λ r. map Some r.items ≡ places.items) }
-{
-    let mut all = Vec::with_capacity(alloc, places.len())?;
-    for place in places {
-        let Some(served) = place else { unreachable!() };
-        all.push_reserved(served);
-    }
-    Ok(all)
-}
 
 /// Gives back each link in order, and answers how each ended.
 #[tactic(auto, using(crate::proofs::Calls::grown, crate::proofs::Calls::stayed))]

@@ -1,14 +1,14 @@
 ghost use Rattle.std.specs.Prelude.{◌≤◌};
 ghost use Rattle.rate_types.specs.declared.limits.TheConstants.{MOST_CONNECTIONS};
-ghost use Rattle.http_serve.specs.Links.{IsUnused};
-ghost use Rattle.serve_tasks.specs.Served.{ServesTasks, ends_in};
+ghost use Rattle.http_serve.specs.Links.{IsUnused, ends_in};
+ghost use Rattle.serve_tasks.specs.Served.{ServesTasks};
 
-use crate::giving::{all_served, give_back};
+use crate::giving::give_back;
 use crate::numbers::no_links;
 use crate::rounds::serve_rounds;
 use conn_tasks::PollListen;
 use http_endpoint::{Checks, LinkEnd};
-use http_serve::LinksFault;
+use http_serve::{LinksFault, filled};
 use std::alloc::Global;
 use std::sync::Wait;
 
@@ -30,7 +30,7 @@ pub fn serve_tasks<R: Wait, Q: PollListen, K: Checks>(
 {
     let mut links = no_links(alloc);
     let is_all = serve_rounds(rt, alloc, checks, polls, &mut links, connections, tasks)?;
-    let served = all_served(alloc, links.served)?;
+    let served = filled(alloc, links.served)?;
     let Ok(ends) = give_back(alloc, polls, served) else {
         return Err(LinksFault::OutOfMemory);
     };

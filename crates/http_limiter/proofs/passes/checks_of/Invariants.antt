@@ -1,5 +1,5 @@
 use Rattle.std.proofs.Common.{◌≡◌, ◌≤◌, ◌+◌, ◌++◌, length, vec_len, vec_capacity}
-use Rattle.http_limiter.specs.Limited.{checkers}
+use Rattle.http_checks.specs.Made.{checkers}
 use Rattle.http_limiter.proofs.passes.checks_of.Given as goal
 
 abbrev pub invariant-loop-pass : goal.invariant-loop-pass

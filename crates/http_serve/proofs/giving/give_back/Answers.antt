@@ -1,9 +1,8 @@
-use Rattle.std.proofs.Common.{◌≡◌, ◌++◌, ◌∷◌, [], length, true, sym, ap, ◌∙◌, subst, arith, rules, append_assoc}
-use Rattle.std.proofs.lemmas.List.{append-nil, nil_from_length, map-append}
-use Rattle.rate_io.specs.Listeners.{ListenEvent, gave_back, IsOut}
+use Rattle.std.proofs.Common.{◌≡◌, ◌++◌, ◌∷◌, [], length, sym, ap, ◌∙◌, arith, rules, append_assoc}
+use Rattle.std.proofs.lemmas.List.{append-nil, nil_from_length}
 use Rattle.http_serve.specs.Service.{Service}
 use Rattle.http_serve.specs.Links.{given_back, ends_of}
-use Rattle.http_serve.proofs.Events.{back_push, is_out}
+use Rattle.http_serve.proofs.Events.{next_out, back_more, ends_more}
 use Rattle.http_serve.proofs.giving.give_back.Goals as goal
 
 pub give_back-requires : goal.give_back-requires
@@ -13,27 +12,21 @@ give_back-requires g c =
     let all : c.args.served.items ≡ c.loop-one.yielded ++ s ∷ c.next.new.self.rest.items = sym i.whole ∙ ap (λ l. c.loop-one.yielded ++ l) c.in-Some.ensures.steps.0 in
     let few = c.requires.accepted in
     let len = c.args.served.ok.0 in
-    let out = is_out (g.L.Listen.history c.args.listen.now) c.loop-one.yielded c.next.new.self.rest.items c.args.served.items s c.requires.none_back (omega arith)
-    c.requires.numbered all in
-    subst (λ h. IsOut h c.one.inside.number) (sym i.events)
-    (subst (λ n. IsOut (g.L.Listen.history c.args.listen.now ++ given_back c.loop-one.yielded) n) (sym (ap (λ x. x.number) c.one.view_is)) out)
+    next_out (g.L.Listen.history c.args.listen.now) (g.L.Listen.history c.loop-one.listen) c.loop-one.yielded c.next.new.self.rest.items c.args.served.items s c.one.inside.number i.events
+    (ap (λ (x : Service). x.number) c.one.view_is) c.requires.none_back (omega arith) c.requires.numbered all
 
 pub loop-one-preserved : goal.loop-one-preserved
 loop-one-preserved g c =
     let i = c.loop-one.invariant in
     let s = c.in-Some.one in
     let state = g.L.Link.Link.state c.one.inside.link in
-    let event : gave_back c.one.inside.number state.history state.is_shut ≡ gave_back s.number s.calls true =
-    ap (λ b. gave_back c.one.inside.number state.history b) c.one.invariant ∙ ap (λ (x : Service). gave_back x.number x.calls true) c.one.view_is in
     record {
       whole = append_assoc c.loop-one.yielded (s ∷ []) c.next.new.self.rest.items ∙ ap (λ l. c.loop-one.yielded ++ l) (sym c.in-Some.ensures.steps.0) ∙ i.whole;
       room = let room = i.room in let rest = ap length c.in-Some.ensures.steps.0 in search rules;
-      ends = c.push_reserved.ensures.items ∙ ap (λ l. l ++ c.one.inside.link_end ∷ []) i.ends ∙ ap (λ e. ends_of c.loop-one.yielded ++ e ∷ []) (ap (λ x. x.link_end) c.one.view_is)
-          ∙ sym (map-append (λ (x : Service). x.link_end) c.loop-one.yielded (s ∷ []));
-      events = c.give_back.ensures.event ∙ ap (λ l. l ++ gave_back c.one.inside.number state.history state.is_shut ∷ []) i.events
-          ∙ append_assoc (g.L.Listen.history c.args.listen.now) (given_back c.loop-one.yielded) (gave_back c.one.inside.number state.history state.is_shut ∷ [])
-          ∙ ap (λ (e : ListenEvent). g.L.Listen.history c.args.listen.now ++ (given_back c.loop-one.yielded ++ e ∷ [])) event
-          ∙ ap (λ l. g.L.Listen.history c.args.listen.now ++ l) (sym (back_push c.loop-one.yielded s));
+      ends = ends_more c.loop-one.ends.items c.push_reserved.new.self.items c.loop-one.yielded s c.one.inside.link_end i.ends c.push_reserved.ensures.items
+          (ap (λ (x : Service). x.link_end) c.one.view_is);
+      events = back_more (g.L.Listen.history c.args.listen.now) (g.L.Listen.history c.loop-one.listen) (g.L.Listen.history c.give_back.new.self) c.loop-one.yielded s c.one.inside.number state.history
+          c.one.inside.link_end state.is_shut i.events c.give_back.ensures.event c.one.invariant c.one.view_is;
       faults = c.give_back.ensures.faults ∙ i.faults;
     }
 

@@ -10,8 +10,8 @@ use Rattle.serve_tasks.proofs.Standings.{none_stand}
 use Rattle.serve_tasks.proofs.Ends.{each_served, tasks_served, from_none, rounds_done, handled_all}
 use Rattle.serve_tasks.proofs.serving.serve_tasks.Goals as goal
 
-pub all_served-requires : goal.all_served-requires
-all_served-requires g c =
+pub filled-requires : goal.filled-requires
+filled-requires g c =
     let Q = g.Q.PollListen in
     let l = c.serve_rounds.new.links in
     let e = c.in_ok-is_all.ensures in
