@@ -34,7 +34,7 @@ pub nothing_plus : (x : RuleNumbers) → plus nothing x ≡ x
 nothing_plus x =
     rw (none_first x.total, none_first x.within, none_first x.near, none_first x.over, none_first x.seen, none_first x.shadow) refl
 
-plus_in_turn : (x y z : RuleNumbers) → plus x (plus y z) ≡ plus (plus x y) z
+pub plus_in_turn : (x y z : RuleNumbers) → plus x (plus y z) ≡ plus (plus x y) z
 plus_in_turn x y z =
     rw (
       in_turn x.total y.total z.total,
@@ -61,7 +61,7 @@ sums_free ns n none versions are version rule = are version rule
     ∙ plus_nothing (sums version rule ns))
 
 -- hits that pass a test are hits
-hits_few : (test : ℕ → Bool) (before hits : ℕ) → hits_where test before hits ≤ hits
+pub hits_few : (test : ℕ → Bool) (before hits : ℕ) → hits_where test before hits ≤ hits
 hits_few test before zero = omega arith
 hits_few test before (suc hits) = by (hits_few test before hits) (test (before + suc hits))
   where
@@ -69,7 +69,7 @@ hits_few test before (suc hits) = by (hits_few test before hits) (test (before +
     by few true = omega (arith, few)
     by few false = omega (arith, few)
 
-pass_few : (c : Code) (over : ℕ) → let_pass c over ≤ over
+pub pass_few : (c : Code) (over : ℕ) → let_pass c over ≤ over
 pass_few code.Ok over = omega arith
 pass_few OverLimit over = omega arith
 

@@ -1,0 +1,9 @@
+pub mod Rule
+pub mod Words
+pub mod Noted
+pub mod Reading
+pub mod Text
+pub mod Adding
+pub mod Looking
+pub mod Passes
+pub mod Joins
