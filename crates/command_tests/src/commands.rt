@@ -11,12 +11,12 @@ mod serve;
 mod side_by_side;
 mod workers;
 
-ghost use Rattle.std.specs.Prelude.{◌≡◌, []};
+ghost use Rattle.std.specs.Prelude.{◌≡◌, [], IfOk};
 
 use cli_exits::Exit;
 use rate_io::{Listen, MemFile, MemFiles, MemListen, MemSink, MemSource};
 use rate_types::{Blob, Names, Word};
-use ratelimit_cli::ratelimit;
+use ratelimit_cli::{Outside, ratelimit};
 use std::alloc::Global;
 use std::hash::RandomState;
 use std::random::RandomSource;
@@ -159,17 +159,9 @@ fn said_to<R: Threads + Wait + RandomSource + Sync, G: Gate>(
     failing: Failing,
     gate: &G,
 ) -> Result<String, Fail> {
-    let mut listen = MemListen::new(alloc, Vec::new(alloc), Vec::new(alloc))?;
-    said_over(
-        rt,
-        alloc,
-        words,
-        contents,
-        script,
-        failing,
-        &mut listen,
-        gate,
-    )
+    let listen = MemListen::new(alloc, Vec::new(alloc), Vec::new(alloc))?;
+    let mut outside = outside_of(alloc, contents, script, failing, listen)?;
+    said_over(rt, alloc, words, &mut outside, gate)
 }
 
 fn names_of(alloc: Global, words: &[&str]) -> Result<Names, Fail> {
@@ -209,38 +201,43 @@ fn exit_and_output(alloc: Global, exit: &Exit, written: &[u8]) -> Result<String,
     Ok(text)
 }
 
-// The same over a listener, where the clock says 65.
+// What is outside in memory, over a listener.
+type Memory<L> = Outside<MemFiles, MemSource, MemSink, L>;
+
+// Files with the names a, b and c and these contents, this script and this listener, of whose calls some fail.
+fn outside_of<L: Drop>(
+    alloc: Global,
+    contents: &[&str],
+    script: &str,
+    failing: Failing,
+    listen: L,
+) -> Result<Memory<L>, Fail>
+    ensures { IfOk result (λ o. o.listen ≡ listen) }
+{
+    Ok(Outside {
+        files: files_of(alloc, contents, failing.file)?,
+        source: source_of(alloc, script, failing.read)?,
+        sink: sink_of(alloc, failing.write)?,
+        listen,
+    })
+}
+
+// The exit and then the output of a run of these words over what is outside, where the clock says 65.
 fn said_over<R: Threads + Wait + RandomSource + Sync, L: Listen, G: Gate>(
     rt: &R,
     alloc: Global,
     words: &[&str],
-    contents: &[&str],
-    script: &str,
-    failing: Failing,
-    listen: &mut L,
+    outside: &mut Memory<L>,
     gate: &G,
 ) -> Result<String, Fail>
 where
     L::Link: Send,
-    requires { L.history listen.old ≡ [] }
+    requires { L.history outside.old.listen ≡ [] }
 {
     let seed = RandomState::new(rt)?;
     let names = names_of(alloc, words)?;
-    let mut files = files_of(alloc, contents, failing.file)?;
-    let mut source = source_of(alloc, script, failing.read)?;
-    let mut sink = sink_of(alloc, failing.write)?;
-    let exit = ratelimit(
-        rt,
-        alloc,
-        seed,
-        &names,
-        &mut files,
-        &mut source,
-        &mut sink,
-        listen,
-        gate,
-    );
-    exit_and_output(alloc, &exit, sink.bytes())
+    let exit = ratelimit(rt, alloc, seed, &names, outside, gate);
+    exit_and_output(alloc, &exit, outside.sink.bytes())
 }
 
 #[test]

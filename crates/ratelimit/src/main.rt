@@ -9,7 +9,7 @@ ghost use Rattle.cli_exits.specs.Reports.{status_of};
 use cli_exits::Exit;
 use rate_io::{HostFiles, ReaderSource, StreamListen, WriterSink};
 use rate_types::{Names, Word};
-use ratelimit_cli::ratelimit;
+use ratelimit_cli::{Outside, ratelimit};
 use std::alloc::Global;
 use std::hash::RandomState;
 use std::io::BufWriter;
@@ -38,22 +38,14 @@ fn run<R: Threads + Wait + Sync>(
     seed: RandomState,
 ) -> io::Result<Exit> {
     let words = words_of(rt, alloc)?;
-    let mut files = HostFiles::new(rt.clone()?);
-    let mut source = ReaderSource::new(rt.stdin());
     let stdout = BufWriter::with_capacity(alloc, MOST_WAITING, rt.stdout())?;
-    let mut sink = WriterSink::new(stdout);
-    let mut listen = StreamListen::new(rt.clone()?);
-    Ok(ratelimit(
-        threads,
-        alloc,
-        seed,
-        &words,
-        &mut files,
-        &mut source,
-        &mut sink,
-        &mut listen,
-        &Open,
-    ))
+    let mut outside = Outside {
+        files: HostFiles::new(rt.clone()?),
+        source: ReaderSource::new(rt.stdin()),
+        sink: WriterSink::new(stdout),
+        listen: StreamListen::new(rt.clone()?),
+    };
+    Ok(ratelimit(threads, alloc, seed, &words, &mut outside, &Open))
 }
 
 // The exit where the words couldn't be had: there was no memory for them, or one of them isn't UTF-8.

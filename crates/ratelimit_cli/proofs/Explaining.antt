@@ -1,5 +1,5 @@
 -- From what the parts of the top call answer to what its exit says.
-use Rattle.std.proofs.Common.{◌≡◌, ℕ, List, ◌∷◌, map, Some, Result, Ok, inl, inr, refl, subst, sym, ◌∙◌}
+use Rattle.std.proofs.Common.{◌≡◌, ℕ, List, map, Some, Result, Ok, inl, inr, refl, subst, sym, ◌∙◌}
 use Rattle.rate_types.specs.declared.limits.TheConstants.{MOST_BYTES}
 use Rattle.rate_types.specs.declared.refused.At.{At}
 use Rattle.descriptor_tree.specs.Trees.{DomainTree}
@@ -7,16 +7,11 @@ use Rattle.rate_io.specs.Events.{given}
 use Rattle.command_words.specs.Words.{command_of}
 use Rattle.cli_exits.specs.Jobs.{asked, files_of, configs_among, ReadsConfigs}
 use Rattle.ratelimit_cli.specs.Parts.{command_with, IsOfWork}
-use Rattle.cli_exits.specs.World.{World, AreFilesOf, NothingRead, NothingWritten}
+use Rattle.cli_exits.specs.World.{World, NothingRead, NothingWritten}
 use Rattle.cli_exits.specs.Configured.{FilesSay, HasRead}
-use Rattle.cli_quota.specs.Replayed.{QuotaSays}
 use Rattle.ratelimit_cli.specs.Exits.{IsOutput, Explains}
 use Rattle.cli_exits.specs.Parts.{IsOfFiles, IsOfConfig, IsOfInput, IsOfOutput, Sinks}
-use Rattle.cli_quota.specs.Parts.{IsOfReplay, Replays}
-use Rattle.cli_quota.proofs.Allowing.{allowances_kept}
 use Rattle.command_words.specs.declared.command.Command.{Command}
-use Rattle.command_words.specs.declared.command.Command.TheVariants.{Quota}
-use Rattle.command_words.specs.declared.command.QuotaJob.{QuotaJob}
 use Rattle.ratelimit_cli.specs.declared.work.Work.{Work}
 use Rattle.ratelimit_cli.specs.declared.work.Work.TheVariants.{Lookup, Drive}
 use Rattle.cli_exits.specs.declared.exit.Exit.{Exit}
@@ -82,7 +77,7 @@ module _ (w : World) (command : Command) (config : List DomainTree) (say : Files
   explain_input none (SettingsRefused refused) h = absurd h
   explain_input none (FileFault index) h = absurd h
 
-abbrev pub sinks : World → Sinks
+abbrev sinks : World → Sinks
 sinks w = record { written = w.written; after = w.after; faults = w.sink_faults }
 
 -- pieces of which this holds are the output of the command that the words name
@@ -117,31 +112,3 @@ made_output w configs (Drive setup stats) config bytes read are pieces made = re
   read = read;
   made = subst (λ (b : List ℕ). IsOfWork (Drive setup stats) config b pieces) (sym are) made;
 }
-
--- `quota` read its settings file and its streams
-module _ (w : World) (job : QuotaJob) (is : command_of w.words ≡ Some (Quota job)) (file : List ℕ) (streams : List (List ℕ))
-    (contents : AreFilesOf w.content (files_of (Quota job)) w.files (file ∷ streams)) (unread : NothingRead w) where
-  pub explain_replay : NothingWritten w → (e : Exit) → IsOfReplay file streams e → Explains e w
-  explain_replay none TooLong h =
-      let says : QuotaSays w job (Ok (Some h.0)) = record { named = is; file = file; streams = streams; contents = contents; spells = h.1 } in
-      (inl (inr (inl (job, (h.0, (says, h.2)))), unread), none)
-  explain_replay none (SettingsRefused refused) h =
-      (inl (job, record { named = is; file = file; streams = streams; contents = contents; spells = h }), unread, none)
-  explain_replay none OutOfMemory h = (inl (Quota job, is), none)
-  explain_replay none Done h = absurd h
-  explain_replay none Usage h = absurd h
-  explain_replay none (ConfigRefused at) h = absurd h
-  explain_replay none ReadFault h = absurd h
-  explain_replay none ListenFault h = absurd h
-  explain_replay none WriteFault h = absurd h
-  explain_replay none (FileFault index) h = absurd h
-
-  pub replay_output : (pieces : List (List ℕ)) → Replays file streams pieces → IsOutput w (Quota job) pieces
-  replay_output pieces h = record {
-    settings = h.settings;
-    says = record { named = is; file = file; streams = streams; contents = contents; spells = h.spells };
-    short = h.short;
-    unread = unread;
-    replayed = h.replayed;
-    allowances = allowances_kept h.settings 0 streams;
-  }

@@ -1,5 +1,6 @@
 pub mod Explaining
+pub mod Steps
+pub mod Replaying
 pub mod Pooling
 pub mod Audits
 mod Completing
-pub mod Listening

@@ -1,3 +1,4 @@
 pub mod Made
 pub mod Exits
+pub mod Outside
 pub mod Parts

@@ -10,10 +10,12 @@
 #![tactic(auto)]
 
 mod auditing;
+mod outside;
 mod pool;
 mod quota;
 mod serve;
 mod top;
 mod work;
 
+pub use outside::Outside;
 pub use top::ratelimit;

@@ -1,15 +1,15 @@
 // `pool`: recorded reports of clients, answered by pools of quota.
-ghost use Rattle.std.specs.Prelude.{◌≡◌, ℕ, List, ◌∷◌, [], Option, Some, length, IfOk};
-ghost use Rattle.rate_io.specs.Events.{Continues, since};
+ghost use Rattle.std.specs.Prelude.{◌≡◌, ◌∷◌, [], length, IfOk};
 ghost use Rattle.cli_exits.specs.World.{exit_of};
-ghost use Rattle.ratelimit_cli.specs.Exits.{Explains};
-ghost use Rattle.command_words.specs.Words.{command_of};
+ghost use Rattle.ratelimit_cli.specs.Outside.{IsLater};
+ghost use Rattle.ratelimit_cli.specs.Parts.{ExplainsCommand};
 ghost use Rattle.command_words.specs.declared.command.Command.TheVariants.{Pool};
 
+use crate::Outside;
 use cli_exits::{Exit, read_files};
 use cli_quota::{answered, write_answers};
 use command_words::PoolJob;
-use rate_io::{Files, Sink};
+use rate_io::{Files, Listen, Sink, Source};
 use rate_types::{Blob, Blobs, Names, OutOfMemory};
 use std::alloc::Global;
 use std::hash::RandomState;
@@ -38,35 +38,19 @@ fn both_of(files: Blobs) -> (Blob, Blob)
 
 /// Answers the events of a job by its pools, writes a line for each of their lines, each by one call, and then flushes. Both files
 /// are read and all answers made first.
-pub fn run_pool<F: Files, K: Sink>(
+pub fn run_pool<F: Files, S: Source, K: Sink, L: Listen>(
     alloc: Global,
     seed: &RandomState,
     job: PoolJob,
-    files: &mut F,
-    sink: &mut K,
+    outside: &mut Outside<F, S, K, L>,
 ) -> Result<(), Exit>
-    ensures exit { (words : List (List ℕ)) (faults : ℕ × ℕ) (left : Option (List ℕ)) → command_of words ≡ Some (Pool job)
-        → Explains (exit_of result) (record {
-          words = words;
-          files = since (F.history files.old) (F.history files.new);
-          reads = [];
-          writes = since (K.history sink.old) (K.history sink.new);
-          file_faults = (F.faults files.old, F.faults files.new);
-          source_faults = faults;
-          sink_faults = (K.faults sink.old, K.faults sink.new);
-          content = F.content files.old;
-          left = left;
-          rest = left;
-          written = K.written sink.old;
-          after = K.written sink.new;
-        }) }
-    ensures files { Continues (F.history files.old) (F.history files.new) }
-    ensures sink { Continues (K.history sink.old) (K.history sink.new) }
+    ensures exit { ExplainsCommand F.Files S.Source K.Sink L.Listen (Pool job) (exit_of result) outside.old outside.new }
+    ensures later { IsLater F.Files S.Source K.Sink L.Listen outside.old outside.new }
 {
     let Ok(names) = file_names(alloc, job) else {
         return Err(Exit::OutOfMemory);
     };
-    let blobs = match read_files(alloc, files, names.items()) {
+    let blobs = match read_files(alloc, &mut outside.files, names.items()) {
         Ok(blobs) => blobs,
         Err(exit) => return Err(exit),
     };
@@ -75,5 +59,5 @@ pub fn run_pool<F: Files, K: Sink>(
         Ok(lines) => lines,
         Err(exit) => return Err(exit),
     };
-    write_answers(&lines, sink)
+    write_answers(&lines, &mut outside.sink)
 }

@@ -1,15 +1,15 @@
 // `quota`: recorded streams replayed by a settings file.
-ghost use Rattle.std.specs.Prelude.{◌≡◌, ℕ, ◌<◌, List, ◌∷◌, [], Option, Some, length, IfOk};
-ghost use Rattle.rate_io.specs.Events.{Continues, since};
+ghost use Rattle.std.specs.Prelude.{◌≡◌, ◌<◌, ◌∷◌, length, IfOk};
 ghost use Rattle.cli_exits.specs.World.{exit_of};
-ghost use Rattle.ratelimit_cli.specs.Exits.{Explains};
-ghost use Rattle.command_words.specs.Words.{command_of};
+ghost use Rattle.ratelimit_cli.specs.Outside.{IsLater};
+ghost use Rattle.ratelimit_cli.specs.Parts.{ExplainsCommand};
 ghost use Rattle.command_words.specs.declared.command.Command.TheVariants.{Quota};
 
+use crate::Outside;
 use cli_exits::{Exit, read_files};
 use cli_quota::{replayed, write_texts};
 use command_words::QuotaJob;
-use rate_io::{Files, Sink};
+use rate_io::{Files, Listen, Sink, Source};
 use rate_types::{Blob, Blobs, Names, OutOfMemory, Word};
 use std::alloc::Global;
 use std::hash::RandomState;
@@ -36,31 +36,15 @@ fn first_of(files: Blobs) -> (Blob, Blobs)
 
 /// Replays the streams of a job by its settings file, and writes the output of each in the order of the streams, line by
 /// line, each line by one call, and then flushes. All files are read first. The hashes of buckets' names go by `seed`.
-pub fn run_quota<R: Threads + Sync, F: Files, K: Sink>(
+pub fn run_quota<R: Threads + Sync, F: Files, S: Source, K: Sink, L: Listen>(
     rt: &R,
     alloc: Global,
     seed: RandomState,
     job: QuotaJob,
-    files: &mut F,
-    sink: &mut K,
+    outside: &mut Outside<F, S, K, L>,
 ) -> Result<(), Exit>
-    ensures exit { (words : List (List ℕ)) (faults : ℕ × ℕ) (left : Option (List ℕ)) → command_of words ≡ Some (Quota job)
-        → Explains (exit_of result) (record {
-          words = words;
-          files = since (F.history files.old) (F.history files.new);
-          reads = [];
-          writes = since (K.history sink.old) (K.history sink.new);
-          file_faults = (F.faults files.old, F.faults files.new);
-          source_faults = faults;
-          sink_faults = (K.faults sink.old, K.faults sink.new);
-          content = F.content files.old;
-          left = left;
-          rest = left;
-          written = K.written sink.old;
-          after = K.written sink.new;
-        }) }
-    ensures files { Continues (F.history files.old) (F.history files.new) }
-    ensures sink { Continues (K.history sink.old) (K.history sink.new) }
+    ensures exit { ExplainsCommand F.Files S.Source K.Sink L.Listen (Quota job) (exit_of result) outside.old outside.new }
+    ensures later { IsLater F.Files S.Source K.Sink L.Listen outside.old outside.new }
 {
     let QuotaJob {
         settings,
@@ -70,7 +54,7 @@ pub fn run_quota<R: Threads + Sync, F: Files, K: Sink>(
     let Ok(names) = file_names(settings, streams) else {
         return Err(Exit::OutOfMemory);
     };
-    let blobs = match read_files(alloc, files, names.items()) {
+    let blobs = match read_files(alloc, &mut outside.files, names.items()) {
         Ok(blobs) => blobs,
         Err(exit) => return Err(exit),
     };
@@ -79,5 +63,5 @@ pub fn run_quota<R: Threads + Sync, F: Files, K: Sink>(
         Ok(texts) => texts,
         Err(exit) => return Err(exit),
     };
-    write_texts(&texts, sink)
+    write_texts(&texts, &mut outside.sink)
 }

@@ -1,15 +1,16 @@
-ghost use Rattle.std.specs.Prelude.{◌≡◌, ◌≤◌, List, ℕ, Some, length};
+ghost use Rattle.std.specs.Prelude.{◌≡◌, ◌≤◌, length};
 ghost use Rattle.rate_types.specs.declared.limits.TheConstants.{MOST_CELLS, MOST_LINES, MOST_WORKERS};
-ghost use Rattle.rate_io.specs.Events.{Continues, Grew, since};
+ghost use Rattle.rate_io.specs.Events.{Grew};
 ghost use Rattle.descriptor_tree.specs.Views.{config_view};
 ghost use Rattle.http_serve.specs.Links.{IsUnused};
 ghost use Rattle.text_lines.specs.Lines.{cut};
 ghost use Rattle.cli_exits.specs.World.{exit_of};
-ghost use Rattle.ratelimit_cli.specs.Exits.{Explains, ExplainsCall, IsExitOf};
-ghost use Rattle.ratelimit_cli.specs.Parts.{command_with, IsOfWork};
-ghost use Rattle.command_words.specs.Words.{command_of};
+ghost use Rattle.ratelimit_cli.specs.Exits.{ExplainsCall, IsExitOf};
+ghost use Rattle.ratelimit_cli.specs.Outside.{world_between, listening_between, IsLater};
+ghost use Rattle.ratelimit_cli.specs.Parts.{command_with, ExplainsCommand, IsOfWork};
 ghost use Rattle.cli_exits.specs.Parts.{IsOfOutput};
 
+use crate::Outside;
 use crate::auditing::audit_files;
 use crate::pool::run_pool;
 use crate::quota::run_quota;
@@ -55,36 +56,18 @@ fn make_and_write<R: Threads + Wait + Sync, K: Sink, G: Gate>(
 }
 
 // Does this work by the configuration files of these names: the steps in their order, up to the first that fails.
-fn run_work<R: Threads + Wait + Sync, F: Files, S: Source, K: Sink, G: Gate>(
+fn run_work<R: Threads + Wait + Sync, F: Files, S: Source, K: Sink, L: Listen, G: Gate>(
     rt: &R,
     alloc: Global,
     configs: &Names,
     work: Work,
-    files: &mut F,
-    source: &mut S,
-    sink: &mut K,
+    outside: &mut Outside<F, S, K, L>,
     gate: &G,
 ) -> Result<(), Exit>
-    ensures exit { (words : List (List ℕ)) → command_of words ≡ Some (command_with configs.now work)
-        → Explains (exit_of result) (record {
-          words = words;
-          files = since (F.history files.old) (F.history files.new);
-          reads = since (S.history source.old) (S.history source.new);
-          writes = since (K.history sink.old) (K.history sink.new);
-          file_faults = (F.faults files.old, F.faults files.new);
-          source_faults = (S.faults source.old, S.faults source.new);
-          sink_faults = (K.faults sink.old, K.faults sink.new);
-          content = F.content files.old;
-          left = S.left source.old;
-          rest = S.left source.new;
-          written = K.written sink.old;
-          after = K.written sink.new;
-        }) }
-    ensures files { Continues (F.history files.old) (F.history files.new) }
-    ensures source { Continues (S.history source.old) (S.history source.new) }
-    ensures sink { Continues (K.history sink.old) (K.history sink.new) }
+    ensures exit { ExplainsCommand F.Files S.Source K.Sink L.Listen (command_with configs.now work) (exit_of result) outside.old outside.new }
+    ensures later { IsLater F.Files S.Source K.Sink L.Listen outside.old outside.new }
 {
-    let blobs = match read_files(alloc, files, configs.items()) {
+    let blobs = match read_files(alloc, &mut outside.files, configs.items()) {
         Ok(blobs) => blobs,
         Err(exit) => return Err(exit),
     };
@@ -92,11 +75,11 @@ fn run_work<R: Threads + Wait + Sync, F: Files, S: Source, K: Sink, G: Gate>(
         Ok(config) => config,
         Err(exit) => return Err(exit),
     };
-    let bytes = match read_input(alloc, source) {
+    let bytes = match read_input(alloc, &mut outside.source) {
         Ok(bytes) => bytes,
         Err(exit) => return Err(exit),
     };
-    make_and_write(rt, alloc, work, config, &bytes, sink, gate)
+    make_and_write(rt, alloc, work, config, &bytes, &mut outside.sink, gate)
 }
 
 // The setup of the run that the words name.
@@ -120,46 +103,25 @@ fn setup_of(
 }
 
 // Does the command that the words name.
-#[tactic(auto, using(crate::proofs::Listening::plain_call, cli_exits::proofs::Histories::stays))]
+#[tactic(auto, using(cli_exits::proofs::Histories::stays))]
 fn run_command<R: Threads + Wait + Sync, F: Files, S: Source, K: Sink, L: Listen, G: Gate>(
     rt: &R,
     alloc: Global,
     seed: RandomState,
     words: &Names,
-    files: &mut F,
-    source: &mut S,
-    sink: &mut K,
-    listen: &mut L,
+    outside: &mut Outside<F, S, K, L>,
     gate: &G,
 ) -> Result<(), Exit>
 where
     L::Link: Send,
-    requires unused { IsUnused (L.history listen.old) }
-    ensures exit { ExplainsCall (exit_of result) (record {
-      words = words.now;
-      files = since (F.history files.old) (F.history files.new);
-      reads = since (S.history source.old) (S.history source.new);
-      writes = since (K.history sink.old) (K.history sink.new);
-      file_faults = (F.faults files.old, F.faults files.new);
-      source_faults = (S.faults source.old, S.faults source.new);
-      sink_faults = (K.faults sink.old, K.faults sink.new);
-      content = F.content files.old;
-      left = S.left source.old;
-      rest = S.left source.new;
-      written = K.written sink.old;
-      after = K.written sink.new;
-    }) (record {
-      listens = since (L.history listen.old) (L.history listen.new);
-      faults = (L.faults listen.old, L.faults listen.new);
-    }) }
-    ensures files { Continues (F.history files.old) (F.history files.new) }
-    ensures source { Continues (S.history source.old) (S.history source.new) }
-    ensures sink { Continues (K.history sink.old) (K.history sink.new) }
-    ensures listen { Continues (L.history listen.old) (L.history listen.new) }
+    requires unused { IsUnused (L.history outside.old.listen) }
+    ensures exit { ExplainsCall (exit_of result) (world_between F.Files S.Source K.Sink words.now outside.old outside.new)
+        (listening_between L.Listen outside.old outside.new) }
+    ensures later { IsLater F.Files S.Source K.Sink L.Listen outside.old outside.new }
 {
     match read_words(alloc, words) {
         Ok(Command::Plain(configs)) => {
-            run_work(rt, alloc, &configs, Work::Lookup, files, source, sink, gate)
+            run_work(rt, alloc, &configs, Work::Lookup, outside, gate)
         }
         Ok(
             Command::Threads(
@@ -179,23 +141,19 @@ where
                 alloc,
                 &configs,
                 Work::Drive { setup, stats },
-                files,
-                source,
-                sink,
+                outside,
                 gate,
             )
         }
-        Ok(Command::Threads(ThreadJob::Serve(job))) => {
-            run_serve(rt, alloc, seed, job, files, sink, listen)
-        }
+        Ok(Command::Threads(ThreadJob::Serve(job))) => { run_serve(rt, alloc, seed, job, outside) }
         Ok(Command::Threads(ThreadJob::Gen { number, checks })) => {
-            run_gen(rt, alloc, seed, number, checks, sink, gate)
+            run_gen(rt, alloc, seed, number, checks, &mut outside.sink, gate)
         }
-        Ok(Command::Quota(job)) => run_quota(rt, alloc, seed, job, files, sink),
-        Ok(Command::Pool(job)) => run_pool(alloc, &seed, job, files, sink),
-        Ok(Command::Audit(job)) => audit_files(alloc, &job, files, source, sink),
-        Ok(Command::Help) => write_text(alloc, HELP, sink),
-        Ok(Command::Version) => write_text(alloc, VERSION, sink),
+        Ok(Command::Quota(job)) => run_quota(rt, alloc, seed, job, outside),
+        Ok(Command::Pool(job)) => run_pool(alloc, &seed, job, outside),
+        Ok(Command::Audit(job)) => audit_files(alloc, &job, outside),
+        Ok(Command::Help) => write_text(alloc, HELP, &mut outside.sink),
+        Ok(Command::Version) => write_text(alloc, VERSION, &mut outside.sink),
         Err(WordsFault::Usage) => Err(Exit::Usage),
         Err(WordsFault::OutOfMemory) => Err(Exit::OutOfMemory),
     }
@@ -221,38 +179,17 @@ pub fn ratelimit<R: Threads + Wait + Sync, F: Files, S: Source, K: Sink, L: List
     alloc: Global,
     seed: RandomState,
     words: &Names,
-    files: &mut F,
-    source: &mut S,
-    sink: &mut K,
-    listen: &mut L,
+    outside: &mut Outside<F, S, K, L>,
     gate: &G,
 ) -> Exit
 where
     L::Link: Send,
-    requires unused { IsUnused (L.history listen.old) }
-    ensures exit { IsExitOf result (record {
-      words = words.now;
-      files = since (F.history files.old) (F.history files.new);
-      reads = since (S.history source.old) (S.history source.new);
-      writes = since (K.history sink.old) (K.history sink.new);
-      file_faults = (F.faults files.old, F.faults files.new);
-      source_faults = (S.faults source.old, S.faults source.new);
-      sink_faults = (K.faults sink.old, K.faults sink.new);
-      content = F.content files.old;
-      left = S.left source.old;
-      rest = S.left source.new;
-      written = K.written sink.old;
-      after = K.written sink.new;
-    }) (record {
-      listens = since (L.history listen.old) (L.history listen.new);
-      faults = (L.faults listen.old, L.faults listen.new);
-    }) }
-    ensures files { Continues (F.history files.old) (F.history files.new) }
-    ensures source { Continues (S.history source.old) (S.history source.new) }
-    ensures sink { Continues (K.history sink.old) (K.history sink.new) }
-    ensures listen { Continues (L.history listen.old) (L.history listen.new) }
+    requires unused { IsUnused (L.history outside.old.listen) }
+    ensures exit { IsExitOf result (world_between F.Files S.Source K.Sink words.now outside.old outside.new)
+        (listening_between L.Listen outside.old outside.new) }
+    ensures later { IsLater F.Files S.Source K.Sink L.Listen outside.old outside.new }
 {
-    match run_command(rt, alloc, seed, words, files, source, sink, listen, gate) {
+    match run_command(rt, alloc, seed, words, outside, gate) {
         Ok(()) => Exit::Done,
         Err(exit) => exit,
     }

@@ -1,5 +1,5 @@
 // `serve`: connections in memory, and what is written to each.
-use super::{A, NONE, numbers, said_over};
+use super::{A, NONE, numbers, outside_of, said_over};
 use rate_io::{MemLink, MemListen};
 use rate_types::Seconds;
 use std::alloc::Global;
@@ -102,11 +102,12 @@ fn serve_peers<R: Threads + Wait + RandomSource + Sync>(
     failing: u64,
 ) -> Result<Served, Fail> {
     let links = links_of(alloc, peers)?;
-    let mut listen = MemListen::new(alloc, links, numbers(alloc, failing)?)?;
-    let said = said_over(rt, alloc, words, &[A], "", NONE, &mut listen, &Open)?;
+    let listen = MemListen::new(alloc, links, numbers(alloc, failing)?)?;
+    let mut outside = outside_of(alloc, &[A], "", NONE, listen)?;
+    let said = said_over(rt, alloc, words, &mut outside, &Open)?;
     let mut written = Vec::new(alloc);
     for number in 0..peers.len() {
-        if let Some(link) = listen.given_back(number) {
+        if let Some(link) = outside.listen.given_back(number) {
             written.push(written_to(alloc, link)?)?;
         }
     }

@@ -3,7 +3,7 @@ ghost use Rattle.std.specs.Prelude.{◌≡◌, [], IfOk};
 
 use super::serve::{HEALTH, HEALTHY};
 use super::workers::TURNS;
-use super::{A, NONE, said_over};
+use super::{A, NONE, outside_of, said_over};
 use rate_io::{Failed, Link, Listen, MemLink, MemListen};
 use rate_types::Seconds;
 use std::alloc::Global;
@@ -120,13 +120,14 @@ fn two_connections_are_served_side_by_side(rt: HostRuntime) -> Result<(), Fail> 
         ended: AtomicU64::new(0),
         late: AtomicU64::new(0),
     };
-    let mut listen = TurnedListen {
+    let listen = TurnedListen {
         listen: two_peers(alloc)?,
         is_first: true,
         turns: &turns,
     };
+    let mut outside = outside_of(alloc, &[A], "", NONE, listen)?;
     let words = ["serve", "--port=0", "--connections=2", "--workers=2", "a"];
-    let said = said_over(&rt, alloc, &words, &[A], "", NONE, &mut listen, &Open)?;
+    let said = said_over(&rt, alloc, &words, &mut outside, &Open)?;
     assert_eq!(rt;
         said.as_str(),
         "done\n{\"listening\":1}\n\
@@ -134,7 +135,11 @@ fn two_connections_are_served_side_by_side(rt: HostRuntime) -> Result<(), Fail> 
         {\"answers\":1,\"connection\":1,\"end\":\"ENDED\"}\n"
     );
     for number in 0..2 {
-        let link = listen.listen.given_back(number).ok_or("not given back")?;
+        let link = outside
+            .listen
+            .listen
+            .given_back(number)
+            .ok_or("not given back")?;
         assert!(rt; link.written() == Some(HEALTHY.as_bytes()));
     }
     assert_eq!(rt; turns.late.load(Ordering::SeqCst), 0);
