@@ -106,6 +106,18 @@ printf 'ratelimit 0.1.0\n' >"$work/version"
 run --version </dev/null >"$out" 2>"$err"
 judge version $? 0 "$work/version"
 
+run serve --port 0 --connections 0 --tasks 0 "$config" </dev/null >"$out" 2>"$err"
+judge serve-no-task $? 1 "$none" 'ratelimit: usage'
+
+run serve --port 0 --connections 0 --tasks 257 "$config" </dev/null >"$out" 2>"$err"
+judge serve-too-many-tasks $? 1 "$none" 'ratelimit: usage'
+
+run serve --port 0 --connections 0 --workers 4 --tasks 4 "$config" </dev/null >"$out" 2>"$err"
+judge serve-workers-and-tasks $? 1 "$none" 'ratelimit: usage'
+
+run serve --port 0 --connections 0 --tasks 256 "$config" </dev/null >/dev/null 2>"$err"
+judge serve-tasks $? 0 -
+
 run --help </dev/null >"$out" 2>"$err"
 judge help $? 0 "$here/help.out"
 
@@ -405,6 +417,9 @@ judge audit-output-full $? 5 - 'ratelimit: write failed'
 
 run serve --port 0 --connections 0 "$config" </dev/null 2>"$err" >/dev/full
 judge serve-output-full $? 5 - 'ratelimit: write failed'
+
+run serve --port 0 --connections 0 --tasks 1 "$config" </dev/null 2>"$err" >/dev/full
+judge serve-tasks-output-full $? 5 - 'ratelimit: write failed'
 
 yes '' | head -n 10000 | run drive "$config" 2>"$err" >/dev/full
 judge large-output-full "${PIPESTATUS[2]}" 5 - 'ratelimit: write failed'

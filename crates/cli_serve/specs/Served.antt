@@ -1,5 +1,5 @@
 -- What the exits of `serve` say.
-use Rattle.std.specs.Prelude.{◌≡◌, ℕ, ◌+◌, ◌<◌, ◌⊎◌, List, [], ◌∷◌, ◌++◌, length, Bool, true, false, Ok}
+use Rattle.std.specs.Prelude.{◌≡◌, ℕ, ◌+◌, ◌<◌, ◌⊎◌, List, [], ◌∷◌, ◌++◌, length, Bool, true, false, Ok, ⊤}
 use Rattle.std.specs.List.{concat, list_any}
 use Rattle.rate_io.specs.Causes.{Rose}
 use Rattle.rate_io.specs.Content.{Appends}
@@ -11,24 +11,26 @@ use Rattle.http_endpoint.specs.declared.link_end.LinkEnd.{LinkEnd}
 use Rattle.http_serve.specs.Service.{Service}
 use Rattle.http_serve.specs.Links.{ends_of}
 use Rattle.http_limiter.specs.Limited.{ServedByLimiter}
-use Rattle.http_limiter.specs.declared.limited.Setup.{Setup}
+use Rattle.limiter_tasks.specs.Limited.{TasksServedByLimiter}
 use Rattle.cli_exits.specs.Output.{AppendsFront, with_line_feed}
 use Rattle.cli_exits.specs.World.{World, NothingRead, NothingWritten, all_written, WroteUpTo}
 use Rattle.cli_exits.specs.Configured.{FilesSay}
 use Rattle.command_words.specs.declared.command.Command.TheVariants.{Threads}
 use Rattle.command_words.specs.declared.command.ThreadJob.TheVariants.{Serve}
+use Rattle.command_words.specs.declared.command.ServeBy.{ServeBy}
+use Rattle.command_words.specs.declared.command.ServeBy.TheVariants.{Workers, Tasks}
 use Rattle.command_words.specs.declared.command.ServeJob.{ServeJob}
 use Rattle.cli_exits.specs.declared.exit.Exit.{Exit}
 use Rattle.cli_exits.specs.declared.exit.Exit.TheVariants.{Done, WriteFault, OutOfMemory, ListenFault}
 
--- what the call did on the listener, in order, and its counts of faults before and after
+-- what the call did on a listener, in order, and its counts of faults before and after
 pub record Listening : Type 0 where
   pub listens : List ListenEvent
   pub faults : ℕ × ℕ
 
--- no call of the listener was made
+-- a listener wasn't touched: it has no further call and no further fault
 abbrev pub NothingListened : Listening → Type 0
-NothingListened l = l.listens ≡ []
+NothingListened l = (l.listens ≡ []) × (l.faults.1 ≡ l.faults.0)
 
 abbrev pub is_listen_failed : ListenEvent → Bool
 is_listen_failed (bind_failed port) = true
@@ -52,9 +54,17 @@ end_lines number (e ∷ ends) = with_line_feed (link_end_line number e) ∷ end_
 abbrev pub serve_lines : ℕ → List LinkEnd → List (List ℕ)
 serve_lines port ends = port_line port ∷ end_lines 0 ends
 
--- the limiter that `serve` serves by
-abbrev pub limiter_of : ServeJob → Setup
-limiter_of job = record { workers = job.workers; cells = job.cells; global_shadow = job.global_shadow }
+-- one thread serves, by tasks
+abbrev pub HasTasks : ServeBy → Type 0
+HasTasks (Workers workers) = ⊥
+HasTasks (Tasks tasks) = ⊤
+
+-- A limiter of the configuration served these links: a pass in each of so many threads, or one pass by tasks on one thread.
+abbrev pub ServedFor : ServeBy → List DomainTree → ServeJob → List ListenEvent → List Service → Bool → Type 0
+ServedFor (Workers workers) config job more services is_all =
+    ServedByLimiter config (record { workers = workers; cells = job.cells; global_shadow = job.global_shadow }) [] more services is_all
+ServedFor (Tasks tasks) config job more services is_all =
+    TasksServedByLimiter config (record { cells = job.cells; global_shadow = job.global_shadow }) [] more services is_all
 
 -- `serve` read its files, which spell this configuration, and no input
 pub record HasBegun (w : World) (job : ServeJob) (config : List DomainTree) : Type 0 where
@@ -68,7 +78,7 @@ pub record HasListened (l : Listening) (job : ServeJob) (config : List DomainTre
   pub more : List ListenEvent
   pub events : l.listens ≡ bound job.port port ∷ more
   pub port_is : IsPortFor job.port port
-  pub served : ServedByLimiter config (limiter_of job) [] more services is_all
+  pub served : ServedFor job.by config job more services is_all
 
 -- the line of the port, written and flushed at once
 abbrev pub port_line_written : ℕ → List Event
@@ -129,12 +139,38 @@ pub record ServesFirst (w : World) (l : Listening) (job : ServeJob) : Type 0 whe
   pub listened : HasListened l job config port services false
   pub written : PortWritten w port
 
--- When the exits of `serve` come that it has once its files are read. Want of memory is free; then the port's line alone was
--- written, or nothing.
+-- The port was had, and its line alone was written; then a sleep of the thread that serves by tasks failed. Of the links nothing is said.
+pub record SleepFailed (w : World) (l : Listening) (job : ServeJob) : Type 0 where
+  pub tasks : HasTasks job.by
+  pub config : List DomainTree
+  pub begun : HasBegun w job config
+  pub port : ℕ
+  pub more : List ListenEvent
+  pub events : l.listens ≡ bound job.port port ∷ more
+  pub port_is : IsPortFor job.port port
+  pub written : PortWritten w port
+
+-- When the exits of `serve` come that it has once its files are read, by what was done on the listener that serves. Want of memory is free;
+-- then the port's line alone was written, or nothing.
 abbrev pub ExplainsServe : Exit → World → Listening → ServeJob → Type 0
 ExplainsServe Done w l job = ServesAll w l job
 ExplainsServe WriteFault w l job = (ServesFront w l job ⊎ PortUnwritten w l job) × Rose w.sink_faults.0 w.sink_faults.1
 ExplainsServe ListenFault w l job =
-    (PortRefused w l job ⊎ ServesFirst w l job) × (has_listen_failed l.listens ≡ true) × Rose l.faults.0 l.faults.1
+    (((PortRefused w l job ⊎ ServesFirst w l job) × (has_listen_failed l.listens ≡ true)) ⊎ SleepFailed w l job)
+    × Rose l.faults.0 l.faults.1
 ExplainsServe OutOfMemory w l job = NothingRead w × (NothingWritten w ⊎ ((port : ℕ) × PortWritten w port))
 ExplainsServe other w l job = ⊥
+
+-- what the call did on the listener that serves by threads, and on the one that serves by tasks
+pub record Listeners : Type 0 where
+  pub threads : Listening
+  pub tasks : Listening
+
+-- the listener that serves, and the other
+abbrev pub used : ServeBy → Listeners → Listening
+used (Workers workers) l = l.threads
+used (Tasks tasks) l = l.tasks
+
+abbrev pub unused : ServeBy → Listeners → Listening
+unused (Workers workers) l = l.tasks
+unused (Tasks tasks) l = l.threads

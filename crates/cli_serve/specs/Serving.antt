@@ -1,16 +1,15 @@
 -- What the parts of `serve` answer.
-use Rattle.std.specs.Prelude.{◌≡◌, ℕ, ◌<◌, ◌≤◌, List, [], ◌∷◌, ◌++◌, length, true, false, Option}
+use Rattle.std.specs.Prelude.{◌≡◌, ℕ, ◌<◌, ◌≤◌, ◌⊎◌, List, [], ◌∷◌, ◌++◌, length, true, false, Option}
 use Rattle.rate_io.specs.Causes.{Rose}
 use Rattle.rate_io.specs.Events.{Event, FileEvent}
 use Rattle.rate_io.specs.Listeners.{ListenEvent}
 use Rattle.descriptor_tree.specs.Trees.{DomainTree}
 use Rattle.http_serve.specs.Service.{Service}
 use Rattle.http_serve.specs.Links.{ends_of}
-use Rattle.http_limiter.specs.Limited.{ServedByLimiter}
 use Rattle.cli_exits.specs.World.{World}
-use Rattle.cli_serve.specs.Served.{port_line, end_lines, limiter_of}
-use Rattle.cli_serve.specs.declared.serve.PortLine.{PortLine}
-use Rattle.cli_serve.specs.declared.serve.PortLine.TheVariants.{Written, Unwritten, NoMemory}
+use Rattle.cli_serve.specs.Served.{port_line, end_lines, HasTasks, ServedFor}
+use Rattle.cli_serve.specs.declared.lines.PortLine.{PortLine}
+use Rattle.cli_serve.specs.declared.lines.PortLine.TheVariants.{Written, Unwritten, NoMemory}
 use Rattle.cli_exits.specs.Parts.{Sinks, Wrote, WroteFront}
 use Rattle.command_words.specs.declared.command.ServeJob.{ServeJob}
 use Rattle.cli_exits.specs.declared.exit.Exit.{Exit}
@@ -53,14 +52,13 @@ IsOfPort port s NoMemory writes = (writes ≡ []) × (s.after ≡ s.written)
 -- how serving at a port ended, after these calls of the listener and these writes
 abbrev pub EndsServing : List DomainTree → ServeJob → ℕ × ℕ → Sinks → List ListenEvent → List Event → Exit → Type 0
 EndsServing config job faults s more writes Done =
-    (services : List Service) × (length services ≡ job.connections) × ServedByLimiter config (limiter_of job) [] more services true
+    (services : List Service) × (length services ≡ job.connections) × ServedFor job.by config job more services true
     × Wrote (λ pieces. pieces ≡ end_lines 0 (ends_of services)) s writes
 EndsServing config job faults s more writes WriteFault =
-    (services : List Service) × (length services ≡ job.connections) × ServedByLimiter config (limiter_of job) [] more services true
+    (services : List Service) × (length services ≡ job.connections) × ServedFor job.by config job more services true
     × WroteFront (λ pieces. pieces ≡ end_lines 0 (ends_of services)) s writes × Rose s.faults.0 s.faults.1
-EndsServing config job faults s more writes ListenFault =
-    (services : List Service) × (length services < job.connections) × ServedByLimiter config (limiter_of job) [] more services false
-    × Rose faults.0 faults.1 × (writes ≡ []) × (s.after ≡ s.written)
+EndsServing config job faults s more writes ListenFault = Rose faults.0 faults.1 × (writes ≡ []) × (s.after ≡ s.written)
+    × (((services : List Service) × (length services < job.connections) × ServedFor job.by config job more services false) ⊎ HasTasks job.by)
 EndsServing config job faults s more writes OutOfMemory = (writes ≡ []) × (s.after ≡ s.written)
 EndsServing config job faults s more writes other = ⊥
 

@@ -9,11 +9,13 @@ mod reports;
 mod rows;
 mod serve;
 mod side_by_side;
+mod tasks;
 mod workers;
 
 ghost use Rattle.std.specs.Prelude.{◌≡◌, [], IfOk};
 
 use cli_exits::Exit;
+use conn_tasks::{MemPollListen, PollListen};
 use rate_io::{Listen, MemFile, MemFiles, MemListen, MemSink, MemSource};
 use rate_types::{Blob, Names, Word};
 use ratelimit_cli::{Outside, ratelimit};
@@ -39,6 +41,20 @@ const CHECK_A: &str =
 
 const CHECK_B: &str =
     r#"{"check":{"domain":"d","descriptors":[{"entries":[{"key":"k","value":"b"}]}]}}"#;
+
+// `serve` with a number of tasks out of range, or with threads and tasks.
+const SERVE_NO_TASK: &[&str] = &["serve", "--port=0", "--connections=0", "--tasks=0", "a"];
+
+const SERVE_MANY_TASKS: &[&str] = &["serve", "--port=0", "--connections=0", "--tasks=257", "a"];
+
+const SERVE_BOTH: &[&str] = &[
+    "serve",
+    "--port=0",
+    "--connections=0",
+    "--workers=4",
+    "--tasks=4",
+    "a",
+];
 
 // A file without a rule.
 const DOMAIN: &str = r#"{"domain":"d"}"#;
@@ -159,8 +175,8 @@ fn said_to<R: Threads + Wait + RandomSource + Sync, G: Gate>(
     failing: Failing,
     gate: &G,
 ) -> Result<String, Fail> {
-    let listen = MemListen::new(alloc, Vec::new(alloc), Vec::new(alloc))?;
-    let mut outside = outside_of(alloc, contents, script, failing, listen)?;
+    let (listen, polls) = (no_links(alloc)?, no_polls(alloc)?);
+    let mut outside = outside_of(alloc, contents, script, failing, listen, polls)?;
     said_over(rt, alloc, words, &mut outside, gate)
 }
 
@@ -201,38 +217,55 @@ fn exit_and_output(alloc: Global, exit: &Exit, written: &[u8]) -> Result<String,
     Ok(text)
 }
 
-// What is outside in memory, over a listener.
-type Memory<L> = Outside<MemFiles, MemSource, MemSink, L>;
+// A listener to which nobody connects.
+fn no_links(alloc: Global) -> Result<MemListen, Fail>
+    ensures { IfOk result (λ l. ⟦<MemListen as Listen>⟧.history l ≡ []) }
+{
+    Ok(MemListen::new(alloc, Vec::new(alloc), Vec::new(alloc))?)
+}
 
-// Files with the names a, b and c and these contents, this script and this listener, of whose calls some fail.
-fn outside_of<L: Drop>(
+// The same, polled.
+fn no_polls(alloc: Global) -> Result<MemPollListen, Fail>
+    ensures { IfOk result (λ l. ⟦<MemPollListen as PollListen>⟧.history l ≡ []) }
+{
+    Ok(MemPollListen::new(alloc, Vec::new(alloc), Vec::new(alloc), Vec::new(alloc))?)
+}
+
+// What is outside in memory, over two listeners.
+type Memory<L, P> = Outside<MemFiles, MemSource, MemSink, L, P>;
+
+// Files with the names a, b and c and these contents, this script and these listeners, of whose calls some fail.
+fn outside_of<L: Drop, P: Drop>(
     alloc: Global,
     contents: &[&str],
     script: &str,
     failing: Failing,
     listen: L,
-) -> Result<Memory<L>, Fail>
-    ensures { IfOk result (λ o. o.listen ≡ listen) }
+    polls: P,
+) -> Result<Memory<L, P>, Fail>
+    ensures { IfOk result (λ o. (o.listen ≡ listen) × (o.polls ≡ polls)) }
 {
     Ok(Outside {
         files: files_of(alloc, contents, failing.file)?,
         source: source_of(alloc, script, failing.read)?,
         sink: sink_of(alloc, failing.write)?,
         listen,
+        polls,
     })
 }
 
 // The exit and then the output of a run of these words over what is outside, where the clock says 65.
-fn said_over<R: Threads + Wait + RandomSource + Sync, L: Listen, G: Gate>(
+fn said_over<R: Threads + Wait + RandomSource + Sync, L: Listen, P: PollListen, G: Gate>(
     rt: &R,
     alloc: Global,
     words: &[&str],
-    outside: &mut Memory<L>,
+    outside: &mut Memory<L, P>,
     gate: &G,
 ) -> Result<String, Fail>
 where
     L::Link: Send,
-    requires { L.history outside.old.listen ≡ [] }
+    requires listen { L.history outside.old.listen ≡ [] }
+    requires polls { P.history outside.old.polls ≡ [] }
 {
     let seed = RandomState::new(rt)?;
     let names = names_of(alloc, words)?;
@@ -336,6 +369,9 @@ fn each_exit_has_its_cause(rt: HostRuntime) -> Result<(), Fail> {
         (&[], &[A], NONE, "usage\n"),
         (&["drive"], &[A], NONE, "usage\n"),
         (&["drive", "-a"], &[A], NONE, "usage\n"),
+        (SERVE_NO_TASK, &[A], NONE, "usage\n"),
+        (SERVE_MANY_TASKS, &[A], NONE, "usage\n"),
+        (SERVE_BOTH, &[A], NONE, "usage\n"),
         (&["drive", "b"], &[A], NONE, "file 0: fault\n"),
         (
             &["drive", "a", "b"],

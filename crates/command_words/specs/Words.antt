@@ -1,6 +1,6 @@
 -- The words of the program: which of them are a command.
 use Rattle.std.specs.Prelude.{ℕ, ◌≤◌, ◌&&◌, ◌||◌, List, [], ◌∷◌, length, Bool, true, false, nat_lt, Option, None, Some}
-use Rattle.std.specs.Prelude.{option_and_then, unwrap_or, if◌then◌else◌, codes, ⊤}
+use Rattle.std.specs.Prelude.{option_and_then, option_map, unwrap_or, if◌then◌else◌, codes, ⊤}
 use Rattle.std.specs.List.{list_all}
 use Rattle.std.specs.Str.{bytes_eq}
 use Rattle.std.specs.Str.Parse.{digits_value, without_leading_plus}
@@ -14,6 +14,9 @@ use Rattle.clap.specs.declared.builder.action.ArgAction.TheVariants.{Append, Set
 use Rattle.command_words.specs.declared.command.Command.{Command}
 use Rattle.command_words.specs.declared.command.Command.TheVariants.{Plain, Quota, Pool, Audit, Threads, Help, Version}
 use Rattle.command_words.specs.declared.command.ThreadJob.TheVariants.{Drive, Serve, Gen}
+use Rattle.command_words.specs.declared.command.ServeBy.{ServeBy}
+use Rattle.command_words.specs.declared.command.ServeBy.TheVariants.{Workers, Tasks}
+use Rattle.command_words.specs.declared.serve_words.TheConstants.{MOST_TASKS}
 
 -- ---- what each command takes
 
@@ -70,10 +73,10 @@ number_named name = record (new_rule name) { required = true }
 unfoldable pub gen_app : App
 gen_app = with_rule (with_rule (new_app (codes "gen")) (number_named (codes "number"))) (number_named (codes "checks"))
 
--- `serve --port P --connections N [--workers N] [--cells N] [--global-shadow] CONFIG..`
+-- `serve --port P --connections N [--workers N | --tasks N] [--cells N] [--global-shadow] CONFIG..`
 unfoldable pub serve_app : App
-serve_app = with_rule (with_rule (with_rule (with_rule (with_rule (with_rule (new_app (codes "serve")) (required_named (codes "port")))
-    (required_named (codes "connections"))) (option_named (codes "workers"))) (option_named (codes "cells")))
+serve_app = with_rule (with_rule (with_rule (with_rule (with_rule (with_rule (with_rule (new_app (codes "serve")) (required_named (codes "port")))
+    (required_named (codes "connections"))) (option_named (codes "workers"))) (option_named (codes "tasks"))) (option_named (codes "cells")))
     (flag_named (codes "global-shadow"))) (files_named (codes "configs"))
 
 -- what is made of the words where a command takes them: where it has no fault in them
@@ -191,23 +194,30 @@ abbrev pub required_in : ℕ → Option (List ℕ) → Option ℕ
 required_in most None = None
 required_in most (Some text) = number_in 0 most 0 (Some text)
 
--- the serving of connections by these numbers, where all are there
-abbrev pub serve_job_of : List (List ℕ) → Option ℕ → Option ℕ → Option ℕ → Option ℕ → Bool → Option Command
-serve_job_of configs (Some port) (Some connections) (Some workers) (Some cells) global_shadow = Some (Threads (Serve (record {
+-- What serves, by `--workers` and `--tasks`: so many threads, 1 to 64, where `--tasks` isn't there; else one thread, by so many tasks, 1 to
+-- 256. Both words together aren't taken.
+abbrev pub serve_by : Option (List ℕ) → Option (List ℕ) → Option ServeBy
+serve_by workers None = option_map Workers (number_in 1 MOST_WORKERS DEFAULT_WORKERS workers)
+serve_by None (Some tasks) = option_map Tasks (number_in 1 MOST_TASKS 1 (Some tasks))
+serve_by (Some workers) (Some tasks) = None
+
+-- the serving of connections by these, where all are there
+abbrev pub serve_job_of : List (List ℕ) → Option ℕ → Option ℕ → Option ServeBy → Option ℕ → Bool → Option Command
+serve_job_of configs (Some port) (Some connections) (Some by) (Some cells) global_shadow = Some (Threads (Serve (record {
   configs = configs;
-  workers = workers;
+  by = by;
   cells = cells;
   global_shadow = global_shadow;
   port = port;
   connections = connections;
 })))
-serve_job_of configs port connections workers cells global_shadow = None
+serve_job_of configs port connections by cells global_shadow = None
 
--- what `serve` does: `--port` is 0 to 65,535, `--connections` 0 to 1,048,576, `--workers` 1 to 64, `--cells` 1 to 1,048,576
+-- what `serve` does: `--port` is 0 to 65,535, `--connections` 0 to 1,048,576, `--cells` 1 to 1,048,576
 abbrev pub serve_job : List Row → Option Command
 serve_job rows = serve_job_of (configs_in rows) (required_in 65535 (first_of (codes "port") rows))
     (required_in MOST_CONNECTIONS (first_of (codes "connections") rows))
-    (number_in 1 MOST_WORKERS DEFAULT_WORKERS (first_of (codes "workers") rows))
+    (serve_by (first_of (codes "workers") rows) (first_of (codes "tasks") rows))
     (number_in 1 MOST_CELLS DEFAULT_CELLS (first_of (codes "cells") rows)) (is_given (first_of (codes "global-shadow") rows))
 
 -- the words of `serve`
@@ -254,12 +264,16 @@ command_of (first ∷ more) = command_named first (first ∷ more)
 abbrev pub rows_in : ArgMatches → List Row
 rows_in m = rows_of (found_of m)
 
+-- so many threads or tasks as may be
+abbrev pub IsByInRange : ServeBy → Type 0
+IsByInRange (Workers workers) = (1 ≤ workers) × (workers ≤ MOST_WORKERS)
+IsByInRange (Tasks tasks) = (1 ≤ tasks) × (tasks ≤ MOST_TASKS)
+
 -- the numbers of a command are in their ranges
 abbrev pub AreInRange : Command → Type 0
 AreInRange (Threads (Drive configs workers cells start global_shadow stats)) =
     (1 ≤ workers) × (workers ≤ MOST_WORKERS) × (1 ≤ cells) × (cells ≤ MOST_CELLS)
 AreInRange (Threads (Serve job)) =
-    (1 ≤ job.workers) × (job.workers ≤ MOST_WORKERS) × (1 ≤ job.cells) × (job.cells ≤ MOST_CELLS)
-    × (job.connections ≤ MOST_CONNECTIONS)
+    IsByInRange job.by × (1 ≤ job.cells) × (job.cells ≤ MOST_CELLS) × (job.connections ≤ MOST_CONNECTIONS)
 AreInRange (Threads (Gen number checks)) = checks ≤ MOST_LINES
 AreInRange other = ⊤

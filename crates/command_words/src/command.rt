@@ -81,12 +81,20 @@ pub enum ThreadJob {
     },
 }
 
+/// What serves connections.
+#[derive(Clone, Copy, Debug, PartialEq, Eq)]
+pub enum ServeBy {
+    /// So many threads, each of which serves one connection at a time: 1 to 64.
+    Workers(u32),
+    /// One thread, by so many connections at a time, each a task: 1 to 256.
+    Tasks(u32),
+}
+
 /// The serving of so many connections by the configuration files of these names.
 #[derive(Drop)]
 pub struct ServeJob {
     pub configs: Names,
-    /// Connections served side by side: 1 to 64.
-    pub workers: u32,
+    pub by: ServeBy,
     /// 1 to 1,048,576.
     pub cells: u32,
     /// Whether overall codes are always OK.

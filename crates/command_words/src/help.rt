@@ -33,12 +33,13 @@ ratelimit: a rate limiter after Envoy's rate limit service, over recorded traffi
         --cells N          cells for counters: 1 to 1048576 (default 262144)
         --start T          the moment of the start, in seconds: 0 to 1000000000000 (default 0)
         --global-shadow    no reply has the overall code OVER_LIMIT
-  serve --port P --connections N [--workers N] [--cells N] [--global-shadow] CONFIG..
+  serve --port P --connections N [--workers N | --tasks N] [--cells N] [--global-shadow] CONFIG..
       Reads configuration files and answers checks over HTTP at the loopback address: POST /json with a RateLimitRequest, GET
       /healthcheck. Prints its port, and after N connections how each of them ended.
         --port P           the port, 0 for a free one
         --connections N    how many connections are served: 0 to 1048576
-        --workers N        connections served side by side: 1 to 64 (default 4)
+        --workers N        connections served side by side, each by a thread of its own: 1 to 64 (default 4)
+        --tasks N          many connections on one thread: so many open at a time, 1 to 256, none of which waits for another
         --cells N          cells for counters: 1 to 1048576 (default 262144)
         --global-shadow    no reply has the overall code OVER_LIMIT
   gen NUMBER CHECKS

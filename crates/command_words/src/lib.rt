@@ -17,6 +17,7 @@ mod serve_words;
 mod texts;
 mod words;
 
-pub use command::{AuditJob, Command, PoolJob, QuotaJob, ServeJob, ThreadJob};
+pub use command::{AuditJob, Command, PoolJob, QuotaJob, ServeBy, ServeJob, ThreadJob};
 pub use help::{HELP, VERSION};
+pub use serve_words::MOST_TASKS;
 pub use words::{WordsFault, read_words};

@@ -1,11 +1,11 @@
 // The words of `serve`.
 ghost use Rattle.std.specs.Prelude.{◌≡◌, ◌≤◌, IfOk, IfSome, Some, None, Err, option_map};
-ghost use Rattle.rate_types.specs.declared.limits.TheConstants.{MOST_CELLS, MOST_CONNECTIONS, MOST_WORKERS};
+ghost use Rattle.rate_types.specs.declared.limits.TheConstants.{MOST_CELLS, MOST_CONNECTIONS};
 ghost use Rattle.clap.specs.Words.{app_of};
 ghost use Rattle.command_words.specs.Words as spec;
 ghost use Rattle.command_words.specs.declared.words.WordsFault.TheVariants.{Usage};
 
-use crate::command::{Command, ServeJob, ThreadJob};
+use crate::command::{Command, ServeBy, ServeJob, ThreadJob};
 use crate::number::count_in;
 use crate::parsers::{all_in, first_in, with_files, with_flag, with_option, with_required};
 use crate::texts::names_of;
@@ -17,16 +17,20 @@ use rate_types::limits::{
 use rate_types::{Names, Word};
 use std::alloc::{AllocError, Global};
 
-/// `serve --port P --connections N [--workers N] [--cells N] [--global-shadow] CONFIG..`
+/// The most connections that are open at a time where one thread serves them.
+pub const MOST_TASKS: u32 = 256;
+
+/// `serve --port P --connections N [--workers N | --tasks N] [--cells N] [--global-shadow] CONFIG..`
 pub fn serve_parser<'a>(alloc: Global) -> Result<Parser<'a>, AllocError>
     ensures { IfOk result (λ c. app_of c ≡ spec.serve_app) }
 {
     let one = with_required(alloc, Parser::new(alloc, "serve"), "port")?;
     let two = with_required(alloc, one, "connections")?;
     let three = with_option(alloc, two, "workers")?;
-    let four = with_option(alloc, three, "cells")?;
-    let five = with_flag(alloc, four, "global-shadow")?;
-    let command = with_files(alloc, five, "configs")?;
+    let four = with_option(alloc, three, "tasks")?;
+    let five = with_option(alloc, four, "cells")?;
+    let six = with_flag(alloc, five, "global-shadow")?;
+    let command = with_files(alloc, six, "configs")?;
     Ok(command)
 }
 
@@ -41,20 +45,38 @@ fn required_in(text: Option<&str>, most: u32) -> Option<u32>
     }
 }
 
-// The serving by these numbers, where all are there.
+// What serves, by the words of `--workers` and `--tasks`, which aren't taken together.
+fn serve_by(workers: Option<&str>, tasks: Option<&str>) -> Option<ServeBy>
+    ensures by { result ≡ spec.serve_by (option_map (λ t. t.now) workers.entry) (option_map (λ t. t.now) tasks.entry) }
+    ensures range { IfSome result spec.IsByInRange }
+{
+    match (workers, tasks) {
+        (workers, None) => {
+            let workers = count_in(workers, 1, MOST_WORKERS, DEFAULT_WORKERS)?;
+            Some(ServeBy::Workers(workers))
+        }
+        (None, Some(tasks)) => {
+            let tasks = count_in(Some(tasks), 1, MOST_TASKS, 1)?;
+            Some(ServeBy::Tasks(tasks))
+        }
+        (Some(_), Some(_)) => None,
+    }
+}
+
+// The serving by these, where all are there.
 fn serve_job_of(
     configs: Names,
     port: Option<u32>,
     connections: Option<u32>,
-    workers: Option<u32>,
+    by: Option<ServeBy>,
     cells: Option<u32>,
     global_shadow: bool,
 ) -> Option<Command>
     requires port { IfSome port (λ n. n ≤ 65535) }
     requires connections { IfSome connections (λ n. n ≤ MOST_CONNECTIONS) }
-    requires workers { IfSome workers (λ n. (1 ≤ n) × (n ≤ MOST_WORKERS)) }
+    requires by { IfSome by spec.IsByInRange }
     requires cells { IfSome cells (λ n. (1 ≤ n) × (n ≤ MOST_CELLS)) }
-    ensures job { result ≡ spec.serve_job_of configs port connections workers cells global_shadow }
+    ensures job { result ≡ spec.serve_job_of configs port connections by cells global_shadow }
     ensures range { IfSome result spec.AreInRange }
 {
     let Some(port) = port else {
@@ -63,7 +85,7 @@ fn serve_job_of(
     let Some(connections) = connections else {
         return None;
     };
-    let Some(workers) = workers else {
+    let Some(by) = by else {
         return None;
     };
     let Some(cells) = cells else {
@@ -71,7 +93,7 @@ fn serve_job_of(
     };
     Some(Command::Threads(ThreadJob::Serve(ServeJob {
         configs,
-        workers,
+        by,
         cells,
         global_shadow,
         port: port as u16,
@@ -88,15 +110,10 @@ pub fn serve_job(alloc: Global, matches: &ArgMatches<'_>) -> Result<Command, Wor
     let configs = names_of(alloc, all_in(matches, "configs"))?;
     let port = required_in(first_in(matches, "port"), 65_535);
     let connections = required_in(first_in(matches, "connections"), MOST_CONNECTIONS);
-    let workers = count_in(
-        first_in(matches, "workers"),
-        1,
-        MOST_WORKERS,
-        DEFAULT_WORKERS,
-    );
+    let by = serve_by(first_in(matches, "workers"), first_in(matches, "tasks"));
     let cells = count_in(first_in(matches, "cells"), 1, MOST_CELLS, DEFAULT_CELLS);
     let global_shadow = is_given(first_in(matches, "global-shadow"));
-    match serve_job_of(configs, port, connections, workers, cells, global_shadow) {
+    match serve_job_of(configs, port, connections, by, cells, global_shadow) {
         Some(job) => Ok(job),
         None => Err(WordsFault::Usage),
     }

@@ -7,6 +7,7 @@ ghost use Rattle.std.specs.Process.{exit_status};
 ghost use Rattle.cli_exits.specs.Reports.{status_of};
 
 use cli_exits::Exit;
+use mio_links::MioListen;
 use rate_io::{HostFiles, ReaderSource, StreamListen, WriterSink};
 use rate_types::{Names, Word};
 use ratelimit_cli::{Outside, ratelimit};
@@ -44,6 +45,7 @@ fn run<R: Threads + Wait + Sync>(
         source: ReaderSource::new(rt.stdin()),
         sink: WriterSink::new(stdout),
         listen: StreamListen::new(rt.clone()?),
+        polls: MioListen::new(rt.clone()?, alloc),
     };
     Ok(ratelimit(threads, alloc, seed, &words, &mut outside, &Open))
 }

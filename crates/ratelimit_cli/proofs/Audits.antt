@@ -9,6 +9,7 @@ use Rattle.rate_io.specs.declared.files.Files.{Ghosts as FilesMeaning}
 use Rattle.rate_io.specs.declared.source.Source.{Ghosts as SourceMeaning}
 use Rattle.rate_io.specs.declared.sink.Sink.{Ghosts as SinkMeaning}
 use Rattle.rate_io.specs.declared.listen.Listen.{Ghosts as ListenMeaning}
+use Rattle.conn_tasks.specs.declared.poll_listen.PollListen.{Ghosts as PollListenMeaning}
 use Rattle.descriptor_tree.specs.Trees.{DomainTree}
 use Rattle.config_json.specs.Reading.{reading_of}
 use Rattle.script_text.specs.Script.{script_of}
@@ -45,43 +46,43 @@ module _ (content : List ℕ → Option (List ℕ)) (job : AuditJob) (calls : Li
   run_last = ap (slice_get (configs ++ run ∷ [])) (sym configs_count) ∙ behind_all configs run
 
 -- `audit` read its configuration files and the run
-module _ {F S K L N : Type 0} (f : FilesMeaning F) (s : SourceMeaning S) (k : SinkMeaning K) (l : ListenMeaning L N)
-    (o : Outside F S K L) (words : List (List ℕ)) (job : AuditJob) (is : command_of words ≡ Some (Audit job))
+module _ {F S K L P N M : Type 0} (f : FilesMeaning F) (s : SourceMeaning S) (k : SinkMeaning K)
+    (l : ListenMeaning L N) (p : PollListenMeaning P M) (o : Outside F S K L P) (words : List (List ℕ)) (job : AuditJob) (is : command_of words ≡ Some (Audit job))
     (files : F) (configs : List (List ℕ)) (run : List ℕ)
     (contents : Grew (f.history o.files) (f.history files) (λ calls. AreFilesOf (f.content o.files) (files_of (Audit job)) calls (configs ++ run ∷ []))) where
   bytes_of : AreFilesOf (f.content o.files) (files_of (Audit job)) (since (f.history o.files) (f.history files)) (configs ++ run ∷ [])
-  bytes_of = contents_of f s k l o words (Audit job) is files (files_of (Audit job)) (configs ++ run ∷ []) refl contents
+  bytes_of = contents_of f s k l p o words (Audit job) is files (files_of (Audit job)) (configs ++ run ∷ []) refl contents
 
   first : configs_among (Audit job) (configs ++ run ∷ []) ≡ configs
   first = configs_first (f.content o.files) job (since (f.history o.files) (f.history files)) configs run bytes_of
 
   -- its configuration files are refused
-  pub no_configs : (e : Exit) → IsOfConfig (reading_of configs) e → Call f s k l o words (Audit job) is e files o.source o.sink
-  no_configs e h = unspelled f s k l o words (Audit job) is files (files_of (Audit job)) (configs ++ run ∷ []) configs refl contents tt first e h
+  pub no_configs : (e : Exit) → IsOfConfig (reading_of configs) e → Call f s k l p o words (Audit job) is e files o.source o.sink
+  no_configs e h = unspelled f s k l p o words (Audit job) is files (files_of (Audit job)) (configs ++ run ∷ []) configs refl contents tt first e h
 
   module _ (config : List DomainTree) (spells : reading_of configs ≡ Ok config) where
     -- the script wasn't read
     pub no_script : (source : S) (e : Exit)
         → Grew (s.history o.source) (s.history source) (IsOfInput (s.left o.source) (s.faults o.source, s.faults source) e)
-        → Call f s k l o words (Audit job) is e files source o.sink
+        → Call f s k l p o words (Audit job) is e files source o.sink
     no_script source e h =
-        no_input f s k l o words (Audit job) is files (files_of (Audit job)) (configs ++ run ∷ []) configs refl contents tt first config spells source e h
+        no_input f s k l p o words (Audit job) is files (files_of (Audit job)) (configs ++ run ∷ []) configs refl contents tt first config spells source e h
 
     -- the verdict was written, or not
-    pub put_verdict : (source : S) (bytes : List ℕ) → InputGrew f s k l o words (Audit job) is source bytes → IsAtEnd (s.left source)
+    pub put_verdict : (source : S) (bytes : List ℕ) → InputGrew f s k l p o words (Audit job) is source bytes → IsAtEnd (s.left source)
         → (sink : K) (e : Exit) → Grew (k.history o.sink) (k.history sink) (IsOfOutput (IsOfVerdict config (setup_of job) bytes run)
         (record { written = k.written o.sink; after = k.written sink; faults = (k.faults o.sink, k.faults sink) }) e)
-        → Call f s k l o words (Audit job) is e files source sink
+        → Call f s k l p o words (Audit job) is e files source sink
     put_verdict source bytes input rest sink e h =
-        put f s k l o words (Audit job) is files source sink (IsOfVerdict config (setup_of job) bytes run) (λ pieces v. record {
+        put f s k l p o words (Audit job) is files source sink (IsOfVerdict config (setup_of job) bytes run) (λ pieces v. record {
           config = config;
-          read = has_read f s k l o words (Audit job) is files (files_of (Audit job)) (configs ++ run ∷ []) configs refl contents tt first config spells
+          read = has_read f s k l p o words (Audit job) is files (files_of (Audit job)) (configs ++ run ∷ []) configs refl contents tt first config spells
               source bytes input rest sink;
           run = run;
           last = run_last (f.content o.files) job (since (f.history o.files) (f.history files)) configs run bytes_of;
           verdict = v.verdict;
           judged = subst (λ (b : List ℕ). IsVerdict config (setup_of job) (script_of b) run v.verdict)
-              (sym (input_since f s k l o words (Audit job) is source bytes input).1) v.judged;
+              (sym (input_since f s k l p o words (Audit job) is source bytes input).1) v.judged;
           line = v.line;
         })
         e h

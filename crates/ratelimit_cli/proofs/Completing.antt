@@ -25,8 +25,11 @@ use Rattle.command_words.specs.declared.command.PoolJob.{PoolJob}
 use Rattle.cli_exits.specs.World.{World, AreFilesOf, AreWithin, StopsAt, IsLong, IsUnread, all_written, WroteUpTo}
 use Rattle.cli_exits.specs.Configured.{FilesSay}
 use Rattle.ratelimit_cli.specs.Exits.{HasNoCause, Explains, ExplainsCall, IsExitOf, AreLawful}
-use Rattle.cli_serve.specs.Served.{Listening, has_listen_failed, port_line, end_lines, ExplainsServe}
+use Rattle.cli_serve.specs.Served.{Listening, Listeners, used, HasTasks, has_listen_failed, port_line, end_lines, ExplainsServe}
+use Rattle.command_words.specs.declared.command.ServeBy.{ServeBy}
+use Rattle.command_words.specs.declared.command.ServeBy.TheVariants.{Workers, Tasks}
 use Rattle.command_words.specs.declared.command.ServeJob.{ServeJob}
+use Rattle.rate_io.specs.Causes.{Rose}
 use Rattle.cli_quota.specs.Replayed.{QuotaSays, AreReplayable}
 use Rattle.cli_quota.specs.Pooled.{PoolSays, ArePoolable}
 use Rattle.cli_exits.specs.declared.exit.Exit.{Exit}
@@ -168,13 +171,20 @@ module _ (w : World) (no : HasNoCause w) where
   port_fails : (port : List ℕ) → WroteUpTo (port ∷ []) w.writes → ⊥
   port_fails port h = true≢false (sym (write_fails (port ∷ []) w.writes h) ∙ no.written)
 
-  complete_serve : (l : Listening) (job : ServeJob) → has_listen_failed l.listens ≡ false → (e : Exit) → ExplainsServe e w l job → (e ≡ Done) ⊎ (e ≡ OutOfMemory)
+  listen_fails : (by : ServeBy) (job : ServeJob) (l : Listeners) → job.by ≡ by → has_listen_failed l.threads.listens ≡ false
+      → (Rose l.tasks.faults.0 l.tasks.faults.1 → ⊥) → ExplainsServe ListenFault w (used by l) job → ⊥
+  listen_fails (Tasks tasks) job l is heard quiet h = quiet h.1
+  listen_fails (Workers workers) job l is heard quiet (inl h, rose) = true≢false (sym h.1 ∙ heard)
+  listen_fails (Workers workers) job l is heard quiet (inr h, rose) = subst HasTasks is h.tasks
+
+  complete_serve : (l : Listening) (job : ServeJob) → (ExplainsServe ListenFault w l job → ⊥) → (e : Exit) → ExplainsServe e w l job
+      → (e ≡ Done) ⊎ (e ≡ OutOfMemory)
   complete_serve l job heard Done h = inl (λ i. Done)
   complete_serve l job heard OutOfMemory h = inr (λ i. OutOfMemory)
   complete_serve l job heard WriteFault (inl front, rose) =
       absurd (true≢false (sym (later_fails (port_line front.port ∷ []) (end_lines 0 (ends_of front.services)) w.writes front.each) ∙ no.written))
   complete_serve l job heard WriteFault (inr port, rose) = absurd (port_fails _ port.each)
-  complete_serve l job heard ListenFault h = absurd (true≢false (sym h.1 ∙ heard))
+  complete_serve l job heard ListenFault h = absurd (heard h)
   complete_serve l job heard Usage h = absurd h
   complete_serve l job heard (ConfigRefused at) h = absurd h
   complete_serve l job heard TooLong h = absurd h
@@ -182,9 +192,10 @@ module _ (w : World) (no : HasNoCause w) where
   complete_serve l job heard (FileFault index) h = absurd h
   complete_serve l job heard (SettingsRefused refused) h = absurd h
 
-  complete_call : (l : Listening) → has_listen_failed l.listens ≡ false → (e : Exit) → ExplainsCall e w l → (e ≡ Done) ⊎ (e ≡ OutOfMemory)
-  complete_call l heard e (inl h) = complete_exit e h.0
-  complete_call l heard e (inr h) = complete_serve l h.0 heard e h.2
+  complete_call : (l : Listeners) → has_listen_failed l.threads.listens ≡ false → (Rose l.tasks.faults.0 l.tasks.faults.1 → ⊥) → (e : Exit)
+      → ExplainsCall e w l → (e ≡ Done) ⊎ (e ≡ OutOfMemory)
+  complete_call l heard quiet e (inl h) = complete_exit e h.0
+  complete_call l heard quiet e (inr h) = complete_serve (used h.0.by l) h.0 (listen_fails h.0.by h.0 l refl heard quiet) e h.2
 
-pub answers : (e : Exit) (w : World) (l : Listening) → ExplainsCall e w l → IsExitOf e w l
-answers e w l h = record { cause = h; complete = λ no heard. complete_call w no l heard e h }
+pub answers : (e : Exit) (w : World) (l : Listeners) → ExplainsCall e w l → IsExitOf e w l
+answers e w l h = record { cause = h; complete = λ no heard quiet. complete_call w no l heard quiet e h }

@@ -1,5 +1,5 @@
 -- From what the parts of the top call answer to what its exit says.
-use Rattle.std.proofs.Common.{◌≡◌, ℕ, List, map, Some, Result, Ok, inl, inr, refl, subst, sym, ◌∙◌}
+use Rattle.std.proofs.Common.{◌≡◌, ℕ, List, ◌∷◌, map, Some, Result, Ok, inl, inr, refl, subst, sym, ◌∙◌}
 use Rattle.rate_types.specs.declared.limits.TheConstants.{MOST_BYTES}
 use Rattle.rate_types.specs.declared.refused.At.{At}
 use Rattle.descriptor_tree.specs.Trees.{DomainTree}
@@ -7,9 +7,15 @@ use Rattle.rate_io.specs.Events.{given}
 use Rattle.command_words.specs.Words.{command_of}
 use Rattle.cli_exits.specs.Jobs.{asked, files_of, configs_among, ReadsConfigs}
 use Rattle.ratelimit_cli.specs.Parts.{command_with, IsOfWork}
-use Rattle.cli_exits.specs.World.{World, NothingRead, NothingWritten}
+use Rattle.cli_exits.specs.World.{World, AreFilesOf, NothingRead, NothingWritten}
 use Rattle.cli_exits.specs.Configured.{FilesSay, HasRead}
-use Rattle.ratelimit_cli.specs.Exits.{IsOutput, Explains}
+use Rattle.ratelimit_cli.specs.Exits.{IsOutput, Explains, ExplainsCall}
+use Rattle.cli_serve.specs.Served.{Listeners, NothingListened, used, unused, ExplainsServe}
+use Rattle.cli_serve.specs.Serving.{Found}
+use Rattle.command_words.specs.declared.command.Command.TheVariants.{Threads}
+use Rattle.command_words.specs.declared.command.ThreadJob.TheVariants.{Serve}
+use Rattle.command_words.specs.declared.command.ServeBy.{ServeBy}
+use Rattle.command_words.specs.declared.command.ServeJob.{ServeJob}
 use Rattle.cli_exits.specs.Parts.{IsOfFiles, IsOfConfig, IsOfInput, IsOfOutput, Sinks}
 use Rattle.command_words.specs.declared.command.Command.{Command}
 use Rattle.ratelimit_cli.specs.declared.work.Work.{Work}
@@ -112,3 +118,26 @@ made_output w configs (Drive setup stats) config bytes read are pieces made = re
   read = read;
   made = subst (λ (b : List ℕ). IsOfWork (Drive setup stats) config b pieces) (sym are) made;
 }
+
+-- what was found and done beside the sink
+abbrev pub found_of : World → Found
+found_of w = record {
+  words = w.words;
+  files = w.files;
+  reads = w.reads;
+  file_faults = w.file_faults;
+  source_faults = w.source_faults;
+  content = w.content;
+  left = w.left;
+  rest = w.rest;
+}
+
+-- the links were served at the listener of the job
+pub serve_call : (by : ServeBy) (job : ServeJob) → job.by ≡ by → (e : Exit) (w : World) (l : Listeners)
+    → command_of w.words ≡ Some (Threads (Serve job)) → ExplainsServe e w (used by l) job → NothingListened (unused by l) → ExplainsCall e w l
+serve_call by job is e w l named h none = inr (
+  job,
+  named,
+  subst (λ (b : ServeBy). ExplainsServe e w (used b l) job) (sym is) h,
+  subst (λ (b : ServeBy). NothingListened (unused b l)) (sym is) none,
+)

@@ -5,6 +5,7 @@ use Rattle.rate_io.specs.declared.files.Files.{Ghosts as FilesMeaning}
 use Rattle.rate_io.specs.declared.source.Source.{Ghosts as SourceMeaning}
 use Rattle.rate_io.specs.declared.sink.Sink.{Ghosts as SinkMeaning}
 use Rattle.rate_io.specs.declared.listen.Listen.{Ghosts as ListenMeaning}
+use Rattle.conn_tasks.specs.declared.poll_listen.PollListen.{Ghosts as PollListenMeaning}
 use Rattle.command_words.specs.Words.{command_of}
 use Rattle.command_words.specs.declared.command.Command.TheVariants.{Pool}
 use Rattle.command_words.specs.declared.command.PoolJob.{PoolJob}
@@ -50,27 +51,27 @@ module _ (w : World) (job : PoolJob) (is : command_of w.words ≡ Some (Pool job
   }
 
 -- its pools and its events were read
-module _ {F S K L N : Type 0} (f : FilesMeaning F) (s : SourceMeaning S) (k : SinkMeaning K) (l : ListenMeaning L N)
-    (o : Outside F S K L) (words : List (List ℕ)) (job : PoolJob) (is : command_of words ≡ Some (Pool job))
+module _ {F S K L P N M : Type 0} (f : FilesMeaning F) (s : SourceMeaning S) (k : SinkMeaning K)
+    (l : ListenMeaning L N) (p : PollListenMeaning P M) (o : Outside F S K L P) (words : List (List ℕ)) (job : PoolJob) (is : command_of words ≡ Some (Pool job))
     (files : F) (names : List AskedFile) (file events : List ℕ) (same : names ≡ files_of (Pool job))
     (contents : Grew (f.history o.files) (f.history files) (λ calls. AreFilesOf (f.content o.files) names calls (file ∷ events ∷ []))) where
   -- the pools are refused, or the events are too long
-  pub no_answers : (e : Exit) → IsOfSharing file events e → Call f s k l o words (Pool job) is e files o.source o.sink
+  pub no_answers : (e : Exit) → IsOfSharing file events e → Call f s k l p o words (Pool job) is e files o.source o.sink
   no_answers e h =
-      plain f s k l o words (Pool job) is e files o.source o.sink
-      (explain_sharing (found f s k l o words (Pool job) is files o.source o.sink) job is file events
-      (contents_of f s k l o words (Pool job) is files names (file ∷ events ∷ []) same contents) (none_since (s.history o.source))
+      plain f s k l p o words (Pool job) is e files o.source o.sink
+      (explain_sharing (found f s k l p o words (Pool job) is files o.source o.sink) job is file events
+      (contents_of f s k l p o words (Pool job) is files names (file ∷ events ∷ []) same contents) (none_since (s.history o.source))
       (none_since (k.history o.sink), refl) e h)
 
   -- the answers were written, or the first of their lines
   pub put_answers : (lines : List (List ℕ)) → Answers file events lines → (sink : K) (e : Exit)
       → Grew (k.history o.sink) (k.history sink) (IsOfOutput (λ pieces. pieces ≡ lines)
       (record { written = k.written o.sink; after = k.written sink; faults = (k.faults o.sink, k.faults sink) }) e)
-      → Call f s k l o words (Pool job) is e files o.source sink
+      → Call f s k l p o words (Pool job) is e files o.source sink
   put_answers lines answers sink e h =
-      let w = found f s k l o words (Pool job) is files o.source sink in
-      put f s k l o words (Pool job) is files o.source sink (λ pieces. pieces ≡ lines)
+      let w = found f s k l p o words (Pool job) is files o.source sink in
+      put f s k l p o words (Pool job) is files o.source sink (λ pieces. pieces ≡ lines)
       (λ pieces are. subst (λ (ps : List (List ℕ)). IsPooled w job ps) (sym are)
-      (sharing_output w job is file events (contents_of f s k l o words (Pool job) is files names (file ∷ events ∷ []) same contents)
+      (sharing_output w job is file events (contents_of f s k l p o words (Pool job) is files names (file ∷ events ∷ []) same contents)
       (none_since (s.history o.source)) lines answers))
       e h

@@ -5,6 +5,7 @@ use Rattle.rate_io.specs.declared.files.Files.{Ghosts as FilesMeaning}
 use Rattle.rate_io.specs.declared.source.Source.{Ghosts as SourceMeaning}
 use Rattle.rate_io.specs.declared.sink.Sink.{Ghosts as SinkMeaning}
 use Rattle.rate_io.specs.declared.listen.Listen.{Ghosts as ListenMeaning}
+use Rattle.conn_tasks.specs.declared.poll_listen.PollListen.{Ghosts as PollListenMeaning}
 use Rattle.command_words.specs.Words.{command_of}
 use Rattle.command_words.specs.declared.command.Command.TheVariants.{Quota}
 use Rattle.command_words.specs.declared.command.QuotaJob.{QuotaJob}
@@ -51,27 +52,27 @@ module _ (w : World) (job : QuotaJob) (is : command_of w.words ≡ Some (Quota j
   }
 
 -- its settings file and its streams were read
-module _ {F S K L N : Type 0} (f : FilesMeaning F) (s : SourceMeaning S) (k : SinkMeaning K) (l : ListenMeaning L N)
-    (o : Outside F S K L) (words : List (List ℕ)) (job : QuotaJob) (is : command_of words ≡ Some (Quota job))
+module _ {F S K L P N M : Type 0} (f : FilesMeaning F) (s : SourceMeaning S) (k : SinkMeaning K)
+    (l : ListenMeaning L N) (p : PollListenMeaning P M) (o : Outside F S K L P) (words : List (List ℕ)) (job : QuotaJob) (is : command_of words ≡ Some (Quota job))
     (files : F) (names : List AskedFile) (file : List ℕ) (streams : List (List ℕ)) (same : names ≡ files_of (Quota job))
     (contents : Grew (f.history o.files) (f.history files) (λ calls. AreFilesOf (f.content o.files) names calls (file ∷ streams))) where
   -- the settings are refused, or a stream is too long
-  pub no_replay : (e : Exit) → IsOfReplay file streams e → Call f s k l o words (Quota job) is e files o.source o.sink
+  pub no_replay : (e : Exit) → IsOfReplay file streams e → Call f s k l p o words (Quota job) is e files o.source o.sink
   no_replay e h =
-      plain f s k l o words (Quota job) is e files o.source o.sink
-      (explain_replay (found f s k l o words (Quota job) is files o.source o.sink) job is file streams
-      (contents_of f s k l o words (Quota job) is files names (file ∷ streams) same contents) (none_since (s.history o.source))
+      plain f s k l p o words (Quota job) is e files o.source o.sink
+      (explain_replay (found f s k l p o words (Quota job) is files o.source o.sink) job is file streams
+      (contents_of f s k l p o words (Quota job) is files names (file ∷ streams) same contents) (none_since (s.history o.source))
       (none_since (k.history o.sink), refl) e h)
 
   -- the outputs were written, or the first of their lines
   pub put_replay : (lines : List (List ℕ)) → Replays file streams lines → (sink : K) (e : Exit)
       → Grew (k.history o.sink) (k.history sink) (IsOfOutput (λ pieces. pieces ≡ lines)
       (record { written = k.written o.sink; after = k.written sink; faults = (k.faults o.sink, k.faults sink) }) e)
-      → Call f s k l o words (Quota job) is e files o.source sink
+      → Call f s k l p o words (Quota job) is e files o.source sink
   put_replay lines replays sink e h =
-      let w = found f s k l o words (Quota job) is files o.source sink in
-      put f s k l o words (Quota job) is files o.source sink (λ pieces. pieces ≡ lines)
+      let w = found f s k l p o words (Quota job) is files o.source sink in
+      put f s k l p o words (Quota job) is files o.source sink (λ pieces. pieces ≡ lines)
       (λ pieces are. subst (λ (ps : List (List ℕ)). IsReplayed w job ps) (sym are)
-      (replay_output w job is file streams (contents_of f s k l o words (Quota job) is files names (file ∷ streams) same contents)
+      (replay_output w job is file streams (contents_of f s k l p o words (Quota job) is files names (file ∷ streams) same contents)
       (none_since (s.history o.source)) lines replays))
       e h

@@ -7,6 +7,7 @@ use Rattle.rate_io.specs.declared.files.Files.{Ghosts as FilesMeaning}
 use Rattle.rate_io.specs.declared.source.Source.{Ghosts as SourceMeaning}
 use Rattle.rate_io.specs.declared.sink.Sink.{Ghosts as SinkMeaning}
 use Rattle.rate_io.specs.declared.listen.Listen.{Ghosts as ListenMeaning}
+use Rattle.conn_tasks.specs.declared.poll_listen.PollListen.{Ghosts as PollListenMeaning}
 use Rattle.descriptor_tree.specs.Trees.{DomainTree}
 use Rattle.config_json.specs.Reading.{reading_of}
 use Rattle.command_words.specs.Words.{command_of}
@@ -17,25 +18,25 @@ use Rattle.cli_exits.specs.Configured.{FilesSay, IsInput, HasRead}
 use Rattle.cli_exits.specs.Parts.{IsOfFiles, IsOfConfig, IsOfInput, IsOfOutput, Sinks}
 use Rattle.cli_exits.specs.declared.exit.Exit.{Exit}
 use Rattle.ratelimit_cli.specs.Exits.{IsFixed, IsOutput, Explains, ExplainsCall}
-use Rattle.ratelimit_cli.specs.Outside.{world_between, listening_between}
+use Rattle.ratelimit_cli.specs.Outside.{world_between, listeners_between}
 use Rattle.ratelimit_cli.specs.declared.outside.Outside.{Outside}
 use Rattle.cli_exits.proofs.Histories.{none_since, grew_since}
 use Rattle.ratelimit_cli.proofs.Explaining.{explain_files, explain_config, explain_input, explain_output}
 
-module _ {F S K L N : Type 0} (f : FilesMeaning F) (s : SourceMeaning S) (k : SinkMeaning K) (l : ListenMeaning L N)
-    (o : Outside F S K L) (words : List (List ℕ)) (command : Command) (is : command_of words ≡ Some command) where
+module _ {F S K L P N M : Type 0} (f : FilesMeaning F) (s : SourceMeaning S) (k : SinkMeaning K)
+    (l : ListenMeaning L N) (p : PollListenMeaning P M) (o : Outside F S K L P) (words : List (List ℕ)) (command : Command) (is : command_of words ≡ Some command) where
   -- what was found and done where these files, source and sink are there now
-  abbrev pub now : F → S → K → Outside F S K L
-  now files source sink = record { files = files; source = source; sink = sink; listen = o.listen }
+  abbrev pub now : F → S → K → Outside F S K L P
+  now files source sink = record { files = files; source = source; sink = sink; listen = o.listen; polls = o.polls }
 
   abbrev pub found : F → S → K → World
   found files source sink = world_between f s k words o (now files source sink)
 
   abbrev pub Call : Exit → F → S → K → Type 0
-  Call e files source sink = ExplainsCall e (found files source sink) (listening_between l o (now files source sink))
+  Call e files source sink = ExplainsCall e (found files source sink) (listeners_between l p o (now files source sink))
 
   pub plain : (e : Exit) (files : F) (source : S) (sink : K) → Explains e (found files source sink) → Call e files source sink
-  plain e files source sink h = inl (h, none_since (l.history o.listen))
+  plain e files source sink h = inl (h, (none_since (l.history o.listen), refl), (none_since (p.history o.polls), refl))
 
   abbrev pub file_calls : F → List FileEvent
   file_calls files = since (f.history o.files) (f.history files)

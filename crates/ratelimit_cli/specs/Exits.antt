@@ -20,7 +20,7 @@ use Rattle.cli_exits.specs.declared.exit.Exit.TheVariants.{OutOfMemory, ListenFa
 use Rattle.cli_exits.specs.World.{World, IsTooLong, HasLongFile, FileFails, AreWithin, NoFileAsked, NothingRead, NothingWritten, IsCommand, all_written, WroteUpTo}
 use Rattle.cli_exits.specs.Configured.{AreRefused, IsConfigured}
 use Rattle.ratelimit_cli.specs.Made.{IsMade}
-use Rattle.cli_serve.specs.Served.{Listening, NothingListened, has_listen_failed, ExplainsServe}
+use Rattle.cli_serve.specs.Served.{Listeners, NothingListened, used, unused, has_listen_failed, ExplainsServe}
 use Rattle.cli_quota.specs.Replayed.{IsSettingsRefused, HasLongStream, IsReplayed, AreReplayable}
 use Rattle.cli_drive.specs.Generated.{load_text}
 use Rattle.cli_audit.specs.Audited.{IsAudited}
@@ -95,12 +95,14 @@ Explains (SettingsRefused refused) w = (IsSettingsRefused w refused ⊎ ArePools
 Explains ListenFault w = ⊥
 Explains OutOfMemory w = (IsCommand w ⊎ (NoFileAsked w × NothingRead w)) × NothingWritten w
 
--- the same, where `serve` may have listened
-abbrev pub ExplainsCall : Exit → World → Listening → Type 0
-ExplainsCall exit w l = (Explains exit w × NothingListened l)
-    ⊎ ((job : ServeJob) × (command_of w.words ≡ Some (Threads (Serve job))) × ExplainsServe exit w l job)
+-- the same, where `serve` may have listened: at one of the listeners, and the other wasn't touched
+abbrev pub ExplainsCall : Exit → World → Listeners → Type 0
+ExplainsCall exit w l = (Explains exit w × NothingListened l.threads × NothingListened l.tasks)
+    ⊎ ((job : ServeJob) × (command_of w.words ≡ Some (Threads (Serve job))) × ExplainsServe exit w (used job.by l) job
+    × NothingListened (unused job.by l))
 
 -- What the call answers: the exit's cause, and that it is Done, or want of memory, where there is no other cause.
-pub record IsExitOf (exit : Exit) (w : World) (l : Listening) : Type 0 where
+pub record IsExitOf (exit : Exit) (w : World) (l : Listeners) : Type 0 where
   pub cause : ExplainsCall exit w l
-  pub complete : HasNoCause w → has_listen_failed l.listens ≡ false → (exit ≡ Done) ⊎ (exit ≡ OutOfMemory)
+  pub complete : HasNoCause w → has_listen_failed l.threads.listens ≡ false → (Rose l.tasks.faults.0 l.tasks.faults.1 → ⊥)
+      → (exit ≡ Done) ⊎ (exit ≡ OutOfMemory)

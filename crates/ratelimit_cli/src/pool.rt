@@ -9,6 +9,7 @@ use crate::Outside;
 use cli_exits::{Exit, read_files};
 use cli_quota::{answered, write_answers};
 use command_words::PoolJob;
+use conn_tasks::PollListen;
 use rate_io::{Files, Listen, Sink, Source};
 use rate_types::{Blob, Blobs, Names, OutOfMemory};
 use std::alloc::Global;
@@ -38,14 +39,14 @@ fn both_of(files: Blobs) -> (Blob, Blob)
 
 /// Answers the events of a job by its pools, writes a line for each of their lines, each by one call, and then flushes. Both files
 /// are read and all answers made first.
-pub fn run_pool<F: Files, S: Source, K: Sink, L: Listen>(
+pub fn run_pool<F: Files, S: Source, K: Sink, L: Listen, P: PollListen>(
     alloc: Global,
     seed: &RandomState,
     job: PoolJob,
-    outside: &mut Outside<F, S, K, L>,
+    outside: &mut Outside<F, S, K, L, P>,
 ) -> Result<(), Exit>
-    ensures exit { ExplainsCommand F.Files S.Source K.Sink L.Listen (Pool job) (exit_of result) outside.old outside.new }
-    ensures later { IsLater F.Files S.Source K.Sink L.Listen outside.old outside.new }
+    ensures exit { ExplainsCommand F.Files S.Source K.Sink L.Listen P.PollListen (Pool job) (exit_of result) outside.old outside.new }
+    ensures later { IsLater F.Files S.Source K.Sink L.Listen P.PollListen outside.old outside.new }
 {
     let Ok(names) = file_names(alloc, job) else {
         return Err(Exit::OutOfMemory);

@@ -9,6 +9,7 @@ use crate::Outside;
 use cli_exits::{Exit, read_files};
 use cli_quota::{replayed, write_texts};
 use command_words::QuotaJob;
+use conn_tasks::PollListen;
 use rate_io::{Files, Listen, Sink, Source};
 use rate_types::{Blob, Blobs, Names, OutOfMemory, Word};
 use std::alloc::Global;
@@ -36,15 +37,15 @@ fn first_of(files: Blobs) -> (Blob, Blobs)
 
 /// Replays the streams of a job by its settings file, and writes the output of each in the order of the streams, line by
 /// line, each line by one call, and then flushes. All files are read first. The hashes of buckets' names go by `seed`.
-pub fn run_quota<R: Threads + Sync, F: Files, S: Source, K: Sink, L: Listen>(
+pub fn run_quota<R: Threads + Sync, F: Files, S: Source, K: Sink, L: Listen, P: PollListen>(
     rt: &R,
     alloc: Global,
     seed: RandomState,
     job: QuotaJob,
-    outside: &mut Outside<F, S, K, L>,
+    outside: &mut Outside<F, S, K, L, P>,
 ) -> Result<(), Exit>
-    ensures exit { ExplainsCommand F.Files S.Source K.Sink L.Listen (Quota job) (exit_of result) outside.old outside.new }
-    ensures later { IsLater F.Files S.Source K.Sink L.Listen outside.old outside.new }
+    ensures exit { ExplainsCommand F.Files S.Source K.Sink L.Listen P.PollListen (Quota job) (exit_of result) outside.old outside.new }
+    ensures later { IsLater F.Files S.Source K.Sink L.Listen P.PollListen outside.old outside.new }
 {
     let QuotaJob {
         settings,

@@ -9,8 +9,9 @@ ghost use Rattle.command_words.specs.declared.command.ThreadJob.TheVariants.{Ser
 
 use crate::Outside;
 use cli_exits::{Exit, configuration, read_files};
-use cli_serve::listen_and_serve;
-use command_words::ServeJob;
+use cli_serve::{listen_and_serve, poll_and_serve};
+use command_words::{ServeBy, ServeJob};
+use conn_tasks::PollListen;
 use rate_io::{Files, Listen, Sink, Source};
 use std::alloc::Global;
 use std::hash::RandomState;
@@ -18,20 +19,22 @@ use std::sync::Wait;
 use std::thread::Threads;
 
 /// Serves the connections of a job by the configuration of its files, all of which are read first: has the port, writes it and flushes,
-/// accepts the connections and serves each once, writes how each ended, line by line, each line by one call, and flushes.
-pub fn run_serve<R: Threads + Wait + Sync, F: Files, S: Source, K: Sink, L: Listen>(
+/// accepts the connections and serves each once, by threads or by tasks on this one, writes how each ended, line by line, each line by
+/// one call, and flushes.
+pub fn run_serve<R: Threads + Wait + Sync, F: Files, S: Source, K: Sink, L: Listen, P: PollListen>(
     rt: &R,
     alloc: Global,
     seed: RandomState,
     job: ServeJob,
-    outside: &mut Outside<F, S, K, L>,
+    outside: &mut Outside<F, S, K, L, P>,
 ) -> Result<(), Exit>
 where
     L::Link: Send,
     requires range { AreInRange (Threads (Serve job)) }
-    requires unused { IsUnused (L.history outside.old.listen) }
-    ensures exit { ExplainsCommand F.Files S.Source K.Sink L.Listen (Threads (Serve job)) (exit_of result) outside.old outside.new }
-    ensures later { IsLater F.Files S.Source K.Sink L.Listen outside.old outside.new }
+    requires unused { IsUnused (L.history outside.old.listen) × IsUnused (P.history outside.old.polls) }
+    ensures exit { ExplainsCommand F.Files S.Source K.Sink L.Listen P.PollListen (Threads (Serve job)) (exit_of result)
+        outside.old outside.new }
+    ensures later { IsLater F.Files S.Source K.Sink L.Listen P.PollListen outside.old outside.new }
 {
     let blobs = match read_files(alloc, &mut outside.files, job.configs.items()) {
         Ok(blobs) => blobs,
@@ -41,13 +44,26 @@ where
         Ok(config) => config,
         Err(exit) => return Err(exit),
     };
-    listen_and_serve(
-        rt,
-        alloc,
-        seed,
-        config,
-        &job,
-        &mut outside.sink,
-        &mut outside.listen,
-    )
+    match job.by {
+        ServeBy::Workers(workers) => listen_and_serve(
+            rt,
+            alloc,
+            seed,
+            config,
+            &job,
+            workers,
+            &mut outside.sink,
+            &mut outside.listen,
+        ),
+        ServeBy::Tasks(tasks) => poll_and_serve(
+            rt,
+            alloc,
+            seed,
+            config,
+            &job,
+            tasks,
+            &mut outside.sink,
+            &mut outside.polls,
+        ),
+    }
 }

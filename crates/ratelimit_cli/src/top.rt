@@ -6,7 +6,7 @@ ghost use Rattle.http_serve.specs.Links.{IsUnused};
 ghost use Rattle.text_lines.specs.Lines.{cut};
 ghost use Rattle.cli_exits.specs.World.{exit_of};
 ghost use Rattle.ratelimit_cli.specs.Exits.{ExplainsCall, IsExitOf};
-ghost use Rattle.ratelimit_cli.specs.Outside.{world_between, listening_between, IsLater};
+ghost use Rattle.ratelimit_cli.specs.Outside.{world_between, listeners_between, IsLater};
 ghost use Rattle.ratelimit_cli.specs.Parts.{command_with, ExplainsCommand, IsOfWork};
 ghost use Rattle.cli_exits.specs.Parts.{IsOfOutput};
 
@@ -20,6 +20,7 @@ use cli_drive::{drive_and_write, run_gen};
 use cli_exits::{Exit, configuration, read_files, read_input, write_text};
 use cli_lookup::find_and_write;
 use command_words::{Command, HELP, ThreadJob, VERSION, WordsFault, read_words};
+use conn_tasks::PollListen;
 use descriptor_tree::Config;
 use drive_run::Setup;
 use rate_io::{Files, Listen, Sink, Source};
@@ -56,16 +57,25 @@ fn make_and_write<R: Threads + Wait + Sync, K: Sink, G: Gate>(
 }
 
 // Does this work by the configuration files of these names: the steps in their order, up to the first that fails.
-fn run_work<R: Threads + Wait + Sync, F: Files, S: Source, K: Sink, L: Listen, G: Gate>(
+fn run_work<
+    R: Threads + Wait + Sync,
+    F: Files,
+    S: Source,
+    K: Sink,
+    L: Listen,
+    P: PollListen,
+    G: Gate,
+>(
     rt: &R,
     alloc: Global,
     configs: &Names,
     work: Work,
-    outside: &mut Outside<F, S, K, L>,
+    outside: &mut Outside<F, S, K, L, P>,
     gate: &G,
 ) -> Result<(), Exit>
-    ensures exit { ExplainsCommand F.Files S.Source K.Sink L.Listen (command_with configs.now work) (exit_of result) outside.old outside.new }
-    ensures later { IsLater F.Files S.Source K.Sink L.Listen outside.old outside.new }
+    ensures exit { ExplainsCommand F.Files S.Source K.Sink L.Listen P.PollListen (command_with configs.now work) (exit_of result)
+        outside.old outside.new }
+    ensures later { IsLater F.Files S.Source K.Sink L.Listen P.PollListen outside.old outside.new }
 {
     let blobs = match read_files(alloc, &mut outside.files, configs.items()) {
         Ok(blobs) => blobs,
@@ -104,20 +114,28 @@ fn setup_of(
 
 // Does the command that the words name.
 #[tactic(auto, using(cli_exits::proofs::Histories::stays))]
-fn run_command<R: Threads + Wait + Sync, F: Files, S: Source, K: Sink, L: Listen, G: Gate>(
+fn run_command<
+    R: Threads + Wait + Sync,
+    F: Files,
+    S: Source,
+    K: Sink,
+    L: Listen,
+    P: PollListen,
+    G: Gate,
+>(
     rt: &R,
     alloc: Global,
     seed: RandomState,
     words: &Names,
-    outside: &mut Outside<F, S, K, L>,
+    outside: &mut Outside<F, S, K, L, P>,
     gate: &G,
 ) -> Result<(), Exit>
 where
     L::Link: Send,
-    requires unused { IsUnused (L.history outside.old.listen) }
+    requires unused { IsUnused (L.history outside.old.listen) × IsUnused (P.history outside.old.polls) }
     ensures exit { ExplainsCall (exit_of result) (world_between F.Files S.Source K.Sink words.now outside.old outside.new)
-        (listening_between L.Listen outside.old outside.new) }
-    ensures later { IsLater F.Files S.Source K.Sink L.Listen outside.old outside.new }
+        (listeners_between L.Listen P.PollListen outside.old outside.new) }
+    ensures later { IsLater F.Files S.Source K.Sink L.Listen P.PollListen outside.old outside.new }
 {
     match read_words(alloc, words) {
         Ok(Command::Plain(configs)) => {
@@ -174,20 +192,28 @@ where
 ///
 /// The order of work is: the words, the files in order, the first refusal of a file, the input, the numbers of lines, the
 /// run or the look-ups, the output. Each exit comes where its cause is the first.
-pub fn ratelimit<R: Threads + Wait + Sync, F: Files, S: Source, K: Sink, L: Listen, G: Gate>(
+pub fn ratelimit<
+    R: Threads + Wait + Sync,
+    F: Files,
+    S: Source,
+    K: Sink,
+    L: Listen,
+    P: PollListen,
+    G: Gate,
+>(
     rt: &R,
     alloc: Global,
     seed: RandomState,
     words: &Names,
-    outside: &mut Outside<F, S, K, L>,
+    outside: &mut Outside<F, S, K, L, P>,
     gate: &G,
 ) -> Exit
 where
     L::Link: Send,
-    requires unused { IsUnused (L.history outside.old.listen) }
+    requires unused { IsUnused (L.history outside.old.listen) × IsUnused (P.history outside.old.polls) }
     ensures exit { IsExitOf result (world_between F.Files S.Source K.Sink words.now outside.old outside.new)
-        (listening_between L.Listen outside.old outside.new) }
-    ensures later { IsLater F.Files S.Source K.Sink L.Listen outside.old outside.new }
+        (listeners_between L.Listen P.PollListen outside.old outside.new) }
+    ensures later { IsLater F.Files S.Source K.Sink L.Listen P.PollListen outside.old outside.new }
 {
     match run_command(rt, alloc, seed, words, outside, gate) {
         Ok(()) => Exit::Done,

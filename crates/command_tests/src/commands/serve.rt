@@ -1,5 +1,5 @@
 // `serve`: connections in memory, and what is written to each.
-use super::{A, NONE, numbers, outside_of, said_over};
+use super::{A, NONE, no_polls, numbers, outside_of, said_over};
 use rate_io::{MemLink, MemListen};
 use rate_types::Seconds;
 use std::alloc::Global;
@@ -17,7 +17,8 @@ pub const HEALTH: &str = "GET /healthcheck HTTP/1.1\r\n\r\n";
 pub const HEALTHY: &str =
     "HTTP/1.1 200 OK\r\nContent-Type: text/plain\r\nContent-Length: 2\r\n\r\nOK";
 
-const CHECK_A: &str =
+/// A check of a counter with a limit of 2.
+pub const CHECK_A: &str =
     "POST /json HTTP/1.1\r\nContent-Length: 68\r\n\r\n{\"domain\":\"d\",\"descriptors\":[{\"entries\":[{\"key\":\"k\",\"value\":\"a\"}]}]}";
 
 const CHECK_B: &str =
@@ -30,18 +31,18 @@ const CUT: &str =
 const CHUNKED: &str = "POST /json HTTP/1.1\r\nTransfer-Encoding: chunked\r\n\r\n\
     {\"domain\":\"d\",\"descriptors\":[{\"entries\":[{\"key\":\"k\",\"value\":\"a\"}]}]}";
 
-// The answers to three checks of one counter, at 65.
-const FIRST: &str =
+/// The answers to three checks of one counter, at 65.
+pub const FIRST: &str =
     "HTTP/1.1 200 OK\r\nContent-Type: application/json\r\nContent-Length: 146\r\n\r\n\
     {\"overallCode\":\"OK\",\"statuses\":[{\"code\":\"OK\",\"currentLimit\":{\"requestsPerUnit\":2,\"unit\":\"MINUTE\"},\
     \"durationUntilReset\":\"55s\",\"limitRemaining\":1}]}";
 
-const SECOND: &str =
+pub const SECOND: &str =
     "HTTP/1.1 200 OK\r\nContent-Type: application/json\r\nContent-Length: 127\r\n\r\n\
     {\"overallCode\":\"OK\",\"statuses\":[{\"code\":\"OK\",\"currentLimit\":{\"requestsPerUnit\":2,\"unit\":\"MINUTE\"},\
     \"durationUntilReset\":\"55s\"}]}";
 
-const THIRD: &str =
+pub const THIRD: &str =
     "HTTP/1.1 429 Too Many Requests\r\nContent-Type: application/json\r\nContent-Length: 143\r\n\r\n\
     {\"overallCode\":\"OVER_LIMIT\",\"statuses\":[{\"code\":\"OVER_LIMIT\",\"currentLimit\":{\"requestsPerUnit\":2,\"unit\":\
     \"MINUTE\"},\"durationUntilReset\":\"55s\"}]}";
@@ -65,11 +66,11 @@ const NOT_POST: &str =
 const NOT_POST_FOR_HEAD: &str =
     "HTTP/1.1 405 Method Not Allowed\r\nContent-Type: text/plain\r\nContent-Length: 18\r\nAllow: POST\r\n\r\n";
 
-// What `serve` came to: its exit and its output, and what was written to each connection that came back.
+/// What `serve` came to: its exit and its output, and what was written to each connection that came back.
 #[derive(Drop)]
-struct Served {
-    said: String,
-    written: Vec<String>,
+pub struct Served {
+    pub said: String,
+    pub written: Vec<String>,
 }
 
 // Connections whose peers send these bytes, of which a read hands out at most 20.
@@ -87,8 +88,8 @@ fn links_of(alloc: Global, peers: &[&str]) -> Result<Vec<MemLink>, Fail> {
     Ok(links)
 }
 
-// What was written to a connection.
-fn written_to(alloc: Global, link: &MemLink) -> Result<String, Fail> {
+/// What was written to a connection.
+pub fn written_to(alloc: Global, link: &MemLink) -> Result<String, Fail> {
     let bytes = link.written().ok_or("no memory")?;
     Ok(String::from_str(alloc, str::from_utf8(bytes).unwrap_or("no UTF-8"))?)
 }
@@ -103,7 +104,7 @@ fn serve_peers<R: Threads + Wait + RandomSource + Sync>(
 ) -> Result<Served, Fail> {
     let links = links_of(alloc, peers)?;
     let listen = MemListen::new(alloc, links, numbers(alloc, failing)?)?;
-    let mut outside = outside_of(alloc, &[A], "", NONE, listen)?;
+    let mut outside = outside_of(alloc, &[A], "", NONE, listen, no_polls(alloc)?)?;
     let said = said_over(rt, alloc, words, &mut outside, &Open)?;
     let mut written = Vec::new(alloc);
     for number in 0..peers.len() {

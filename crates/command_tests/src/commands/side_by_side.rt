@@ -3,7 +3,7 @@ ghost use Rattle.std.specs.Prelude.{◌≡◌, [], IfOk};
 
 use super::serve::{HEALTH, HEALTHY};
 use super::workers::TURNS;
-use super::{A, NONE, outside_of, said_over};
+use super::{A, NONE, no_polls, outside_of, said_over};
 use rate_io::{Failed, Link, Listen, MemLink, MemListen};
 use rate_types::Seconds;
 use std::alloc::Global;
@@ -125,7 +125,7 @@ fn two_connections_are_served_side_by_side(rt: HostRuntime) -> Result<(), Fail> 
         is_first: true,
         turns: &turns,
     };
-    let mut outside = outside_of(alloc, &[A], "", NONE, listen)?;
+    let mut outside = outside_of(alloc, &[A], "", NONE, listen, no_polls(alloc)?)?;
     let words = ["serve", "--port=0", "--connections=2", "--workers=2", "a"];
     let said = said_over(&rt, alloc, &words, &mut outside, &Open)?;
     assert_eq!(rt;

@@ -3,17 +3,25 @@ use Rattle.descriptor_tree.specs.Views.{config_view}
 use Rattle.http_endpoint.specs.declared.link_end.LinkEnd.{LinkEnd}
 use Rattle.cli_exits.specs.World.{exit_of}
 use Rattle.cli_exits.specs.Parts.{Sinks, IsOfOutput}
-use Rattle.cli_serve.specs.Served.{limiter_of, end_lines}
-use Rattle.cli_serve.proofs.Serving.{served_from, ended_so}
+use Rattle.command_words.specs.Words.{IsByInRange}
+use Rattle.command_words.specs.declared.command.ServeBy.TheVariants.{Workers}
+use Rattle.cli_serve.specs.Served.{end_lines}
+use Rattle.cli_serve.proofs.Serving.{served_from, served_so, ended_so}
 use Rattle.cli_serve.proofs.serve.serve_and_end.Goals as goal
+
+pub serve_limited-requires-clause-range : goal.serve_limited-requires-clause-range
+serve_limited-requires-clause-range g c κs within =
+    let range = c.requires.range in
+    record { workers = subst IsByInRange c.requires.by range.0; cells = (range.1, range.2); few = range.3 }
 
 pub returns-in-Ok : goal.returns-in-Ok
 returns-in-Ok g c =
     let K = g.K.Sink in
     let L = g.L.Listen in
+    let config = config_view c.args.config in
+    let job = c.args.job.now in
     let served = c.in-Ok.ensures in
-    let from = served_from (config_view c.args.config) (limiter_of c.args.job.now) (L.history c.args.listen.now)
-    (L.history c.serve_limited.new.listen) served.0 true served.2 in
+    let from = served_from c.args.workers config job (L.history c.args.listen.now) (L.history c.serve_limited.new.listen) served.0 true served.2 in
     let output = c.write_ends.ensures in
     let s : Sinks = record {
       written = K.written c.args.sink.now;
@@ -25,8 +33,8 @@ returns-in-Ok g c =
       listened = from.grew;
       writes = output.events;
       wrote = output.grew;
-      ends = ended_so (config_view c.args.config) c.args.job.now
-          (L.faults c.args.listen.now, L.faults c.serve_limited.new.listen) s from.more output.events served.0 (exit_of c.write_ends.result)
-          served.1 from.served (subst (λ (es : List LinkEnd). IsOfOutput (λ pieces. pieces ≡ end_lines 0 es) s (exit_of c.write_ends.result) output.events)
+      ends = ended_so config job (L.faults c.args.listen.now, L.faults c.serve_limited.new.listen) s from.more output.events served.0
+          (exit_of c.write_ends.result) served.1 (served_so (Workers c.args.workers) config job from.more served.0 true c.requires.by from.served)
+          (subst (λ (es : List LinkEnd). IsOfOutput (λ pieces. pieces ≡ end_lines 0 es) s (exit_of c.write_ends.result) output.events)
           (c.deref.ensures.value ∙ served.3) output.are);
     }

@@ -13,7 +13,7 @@ use Rattle.ratelimit_cli.proofs.top.run_command.Goals as goal
 -- the help was written
 pub returns-in-Ok-Help-clause-exit : goal.returns-in-Ok-Help-clause-exit
 returns-in-Ok-Help-clause-exit g c =
-    put_fixed g.F.Files g.S.Source g.K.Sink g.L.Listen c.args.outside.now c.args.words.now Help
+    put_fixed g.F.Files g.S.Source g.K.Sink g.L.Listen g.P.PollListen c.args.outside.now c.args.words.now Help
     (c.in-Ok-Help.ensures.command ∙ ap Some c.in-Ok-Help.field-0-is) HELP.now c.write_text.new.sink (λ pieces fixed. fixed)
     (exit_of c.write_text.result) c.write_text.ensures
 
@@ -25,5 +25,5 @@ returns-in-Ok-Threads-Gen-clause-exit g c =
     let command : Command = Threads (Gen number checks) in
     let named : command_of c.args.words.now ≡ Some command =
     c.in-Ok-Threads-Gen.ensures.command ∙ ap Some c.in-Ok-Threads-Gen.field-0-is ∙ ap (λ (j : ThreadJob). Some (Threads j)) c.in-Ok-Threads-Gen.field-0-0-is in
-    put_fixed g.F.Files g.S.Source g.K.Sink g.L.Listen c.args.outside.now c.args.words.now command named (load_text number checks)
+    put_fixed g.F.Files g.S.Source g.K.Sink g.L.Listen g.P.PollListen c.args.outside.now c.args.words.now command named (load_text number checks)
     c.run_gen.new.sink (λ pieces fixed. fixed) (exit_of c.run_gen.result) c.run_gen.ensures

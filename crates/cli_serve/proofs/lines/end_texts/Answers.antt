@@ -3,7 +3,7 @@ use Rattle.std.proofs.lemmas.List.{take_more, map-append}
 use Rattle.std.specs.declared.alloc.Global.{Global}
 use Rattle.cli_serve.specs.Served.{end_lines}
 use Rattle.cli_serve.proofs.Serving.{end_lines_push, length_front}
-use Rattle.cli_serve.proofs.serve.end_texts.Goals as goal
+use Rattle.cli_serve.proofs.lines.end_texts.Goals as goal
 
 abbrev texts_of : List (String Global) → List (List ℕ)
 texts_of ts = map (λ t. string_bytes t) ts

@@ -1,6 +1,6 @@
 use Rattle.std.proofs.Common.{◌≡◌, map, take, string_bytes}
 use Rattle.cli_serve.specs.Served.{end_lines}
-use Rattle.cli_serve.proofs.serve.end_texts.Given as goal
+use Rattle.cli_serve.proofs.lines.end_texts.Given as goal
 
 abbrev pub invariant-ends : goal.invariant-ends
 invariant-ends l = record {
