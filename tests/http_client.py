@@ -4,6 +4,8 @@ raw PORT             sends standard input, ends its side, and prints what comes 
 beside PORT N        N connections that are open at once ask for the health check; prints how many are answered 200
 idle PORT K N        K connections are kept open and ask nothing, while N others, one after the other, ask for the health check, each within
                      5 seconds; then each of the K asks too. Prints how many of the N and of the K are answered 200
+silent PORT K N M    K connections are kept open and ask nothing, while N others, all open at once, make a check in turn, M times each; then
+                     each of the K asks for the health check. Prints how many of the checks and of the K are answered 200
 many PORT N M        N connections ask M times each on one key, in pieces of 100; prints how many answers are 200
 cut PORT             a health check and a check are sent on connections of their own, cut after each of their bytes; prints how many
                      connections got so many answers, none, one and two
@@ -53,6 +55,23 @@ def idle(port, kept, count):
         with socket.create_connection(("127.0.0.1", port), 5) as link:
             link.sendall(HEALTH)
             answered += read_all(link).startswith(b"HTTP/1.1 200 ")
+    for link in links:
+        link.sendall(HEALTH)
+    print(answered, sum(read_all(link).startswith(b"HTTP/1.1 200 ") for link in links))
+
+
+def silent(port, kept, count, times):
+    links = [connected(port) for _ in range(kept)]
+    others = [connected(port) for _ in range(count)]
+    files = [link.makefile("rb") for link in others]
+    answered = 0
+    for _ in range(times):
+        for link in others:
+            link.sendall(CHECK)
+        answered += sum(read_answer(file) == 200 for file in files)
+    for file, link in zip(files, others):
+        file.close()
+        link.close()
     for link in links:
         link.sendall(HEALTH)
     print(answered, sum(read_all(link).startswith(b"HTTP/1.1 200 ") for link in links))
@@ -126,4 +145,4 @@ def many(port, count, times):
 
 
 if __name__ == "__main__":
-    {"raw": raw, "beside": beside, "idle": idle, "many": many, "cut": cut, "window": window}[sys.argv[1]](*map(int, sys.argv[2:]))
+    {"raw": raw, "beside": beside, "idle": idle, "silent": silent, "many": many, "cut": cut, "window": window}[sys.argv[1]](*map(int, sys.argv[2:]))
