@@ -167,7 +167,7 @@ set terminal pngcairo size 700,480 font 'Helvetica,11'
 set output '$PICTURE'
 set logscale x 2
 set grid
-set key right top
+set key left top
 set datafile missing '-'
 set xlabel 'kept connections'
 set ylabel 'microseconds of the processor a request'
