@@ -9,12 +9,13 @@ use Rattle.http_front.specs.Part.{Stands}
 use Rattle.http_front.specs.declared.front.Front.TheVariants.{Ended, CutShort}
 use Rattle.http_endpoint.specs.Answers.{answers_max, Asked, Turn, IsTurn, IsNext, turn_bytes, asked_in}
 use Rattle.http_endpoint.specs.Order.{told_for, OffersWithin}
+use Rattle.http_endpoint.specs.declared.link_end.LinkCause.{LinkCause}
 use Rattle.http_endpoint.specs.declared.link_end.LinkCause.TheVariants as cause
 use Rattle.http_endpoint.proofs.ReadLemmas.{unfailed-append, write_failed-append, rose_earlier, stays_more}
 use Rattle.http_endpoint.proofs.LinkLemmas.{answers_are, next_of, appends_more, one_more}
 use Rattle.conn_tasks.specs.Order.{bytes_written}
 use Rattle.conn_tasks.specs.SoFar.{SoFar, Sends, FailsToSend, HasEnded, HasFailed}
-use Rattle.conn_tasks.specs.Tasks.{HasWritten, TaskServed}
+use Rattle.conn_tasks.specs.Tasks.{HasWritten, TaskEndsBy, TaskServed}
 use Rattle.conn_tasks.proofs.Orders.{given_sent, given_up_to, written_sent, written_up_to, unfailed_sent, written-append, history_on}
 use Rattle.conn_tasks.proofs.SoFars.{left_same, answered_same, written_on}
 
@@ -96,62 +97,39 @@ served_failed first b c asked turns rest t count s w stands turn is asked_is =
       stays = stays_more first b c s.stays w.stays;
     }
 
+-- no answer is begun
+none_begun : (first now : LinkState) (asked : List Asked) (turns : List Turn) (rest : List ℕ) (count : ℕ) (why : LinkCause)
+    → (s : SoFar first now turns rest) → asked ≡ asked_in turns → TaskEndsBy why first now s.events turns None rest count
+    → TaskServed first asked now why count
+none_begun first now asked turns rest count why s asked_is ends = record {
+  events = s.events;
+  turns = turns;
+  last = None;
+  rest = rest;
+  history = s.history;
+  are_answers = answers_are 0 (given s.events) turns rest s.answered;
+  is_next = tt;
+  in_order = s.calls;
+  asked_is = asked_is ∙ ap asked_in (sym (append-nil turns));
+  ends = ends;
+  left = s.left;
+  stays = s.stays;
+}
+
 -- between two requests
 pub served_ended : (first now : LinkState) (asked : List Asked) (turns : List Turn) (rest : List ℕ) (count : ℕ)
     → HasEnded first now turns rest → IsFront rest Ended → count ≡ length turns → asked ≡ asked_in turns → TaskServed first asked now cause.Ended count
 served_ended first now asked turns rest count e front is asked_is =
-    let s = e.so_far in
-    record {
-      events = s.events;
-      turns = turns;
-      last = None;
-      rest = rest;
-      history = s.history;
-      are_answers = answers_are 0 (given s.events) turns rest s.answered;
-      is_next = tt;
-      in_order = s.calls;
-      asked_is = asked_is ∙ ap asked_in (sym (append-nil turns));
-      ends = (refl, front, e.end.ended, e.end.empty, has_written first now turns rest s, is);
-      left = s.left;
-      stays = s.stays;
-    }
+    none_begun first now asked turns rest count cause.Ended e.so_far asked_is (refl, front, e.end.ended, e.end.empty, has_written first now turns rest e.so_far, is)
 
 -- inside a request
 pub served_cut : (first now : LinkState) (asked : List Asked) (turns : List Turn) (rest : List ℕ) (count : ℕ)
     → HasEnded first now turns rest → IsFront rest CutShort → count ≡ length turns → asked ≡ asked_in turns → TaskServed first asked now cause.CutShort count
 served_cut first now asked turns rest count e front is asked_is =
-    let s = e.so_far in
-    record {
-      events = s.events;
-      turns = turns;
-      last = None;
-      rest = rest;
-      history = s.history;
-      are_answers = answers_are 0 (given s.events) turns rest s.answered;
-      is_next = tt;
-      in_order = s.calls;
-      asked_is = asked_is ∙ ap asked_in (sym (append-nil turns));
-      ends = (refl, front, e.end.ended, e.end.empty, has_written first now turns rest s, is);
-      left = s.left;
-      stays = s.stays;
-    }
+    none_begun first now asked turns rest count cause.CutShort e.so_far asked_is (refl, front, e.end.ended, e.end.empty, has_written first now turns rest e.so_far, is)
 
 -- in a read that failed
 pub served_read_fault : (first now : LinkState) (asked : List Asked) (turns : List Turn) (rest : List ℕ) (count : ℕ)
     → HasFailed first now turns rest → count ≡ length turns → asked ≡ asked_in turns → TaskServed first asked now cause.ReadFault count
 served_read_fault first now asked turns rest count e is asked_is =
-    let s = e.so_far in
-    record {
-      events = s.events;
-      turns = turns;
-      last = None;
-      rest = rest;
-      history = s.history;
-      are_answers = answers_are 0 (given s.events) turns rest s.answered;
-      is_next = tt;
-      in_order = s.calls;
-      asked_is = asked_is ∙ ap asked_in (sym (append-nil turns));
-      ends = (refl, e.fault.failed, e.fault.rose, has_written first now turns rest s, is);
-      left = s.left;
-      stays = s.stays;
-    }
+    none_begun first now asked turns rest count cause.ReadFault e.so_far asked_is (refl, e.fault.failed, e.fault.rose, has_written first now turns rest e.so_far, is)

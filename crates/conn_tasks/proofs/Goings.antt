@@ -1,6 +1,6 @@
 -- A task goes on.
 use Rattle.std.specs.Prelude.{option_to_list}
-use Rattle.std.proofs.Common.{◌≡◌, ℕ, ◌+◌, ◌==◌, ◌≤◌, false, List, [], ◌∷◌, ◌++◌, length, take, drop, Option, sym, ap, ◌∙◌, subst, append-nil}
+use Rattle.std.proofs.Common.{◌≡◌, ℕ, ◌+◌, ◌==◌, ◌≤◌, false, List, [], ◌∷◌, ◌++◌, length, take, drop, Option, refl, sym, ap, ◌∙◌, subst, append-nil, arith}
 use Rattle.rate_io.specs.Links.{LinkState}
 use Rattle.http_front.specs.Front.{used_of}
 use Rattle.http_front.specs.Part.{Stands}
@@ -10,15 +10,18 @@ use Rattle.http_endpoint.specs.Printing.{printed_closes}
 use Rattle.http_endpoint.specs.Steps.{Tells}
 use Rattle.http_endpoint.proofs.ReadLemmas.{rose_earlier}
 use Rattle.http_endpoint.proofs.LinkLemmas.{one_more}
+use Rattle.conn_tasks.specs.Polls.{PollState}
 use Rattle.conn_tasks.specs.Reading.{Holds}
 use Rattle.conn_tasks.specs.SoFar.{SoFar, Sends}
 use Rattle.conn_tasks.specs.State.{TaskState}
 use Rattle.conn_tasks.specs.Tasks.{IsOn, Goes, IsReading, IsWriting, Steps}
+use Rattle.http_endpoint.specs.declared.turn.Printed.TheVariants.{Text}
+use Rattle.conn_tasks.specs.declared.reading.Awaited.TheVariants.{Head}
 use Rattle.conn_tasks.specs.declared.conn.Mode.{Mode}
 use Rattle.conn_tasks.specs.declared.conn.Mode.TheVariants.{Reading, Writing}
 use Rattle.conn_tasks.specs.declared.conn.Step.{Step}
 use Rattle.conn_tasks.specs.declared.conn.Step.TheVariants as step
-use Rattle.conn_tasks.proofs.SoFars.{sends_first}
+use Rattle.conn_tasks.proofs.SoFars.{sends_first, so_first}
 use Rattle.conn_tasks.proofs.Turns.{Printing}
 
 -- the checks of one answer more
@@ -48,6 +51,7 @@ starts_writing first mid asked s turns rest front one so_far tells stands p none
   stands = subst (λ (f : Front). Stands rest f) (sym p.front_is) stands;
   turn = p.turn;
   prints = p.prints;
+  within = omega (arith, none);
   closes = closes ∙ p.prints.closes;
   behind = λ still. subst (λ (f : Front). Holds (drop (used_of f) rest) s.awaited s.kept) (sym p.front_is) (behind (p.prints.closes ∙ still));
   count = count;
@@ -68,3 +72,20 @@ steps_earlier first asked old mid new step.On later x = x
 steps_earlier first asked old mid new step.Wait later x = (x.0, rose_earlier old mid new.link.waits later x.1)
 steps_earlier first asked old mid new (step.Check request now) later x = x
 steps_earlier first asked old mid new (step.End link_end) later x = x
+
+-- a link of which nothing was read or written yet
+abbrev pub unused : PollState → TaskState
+unused l = record {
+  link = l;
+  mode = Reading;
+  answers = 0;
+  closes = false;
+  awaited = Head;
+  kept = [];
+  printed = Text false;
+  out = [];
+  sent = 0;
+}
+
+pub starts : (l : PollState) → IsOn l.link [] (unused l)
+starts l = record { turns = []; rest = []; so_far = so_first l.link; holds = refl; count = refl; last = refl; asked_is = refl }

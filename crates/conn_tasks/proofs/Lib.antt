@@ -2,6 +2,8 @@ pub mod Turns
 pub mod Pieces
 pub mod Orders
 pub mod SoFars
+pub mod Lawfuls
 pub mod Held
 pub mod Ends
 pub mod Goings
+pub mod Rooms

@@ -1,6 +1,7 @@
 pub mod Polls
 pub mod Listening
 pub mod Order
+pub mod Lawful
 pub mod State
 pub mod Tasks
 pub mod Reading

@@ -1,10 +1,12 @@
 -- A listener whose accepts don't wait.
-use Rattle.std.specs.Prelude.{◌≡◌, ◌≤◌, ℕ, List, [], ◌∷◌, ◌++◌, Result, Ok, Err}
+use Rattle.std.specs.Prelude.{◌≡◌, ◌≤◌, ◌<◌, ℕ, Bool, List, [], ◌∷◌, ◌++◌, length, get_or, Option, Some, None, Result, Ok, Err}
 use Rattle.rate_io.specs.Causes.{HasCause, Rose}
 use Rattle.rate_io.specs.Listeners.{ListenEvent, accept_event, IsNewLink}
 use Rattle.conn_tasks.specs.Polls.{PollState}
 use Rattle.conn_tasks.specs.declared.polled.Polled.{Polled}
 use Rattle.conn_tasks.specs.declared.polled.Polled.TheVariants.{Ready, Pending}
+use Rattle.conn_tasks.specs.declared.woke.Woke.{Woke}
+use Rattle.conn_tasks.specs.declared.woke.Woke.TheVariants.{Listener, Link}
 
 -- an answer is in the history, a wait isn't
 abbrev pub AcceptsTo : {L E : Type 0} → List ListenEvent → List ListenEvent → Polled (Result L E) → Type 0
@@ -26,3 +28,12 @@ HasPolledCause before now Pending = now ≡ before
 abbrev pub HasWaited : {L E : Type 0} → ℕ → ℕ → Polled (Result L E) → Type 0
 HasWaited before now (Ready result) = now ≡ before
 HasWaited before now Pending = (before ≤ now) × Rose before now
+
+-- one of the things that a sleep told, where there are so many
+abbrev pub IsWoke : List Woke → ℕ → Option Woke → Type 0
+IsWoke told i (Some woke) = (i < length told) × (woke ≡ get_or told i Listener)
+IsWoke told i None = length told ≤ i
+
+-- a sleep told that something happened at the link of this place
+abbrev pub ToldOf : List Woke → ℕ → Type 0
+ToldOf told place = (i : ℕ) × (is_closed : Bool) × (i < length told) × (get_or told i Listener ≡ Link place is_closed)

@@ -1,5 +1,5 @@
 -- A connection that is polled: where it stands, and what each turn of it does.
-use Rattle.std.specs.Prelude.{◌≡◌, ℕ, ◌+◌, ◌==◌, ◌||◌, Bool, true, false, List, [], ◌∷◌, ◌++◌, length, take, drop, Option, Some, None}
+use Rattle.std.specs.Prelude.{◌≡◌, ℕ, ◌+◌, ◌≤◌, ◌==◌, ◌||◌, Bool, true, false, List, [], ◌∷◌, ◌++◌, length, take, drop, Option, Some, None}
 use Rattle.std.specs.Prelude.{option_to_list, MatchOption, ⊤}
 use Rattle.std.specs.List.{flat_map}
 use Rattle.std.specs.Io.KnownBytes.{Consumes, IsAtEnd}
@@ -8,6 +8,7 @@ use Rattle.rate_io.specs.Causes.{Rose}
 use Rattle.rate_io.specs.Content.{Appends}
 use Rattle.rate_io.specs.Events.{Event, given, has_ended, has_failed, has_write_failed}
 use Rattle.rate_io.specs.Links.{LinkState, StaysLink, IsLinkNow}
+use Rattle.rate_io.specs.Listeners.{IsNewLink}
 use Rattle.http_front.specs.Front.{IsFront, used_of}
 use Rattle.http_front.specs.Part.{Stands}
 use Rattle.http_front.specs.declared.front.Front.{Front}
@@ -115,6 +116,7 @@ pub record IsWriting (first : LinkState) (asked : List Asked) (s : TaskState) : 
   pub stands : Stands rest t.front
   pub turn : IsTurn (s.answers + 1 == answers_max) t
   pub prints : PrintsTurn t s.out s.printed
+  pub within : s.sent ≤ length (turn_bytes t)
   pub closes : s.closes ≡ t.answer.closes
   pub behind : t.answer.closes ≡ false → Holds (drop (used_of t.front) rest) s.awaited s.kept
   pub count : s.answers ≡ length turns
@@ -158,6 +160,15 @@ Goes first asked s mode.Ended = ⊥
 abbrev pub IsOn : LinkState → List Asked → TaskState → Type 0
 IsOn first asked s = Goes first asked s s.mode
 
+-- it goes on, from a link that was not used before, with some checks answered
+abbrev pub IsGoing : TaskState → Type 0
+IsGoing s = (first : LinkState) × (asked : List Asked) × IsNewLink first × IsOn first asked s
+
+-- a check waits, on a link that was not used before, with some checks answered
+abbrev pub IsAsking : TaskState → Type 0
+IsAsking s = (first : LinkState) × (asked : List Asked) × (request : RequestParts) × (now : ℕ) × IsNewLink first
+    × IsChecking first asked request now s
+
 -- what one step comes to, before which the link would have waited so often
 abbrev pub Steps : LinkState → List Asked → ℕ → TaskState → Step → Type 0
 Steps first asked waits new step.On = IsOn first asked new
@@ -172,6 +183,12 @@ TurnsTo first asked waits new turned.Pending = IsOn first asked new × Rose wait
 TurnsTo first asked waits new (turned.Check request now) = (new.mode ≡ mode.Checking) × IsChecking first asked request now new
 TurnsTo first asked waits new (turned.End link_end) =
     (new.mode ≡ mode.Ended) × TaskServed first asked new.link.link link_end.cause link_end.answers
+
+-- it goes on behind a turn that didn't end it
+abbrev pub StillGoes : TaskState → Turned → Type 0
+StillGoes new turned.Pending = IsGoing new
+StillGoes new (turned.Check request now) = IsAsking new
+StillGoes new (turned.End link_end) = ⊤
 
 -- it goes on without a turn
 abbrev pub is_on : Step → Bool

@@ -1,15 +1,14 @@
 // A connection that is polled, step by step.
-ghost use Rattle.std.specs.Prelude.{◌≡◌, ◌≤◌, ◌<◌, ◌+◌, false, length, string_bytes};
-ghost use Rattle.http_endpoint.specs.Printing.{printed_bytes};
+ghost use Rattle.std.specs.Prelude.{◌≡◌, ◌≤◌, ◌<◌, ◌+◌, false};
 ghost use Rattle.conn_tasks.specs.Reading.{total_of};
 
-use crate::PollLink;
 use crate::front::{NextPoll, next_front};
 use crate::put::{Put, put_on};
 use crate::reading::Awaited;
-use http_endpoint::{Inbox, LinkCause, LinkEnd, Printed, answer_fixed, closes_after, print_result};
+use crate::{LawfulLink, PollLink, Room};
+use http_endpoint::{LinkCause, LinkEnd, Printed, answer_fixed, closes_after, print_result};
 use http_front::Front;
-use rate_types::{OutOfMemory, Request, Seconds};
+use rate_types::{Request, Seconds};
 use rls_core::{CheckFault, Reply};
 use std::alloc::Global;
 
@@ -51,10 +50,10 @@ pub enum Turned {
 /// The parts of a connection.
 #[derive(Drop)]
 pub struct Conn<N: PollLink + Drop> {
-    pub link: N,
-    pub inbox: Inbox,
+    pub link: LawfulLink<N>,
+    // Between two requests, of which no byte is read, it has none.
+    pub room: Option<Room>,
     pub awaited: Awaited,
-    pub out: String,
     pub printed: Printed,
     pub sent: usize,
     pub mode: Mode,
@@ -62,51 +61,51 @@ pub struct Conn<N: PollLink + Drop> {
     pub closes: bool,
     pub answers: u32,
     ghost awaits_few: { total_of awaited ≤ 1064960 },
-    ghost sent_within: { sent ≤ length (printed_bytes (string_bytes out) printed) },
     ghost few: { answers < 1024 },
     ghost last_closes: { closes ≡ false → answers + 1 < 1024 },
 }
 
 impl<N: PollLink + Drop> Conn<N> {
-    ghost use Rattle.std.specs.Prelude.{◌≡◌, ◌≤◌, ◌+◌, ◌*◌, ◌∷◌, ◌++◌, [], List, ℕ, true, false, IfOk};
+    ghost use Rattle.std.specs.Prelude.{◌≡◌, ◌≤◌, ◌+◌, ◌*◌, ◌∷◌, ◌++◌, [], List, ℕ, true, false};
+    ghost use Rattle.std.specs.Option.{is_some};
     ghost use Rattle.rate_io.specs.Links.{LinkState};
     ghost use Rattle.rate_types.specs.Requests.{RequestParts};
     ghost use Rattle.http_endpoint.specs.Answers.{Asked};
     ghost use Rattle.http_front.specs.Front.{is_waiting};
-    ghost use Rattle.conn_tasks.specs.Conn.{seen};
-    ghost use Rattle.conn_tasks.specs.Tasks.{IsOn, IsReading, IsWriting, IsChecking, IsWritten, HasFront, Steps, TurnsTo};
+    ghost use Rattle.conn_tasks.specs.Conn.{seen, seen_in, seen_with, needs_room, IsFree};
+    ghost use Rattle.conn_tasks.specs.Tasks.{IsOn, IsGoing, IsReading, IsWriting, IsChecking, IsWritten, HasFront, Steps, TurnsTo};
     ghost use Rattle.conn_tasks.specs.Tasks.{StandsAfter, StandsBehind, is_on, is_live, in_answer};
 
     /// A connection that was just handed out.
-    pub fn make(alloc: Global, link: N) -> Result<Conn<N>, OutOfMemory>
-        ensures on { IfOk result (λ c. IsOn (N.state link).link [] (seen c)) }
-        ensures live { IfOk result (λ c. is_live c.mode ≡ true) }
+    pub fn new(link: N) -> Conn<N>
+        ensures on { IsOn (N.state link).link [] (seen result) }
+        ensures live { is_live result.mode ≡ true }
+        ensures room { needs_room result.mode ≡ false }
     {
-        let inbox = Inbox::make(alloc)?;
-        let out = String::with_capacity(alloc, 1024)?;
-        Ok(Conn {
+        let link = LawfulLink::new(link);
+        Conn {
             link,
-            inbox,
+            room: None,
             awaited: Awaited::Head,
-            out,
             printed: Printed::Text { closes: false },
             sent: 0,
             mode: Mode::Reading,
             closes: false,
             answers: 0,
-        })
+        }
     }
 
     // Writes on.
-    fn write_on(&mut self) -> Step
-        requires { self.old.mode ≡ Mode.Writing }
-        ensures steps { (first : LinkState) (asked : List Asked) → IsWriting first asked (seen self.old)
-            → Steps first asked (seen self.old).link.waits (seen self.new) result }
+    fn write_on(&mut self, room: &Room) -> Step
+        requires mode { self.old.mode ≡ Mode.Writing }
+        requires going { IsGoing (seen_in self.old room.now) }
+        ensures steps { (first : LinkState) (asked : List Asked) → IsWriting first asked (seen_in self.old room.now)
+            → Steps first asked self.old.link.waits (seen_in self.new room.now) result }
         ensures further { is_on result ≡ true → (self.new.mode ≡ Mode.Reading) × (self.new.answers ≡ self.old.answers + 1) }
         ensures mode { StandsAfter result self.new.mode }
-        ensures waits { (seen self.old).link.waits ≤ (seen self.new).link.waits }
+        ensures waits { self.old.link.waits ≤ self.new.link.waits }
     {
-        let piece = self.printed.bytes(&self.out);
+        let piece = self.printed.bytes(&room.out);
         match put_on(&mut self.link, piece, &mut self.sent) {
             Put::Wait => Step::Wait,
             Put::Failed => {
@@ -120,8 +119,8 @@ impl<N: PollLink + Drop> Conn<N> {
     // An answer is written.
     fn go_on(&mut self) -> Step
         requires { self.old.mode ≡ Mode.Writing }
-        ensures steps { (first : LinkState) (asked : List Asked) → IsWritten first asked (seen self.old)
-            → Steps first asked (seen self.old).link.waits (seen self.new) result }
+        ensures steps { (first : LinkState) (asked : List Asked) (kept out : List ℕ) → IsWritten first asked (seen_with self.old kept out)
+            → Steps first asked self.old.link.waits (seen_with self.new kept out) result }
         ensures further { is_on result ≡ true → (self.new.mode ≡ Mode.Reading) × (self.new.answers ≡ self.old.answers + 1) }
         ensures mode { StandsAfter result self.new.mode }
         ensures link { self.new.link ≡ self.old.link }
@@ -137,17 +136,17 @@ impl<N: PollLink + Drop> Conn<N> {
     }
 
     // Reads on.
-    fn read_on(&mut self, alloc: Global) -> Step
+    fn read_on(&mut self, alloc: Global, room: &mut Room) -> Step
         requires { self.old.mode ≡ Mode.Reading }
-        ensures steps { (first : LinkState) (asked : List Asked) → IsReading first asked (seen self.old)
-            → Steps first asked (seen self.old).link.waits (seen self.new) result }
+        ensures steps { (first : LinkState) (asked : List Asked) → IsReading first asked (seen_in self.old room.old)
+            → Steps first asked self.old.link.waits (seen_in self.new room.new) result }
         ensures further { is_on result ≡ true → (self.new.mode ≡ Mode.Writing) × (self.new.answers ≡ self.old.answers) }
         ensures mode { StandsAfter result self.new.mode }
-        ensures waits { (seen self.old).link.waits ≤ (seen self.new).link.waits }
+        ensures waits { self.old.link.waits ≤ self.new.link.waits }
     {
-        match next_front(alloc, &mut self.inbox, &mut self.awaited, &mut self.link) {
+        match next_front(alloc, &mut room.inbox, &mut self.awaited, &mut self.link) {
             NextPoll::Wait => Step::Wait,
-            NextPoll::Front(front) => self.take_front(front),
+            NextPoll::Front(front) => self.take_front(room, front),
             NextPoll::NoMemory { sends_body } => {
                 self.sent = 0;
                 self.printed = Printed::NoMemory { sends_body };
@@ -171,18 +170,18 @@ impl<N: PollLink + Drop> Conn<N> {
     }
 
     // A front stands there. For a check the clock is asked.
-    fn take_front(&mut self, front: Front) -> Step
+    fn take_front(&mut self, room: &mut Room, front: Front) -> Step
         requires waits { is_waiting front ≡ false }
-        ensures steps { (first : LinkState) (asked : List Asked) → HasFront first asked front (seen self.old)
-            → Steps first asked (seen self.old).link.waits (seen self.new) result }
+        ensures steps { (first : LinkState) (asked : List Asked) → HasFront first asked front (seen_in self.old room.old)
+            → Steps first asked self.old.link.waits (seen_in self.new room.new) result }
         ensures further { is_on result ≡ true → (self.new.mode ≡ Mode.Writing) × (self.new.answers ≡ self.old.answers) }
         ensures mode { StandsAfter result self.new.mode }
-        ensures waits { (seen self.new).link.waits ≡ (seen self.old).link.waits }
+        ensures waits { self.new.link.waits ≡ self.old.link.waits }
     {
         match front {
             Front::Fixed { answer, .. } => {
                 self.sent = 0;
-                self.printed = answer_fixed(&mut self.out, answer, self.closes);
+                self.printed = answer_fixed(&mut room.out, answer, self.closes);
                 self.closes = self.printed.closes();
                 self.mode = Mode::Writing;
                 Step::On
@@ -203,59 +202,144 @@ impl<N: PollLink + Drop> Conn<N> {
 
     /// Answers the check that waits.
     pub fn answer(&mut self, alloc: Global, came: Result<Reply, CheckFault>)
-        requires { self.old.mode ≡ Mode.Checking }
+        requires mode { self.old.mode ≡ Mode.Checking }
+        requires room { is_some self.old.room ≡ true }
         ensures answered { (first : LinkState) (asked : List Asked) (request : RequestParts) (now : ℕ)
             → IsChecking first asked request now (seen self.old)
             → IsOn first (asked ++ record { request = request; now = now; result = came } ∷ []) (seen self.new) }
         ensures mode { self.new.mode ≡ Mode.Writing }
         ensures link { self.new.link ≡ self.old.link }
+        ensures room { is_some self.new.room ≡ true }
+    {
+        let Some(mut room) = self.room.take() else {
+            unreachable!()
+        };
+        self.print_answer(alloc, &mut room, came);
+        self.room = Some(room);
+    }
+
+    // The answer is printed.
+    fn print_answer(&mut self, alloc: Global, room: &mut Room, came: Result<Reply, CheckFault>)
+        requires { self.old.mode ≡ Mode.Checking }
+        ensures answered { (first : LinkState) (asked : List Asked) (request : RequestParts) (now : ℕ)
+            → IsChecking first asked request now (seen_in self.old room.old)
+            → IsOn first (asked ++ record { request = request; now = now; result = came } ∷ []) (seen_in self.new room.new) }
+        ensures mode { self.new.mode ≡ Mode.Writing }
+        ensures link { self.new.link ≡ self.old.link }
     {
         self.sent = 0;
-        self.printed = print_result(alloc, &mut self.out, came, self.closes);
+        self.printed = print_result(alloc, &mut room.out, came, self.closes);
         self.closes = self.printed.closes();
         self.mode = Mode::Writing;
     }
 
     // One step.
-    fn step(&mut self, alloc: Global) -> Step
-        requires { is_live self.old.mode ≡ true }
-        ensures steps { (first : LinkState) (asked : List Asked) → IsOn first asked (seen self.old)
-            → Steps first asked (seen self.old).link.waits (seen self.new) result }
+    fn step(&mut self, alloc: Global, room: &mut Room) -> Step
+        requires live { is_live self.old.mode ≡ true }
+        requires going { IsGoing (seen_in self.old room.old) }
+        ensures steps { (first : LinkState) (asked : List Asked) → IsOn first asked (seen_in self.old room.old)
+            → Steps first asked self.old.link.waits (seen_in self.new room.new) result }
         ensures mode { StandsAfter result self.new.mode }
         ensures further { is_on result ≡ true
             → 2 * self.new.answers + in_answer self.new.mode ≡ 2 * self.old.answers + in_answer self.old.mode + 1 }
-        ensures waits { (seen self.old).link.waits ≤ (seen self.new).link.waits }
+        ensures waits { self.old.link.waits ≤ self.new.link.waits }
     {
         match self.mode {
-            Mode::Reading => self.read_on(alloc),
-            Mode::Writing => self.write_on(),
+            Mode::Reading => self.read_on(alloc, room),
+            Mode::Writing => self.write_on(room),
             Mode::Checking | Mode::Ended => unreachable!(),
         }
     }
 
-    /// Something happened at its link.
-    pub fn woken(&mut self, is_closed: bool)
-        ensures { seen self.new ≡ seen self.old }
-    {
-        self.link.woken(is_closed);
-    }
-
-    /// Goes on until the link would wait, a check is wanted, or the connection ends.
-    pub fn turn(&mut self, alloc: Global) -> Turned
-        requires { is_live self.old.mode ≡ true }
-        ensures turns { (first : LinkState) (asked : List Asked) → IsOn first asked (seen self.old)
-            → TurnsTo first asked (seen self.old).link.waits (seen self.new) result }
+    // Goes on in this room until the link would wait, a check is wanted, or the connection ends.
+    fn turn_in(&mut self, alloc: Global, room: &mut Room) -> Turned
+        requires live { is_live self.old.mode ≡ true }
+        requires going { IsGoing (seen_in self.old room.old) }
+        ensures turns { (first : LinkState) (asked : List Asked) → IsOn first asked (seen_in self.old room.old)
+            → TurnsTo first asked self.old.link.waits (seen_in self.new room.new) result }
         ensures mode { StandsBehind result self.new.mode }
-        ensures waits { (seen self.old).link.waits ≤ (seen self.new).link.waits }
+        ensures waits { self.old.link.waits ≤ self.new.link.waits }
     {
         'steps: loop {
-            match self.step(alloc) {
+            match self.step(alloc, room) {
                 Step::On => {}
                 Step::Wait => return Turned::Pending,
                 Step::Check(request, moment) => return Turned::Check(request, moment),
                 Step::End(link_end) => return Turned::End(link_end),
             }
         }
+    }
+
+    // Its room, or else the one that is lent.
+    fn take_room(&mut self, spare: &mut Option<Room>) -> Room
+        requires { is_some self.old.room ≡ false → is_some spare.old ≡ true }
+        ensures same { seen_in self.new result ≡ seen self.old }
+        ensures mode { self.new.mode ≡ self.old.mode }
+        ensures link { self.new.link ≡ self.old.link }
+    {
+        if let Some(room) = self.room.take() {
+            return room;
+        }
+        let Some(mut room) = spare.take() else {
+            unreachable!()
+        };
+        room.clear();
+        room
+    }
+
+    // It wants no room.
+    fn is_free(&self, room: &Room) -> bool
+        ensures free { result ≡ true → IsFree self.now.mode room.now.inbox }
+        ensures only { IsFree self.now.mode room.now.inbox → result ≡ true }
+    {
+        match self.mode {
+            Mode::Reading => room.inbox.count() == 0,
+            Mode::Checking | Mode::Writing => false,
+            Mode::Ended => true,
+        }
+    }
+
+    // Keeps the room, or gives it up where nothing in it is wanted any more.
+    fn leave(&mut self, room: Room, spare: &mut Option<Room>)
+        ensures turns { (first : LinkState) (asked : List Asked) (waits : ℕ) (came : Turned) → StandsBehind came self.old.mode
+            → TurnsTo first asked waits (seen_in self.old room) came → TurnsTo first asked waits (seen self.new) came }
+        ensures mode { self.new.mode ≡ self.old.mode }
+        ensures link { self.new.link ≡ self.old.link }
+        ensures room { needs_room self.new.mode ≡ true → is_some self.new.room ≡ true }
+        ensures given { IsFree self.new.mode (seen self.new).kept → is_some spare.new ≡ true }
+    {
+        if self.is_free(&room) {
+            self.room = None;
+            *spare = Some(room);
+        } else {
+            self.room = Some(room);
+        }
+    }
+
+    /// Something happened at its link.
+    pub fn woken(&mut self, is_closed: bool)
+        ensures same { seen self.new ≡ seen self.old }
+        ensures room { self.new.room ≡ self.old.room }
+    {
+        self.link.woken(is_closed);
+    }
+
+    /// Goes on until the link would wait, a check is wanted, or the connection ends. A room is lent to it where it has none.
+    pub fn turn(&mut self, alloc: Global, spare: &mut Option<Room>) -> Turned
+        requires live { is_live self.old.mode ≡ true }
+        requires going { IsGoing (seen self.old) }
+        requires room { is_some self.old.room ≡ false → is_some spare.old ≡ true }
+        ensures turns { (first : LinkState) (asked : List Asked) → IsOn first asked (seen self.old)
+            → TurnsTo first asked self.old.link.waits (seen self.new) result }
+        ensures mode { StandsBehind result self.new.mode }
+        ensures waits { self.old.link.waits ≤ self.new.link.waits }
+        ensures room { needs_room self.new.mode ≡ true → is_some self.new.room ≡ true }
+        ensures given { IsFree self.new.mode (seen self.new).kept → is_some spare.new ≡ true }
+    {
+        let mut room = self.take_room(spare);
+        let turned = self.turn_in(alloc, &mut room);
+        self.leave(room, spare);
+        turned
     }
 }
 

@@ -1,11 +1,13 @@
 ghost use Rattle.std.specs.Prelude.{◌≡◌, ◌≤◌, ◌∷◌, ◌++◌, [], List, ℕ, true, false, IfOk};
+ghost use Rattle.std.specs.Option.{is_some};
 ghost use Rattle.rate_io.specs.Links.{LinkState};
 ghost use Rattle.rate_types.specs.Requests.{RequestParts};
 ghost use Rattle.http_endpoint.specs.Answers.{Asked};
-ghost use Rattle.conn_tasks.specs.Tasks.{IsOn, IsChecking, TurnsTo, StandsBehind, is_live};
+ghost use Rattle.conn_tasks.specs.Tasks.{IsOn, IsGoing, IsAsking, IsChecking, StillGoes, TurnsTo, StandsBehind, is_live};
+ghost use Rattle.rate_io.specs.Listeners.{IsNewLink};
 
-use crate::PollLink;
 use crate::conn::{Conn, Mode, Turned};
+use crate::{PollLink, Room};
 use rate_types::OutOfMemory;
 use rls_core::{CheckFault, Reply};
 use std::alloc::Global;
@@ -14,26 +16,31 @@ use std::marker::Model;
 /// A connection that is polled. Contracts see it as a `TaskState`.
 #[derive(Drop)]
 pub struct ConnTask<N: PollLink + Drop> {
-    conn: Conn<N>,
+    conn: Box<Conn<N>>,
 }
 
 impl<N: PollLink + Drop> Model for ConnTask<N> {
+    ghost use Rattle.std.specs.Prelude.{◌≡◌, true};
+    ghost use Rattle.std.specs.Option.{is_some};
     ghost use Rattle.conn_tasks.specs.State.{TaskState};
 
     ghost Value = { TaskState };
 
-    ghost use Rattle.conn_tasks.specs.Conn.{seen};
+    ghost use Rattle.conn_tasks.specs.Conn.{seen, needs_room};
 
-    ghost view = { λ t. seen t.conn };
+    ghost view = { λ t. seen t.conn.value };
+
+    ghost invariant = { λ t. needs_room t.conn.value.mode ≡ true → is_some t.conn.value.room ≡ true };
 }
 
 impl<N: PollLink + Drop> ConnTask<N> {
     /// A connection that was just handed out.
     pub fn make(alloc: Global, link: N) -> Result<ConnTask<N>, OutOfMemory>
         ensures on { IfOk result (λ t. IsOn (N.state link).link [] t) }
+        ensures going { IsNewLink (N.state link).link → IfOk result (λ t. IsGoing t) }
         ensures live { IfOk result (λ t. is_live t.mode ≡ true) }
     {
-        let conn = Conn::make(alloc, link)?;
+        let conn = Box::new(alloc, Conn::new(link))?;
         Ok(ConnTask { conn })
     }
 
@@ -54,15 +61,20 @@ impl<N: PollLink + Drop> ConnTask<N> {
         }
     }
 
-    /// Goes on until the link would wait, a check is wanted, or the connection ends.
-    pub fn poll_turn(&mut self, alloc: Global) -> Turned
-        requires { is_live self.old.mode ≡ true }
+    /// Goes on until the link would wait, a check is wanted, or the connection ends. Where it stands between two requests a room is lent to
+    /// it, which it gives back unless it waits with something half read or half written.
+    pub fn poll_turn(&mut self, alloc: Global, spare: &mut Option<Room>) -> Turned
+        requires live { is_live self.old.mode ≡ true }
+        requires going { IsGoing self.old }
+        requires room { self.old.mode ≡ Mode.Reading → is_some spare.old ≡ true }
         ensures turns { (first : LinkState) (asked : List Asked) → IsOn first asked self.old
             → TurnsTo first asked self.old.link.waits self.new result }
+        ensures going { StillGoes self.new result }
         ensures mode { StandsBehind result self.new.mode }
         ensures waits { self.old.link.waits ≤ self.new.link.waits }
+        ensures given { self.new.mode ≡ Mode.Reading → self.new.kept ≡ [] → is_some spare.new ≡ true }
     {
-        self.conn.turn(alloc)
+        self.conn.turn(alloc, spare)
     }
 
     /// Answers the check that is wanted. Where memory is wanting, 500 is answered in its place.
@@ -71,6 +83,7 @@ impl<N: PollLink + Drop> ConnTask<N> {
         ensures answered { (first : LinkState) (asked : List Asked) (request : RequestParts) (now : ℕ)
             → IsChecking first asked request now self.old
             → IsOn first (asked ++ record { request = request; now = now; result = came } ∷ []) self.new }
+        ensures going { IsAsking self.old → IsGoing self.new }
         ensures mode { self.new.mode ≡ Mode.Writing }
         ensures link { self.new.link ≡ self.old.link }
     {
@@ -81,7 +94,7 @@ impl<N: PollLink + Drop> ConnTask<N> {
     pub fn link(&self) -> &N
         ensures { N.state result.now ≡ self.now.link }
     {
-        &self.conn.link
+        self.conn.link.link()
     }
 
     /// The link of a connection that has ended.
@@ -91,15 +104,14 @@ impl<N: PollLink + Drop> ConnTask<N> {
     {
         let Conn {
             link,
-            inbox: _,
+            room: _,
             awaited: _,
-            out: _,
             printed: _,
             sent: _,
             mode: _,
             closes: _,
             answers: _,
-        } = self.conn;
-        link
+        } = Box::into_inner(self.conn);
+        link.into_link()
     }
 }

@@ -2,12 +2,11 @@
 ghost use Rattle.std.specs.Prelude.{◌≡◌, ◌≤◌, List, ℕ, if◌then◌else◌};
 ghost use Rattle.rate_io.specs.Links.{LinkState};
 ghost use Rattle.http_endpoint.specs.Answers.{Turn};
-ghost use Rattle.conn_tasks.specs.Polls.{PollState};
 ghost use Rattle.conn_tasks.specs.Reading.{total_of, Holds};
 ghost use Rattle.conn_tasks.specs.SoFar.{SoFar, Nexts, IsSettled};
 
-use crate::PollLink;
 use crate::reading::{Awaited, Filled, Look, fill, look_on};
+use crate::{LawfulLink, PollLink};
 use http_endpoint::Inbox;
 use http_front::Front;
 use std::alloc::Global;
@@ -37,19 +36,19 @@ fn ended(is_blank: bool) -> NextPoll
 }
 
 /// Reads on until a front stands there, or the link would wait.
-pub fn next_front<N: PollLink>(
+pub fn next_front<N: PollLink + Drop>(
     alloc: Global,
     inbox: &mut Inbox,
     awaited: &mut Awaited,
-    link: &mut N,
+    link: &mut LawfulLink<N>,
 ) -> NextPoll
     requires { total_of awaited.old ≤ 1064960 }
-    ensures nexts { (first : LinkState) (turns : List Turn) (rest : List ℕ) → SoFar first (N.state link.old).link turns rest
+    ensures nexts { (first : LinkState) (turns : List Turn) (rest : List ℕ) → SoFar first link.old.link turns rest
         → Holds rest awaited.old inbox.old
-        → Nexts first turns (N.state link.old) (N.state link.new) awaited.new inbox.new result }
+        → Nexts first turns link.old link.new awaited.new inbox.new result }
     ensures settled { IsSettled result }
     ensures few { total_of awaited.new ≤ 1064960 }
-    ensures waits { (N.state link.old).waits ≤ (N.state link.new).waits }
+    ensures waits { link.old.waits ≤ link.new.waits }
 {
     'reads: loop {
         let is_blank = match look_on(alloc, inbox, awaited) {

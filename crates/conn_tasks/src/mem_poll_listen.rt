@@ -1,4 +1,4 @@
-ghost use Rattle.std.specs.Prelude.{◌≡◌, ◌≤◌, ◌∷◌, [], ◌++◌, IfOk};
+ghost use Rattle.std.specs.Prelude.{◌≡◌, ◌≤◌, ◌∷◌, [], ◌++◌, vec_len, IfOk};
 ghost use Rattle.rate_io.specs.Causes.{Rose};
 ghost use Rattle.rate_io.specs.ListenCalls.{listen_event};
 
@@ -15,7 +15,9 @@ use std::collections::VecDeque;
 pub struct MemPollListen {
     alloc: Global,
     coming: VecDeque<MemPeer>,
-    places: Vec<usize>,
+    // What a sleep tells: that a link may come, and each link that was handed out; and how much of it the last one told.
+    things: Vec<Woke>,
+    slept: usize,
     back: Vec<Option<MemPoll>>,
     history: ListenHistory,
     calls: u64,
@@ -23,6 +25,7 @@ pub struct MemPollListen {
     failing: Vec<u64>,
     waits: u64,
     faults: u64,
+    ghost within: { slept ≤ vec_len things },
 }
 
 impl MemPollListen {
@@ -36,7 +39,8 @@ impl MemPollListen {
         ensures history { IfOk result (λ l. ⟦<MemPollListen as PollListen>⟧.history l ≡ []) }
         ensures faults { IfOk result (λ l. ⟦<MemPollListen as PollListen>⟧.faults l ≡ 0) }
     {
-        let places = Vec::with_capacity(alloc, peers.len())?;
+        let mut things = Vec::with_capacity(alloc, peers.len().saturating_add(1))?;
+        things.push(Woke::Listener)?;
         let mut back = Vec::with_capacity(alloc, peers.len())?;
         let mut coming = VecDeque::new(alloc);
         for peer in peers {
@@ -46,7 +50,8 @@ impl MemPollListen {
         Ok(MemPollListen {
             alloc,
             coming,
-            places,
+            things,
+            slept: 0,
             back,
             history: ListenHistory::new(),
             calls: 0,
@@ -68,6 +73,7 @@ impl MemPollListen {
         ensures later { self.old.faults ≤ self.new.faults }
         ensures rose { Rose self.old.faults self.new.faults }
         ensures waits { self.new.waits ≡ self.old.waits }
+        ensures things { (self.new.things ≡ self.old.things) × (self.new.slept ≡ self.old.slept) }
     {
         self.faults = self.faults.saturating_add(1);
         self.history = self.history.and(call);
@@ -82,7 +88,11 @@ impl PollListen for MemPollListen {
 
     ghost faults = { λ s. s.faults };
 
+    ghost use Rattle.std.specs.Prelude.{take};
+
     ghost waits = { λ s. s.waits };
+
+    ghost told = { λ s. take s.slept s.things.items };
 
     fn bind(&mut self, port: u16) -> Result<u16, Failed> {
         self.calls = self.calls.saturating_add(1);
@@ -110,7 +120,11 @@ impl PollListen for MemPollListen {
             self.waits = self.waits.saturating_add(1);
             return Polled::Pending;
         };
-        if self.places.push(place).is_err() {
+        let told = Woke::Link {
+            place,
+            is_closed: false,
+        };
+        if self.things.push(told).is_err() {
             return Polled::Ready(Err(self.fail(&ListenCall::AcceptFailed)));
         }
         self.history = self.history.and(&ListenCall::Accepted);
@@ -123,18 +137,16 @@ impl PollListen for MemPollListen {
             self.faults = self.faults.saturating_add(1);
             return Err(Failed);
         }
-        Ok(self.places.len().saturating_add(1))
+        self.slept = self.things.len();
+        Ok(self.slept)
     }
 
     fn woke(&self, index: usize) -> Option<Woke> {
-        if index == 0 {
-            return Some(Woke::Listener);
+        if index < self.slept {
+            Some(self.things[index])
+        } else {
+            None
         }
-        let place = *self.places.get(index - 1)?;
-        Some(Woke::Link {
-            place,
-            is_closed: false,
-        })
     }
 
     fn give_back(&mut self, number: u32, link: MemPoll) {

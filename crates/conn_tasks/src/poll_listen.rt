@@ -1,19 +1,11 @@
-ghost use Rattle.std.specs.Prelude.{◌≡◌, ◌∷◌, [], ◌++◌, List, ℕ, IfOk};
+ghost use Rattle.std.specs.Prelude.{◌≡◌, ◌∷◌, [], ◌++◌, List, ℕ, length, IfOk};
 ghost use Rattle.rate_io.specs.Causes.{HasCause};
 ghost use Rattle.rate_io.specs.Listeners.{ListenEvent, IsOut, IsPortFor, bind_event, gave_back};
-ghost use Rattle.conn_tasks.specs.Listening.{AcceptsTo, IsFresh, HasPolledCause, HasWaited};
+ghost use Rattle.conn_tasks.specs.Listening.{AcceptsTo, IsFresh, HasPolledCause, HasWaited, IsWoke};
+ghost use Rattle.conn_tasks.specs.declared.woke.Woke.{Woke};
 
-use crate::{PollLink, Polled};
+use crate::{PollLink, Polled, Woke};
 use rate_io::Failed;
-
-/// What a sleep ended for.
-#[derive(Clone, Copy)]
-pub enum Woke {
-    /// A link may come.
-    Listener,
-    /// Something happened at the link of this place. Its peer may have ended it.
-    Link { place: usize, is_closed: bool },
-}
 
 /// A listener whose accepts don't wait, and which tells at which of its links something happened. The links that it hands out are
 /// numbered from 0, in order, and each may be given back once.
@@ -30,6 +22,9 @@ pub trait PollListen {
     /// How often an accept would have waited. The count stops likewise.
     ghost waits: { Self → ℕ };
 
+    /// The things for which the last sleep ended.
+    ghost told: { Self → List Woke };
+
     /// Binds a port, or a free one for 0, and answers which.
     fn bind(&mut self, port: u16) -> Result<u16, Failed>
         ensures asked { IfOk result (λ got. IsPortFor port got) }
@@ -41,15 +36,18 @@ pub trait PollListen {
         ensures event { AcceptsTo (history self.old) (history self.new) result }
         ensures fresh { IsFresh Self.Link.state result }
         ensures cause { HasPolledCause (faults self.old) (faults self.new) result }
-        ensures wait { HasWaited (waits self.old) (waits self.new) result };
+        ensures wait { HasWaited (waits self.old) (waits self.new) result }
+        ensures told { told self.new ≡ told self.old };
 
     /// Waits until something happens, at most so many milliseconds, and answers how many things.
     fn sleep(&mut self, most: u64) -> Result<usize, Failed>
         ensures history { history self.new ≡ history self.old }
+        ensures told { IfOk result (λ count. count ≡ length (told self.new)) }
         ensures cause { HasCause (faults self.old) (faults self.new) result };
 
     /// One of the things for which the last sleep ended.
-    fn woke(&self, index: usize) -> Option<Woke>;
+    fn woke(&self, index: usize) -> Option<Woke>
+        ensures { IsWoke (told self.now) index result };
 
     /// Takes a link back, under its number.
     fn give_back(&mut self, number: u32, link: Self::Link)

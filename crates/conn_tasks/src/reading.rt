@@ -1,10 +1,9 @@
 // What comes next on a connection, as far as it is known.
 ghost use Rattle.std.specs.Prelude.{◌≡◌, ◌≤◌, ◌<◌, ◌+◌, ◌++◌, true, List, ℕ, length};
 ghost use Rattle.rate_io.specs.Events.{Event, given};
-ghost use Rattle.conn_tasks.specs.Polls.{PollState};
 ghost use Rattle.conn_tasks.specs.Reading.{total_of, have_of, Holds, Looks, HasRoom, Keeps, Reads, Fills, is_more};
 
-use crate::{PollLink, Polled};
+use crate::{LawfulLink, PollLink, Polled};
 use http_endpoint::Inbox;
 use http_front::{Front, Part, read_front};
 use rate_types::OutOfMemory;
@@ -151,15 +150,19 @@ fn keep(inbox: &mut Inbox, awaited: &mut Awaited, bytes: &[u8])
 }
 
 /// Reads once.
-pub fn fill<N: PollLink>(inbox: &mut Inbox, awaited: &mut Awaited, link: &mut N) -> Filled
+pub fn fill<N: PollLink + Drop>(
+    inbox: &mut Inbox,
+    awaited: &mut Awaited,
+    link: &mut LawfulLink<N>,
+) -> Filled
     requires room { have_of awaited.old inbox.old < total_of awaited.old }
     requires few { total_of awaited.old ≤ 1064960 }
-    ensures drew { (events : List Event) × Reads (N.state link.old) (N.state link.new) events
-        × Fills (N.state link.old) (N.state link.new) events result
+    ensures drew { (events : List Event) × Reads link.old link.new events
+        × Fills link.old link.new events result
         × ((before : List ℕ) → Holds before awaited.old inbox.old → Holds (before ++ given events) awaited.new inbox.new) }
     ensures more { is_more result ≡ true → have_of awaited.old inbox.old < have_of awaited.new inbox.new }
     ensures total { total_of awaited.new ≡ total_of awaited.old }
-    ensures waits { (N.state link.old).waits ≤ (N.state link.new).waits }
+    ensures waits { link.old.waits ≤ link.new.waits }
 {
     let mut buf = [0u8; PIECE];
     let most = (awaited.total() - awaited.have(inbox.count())).min(PIECE);

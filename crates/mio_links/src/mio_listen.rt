@@ -1,9 +1,11 @@
 // The adapter over a listener of mio, on the loopback address.
 ghost use Rattle.std.specs.Prelude.{◌≡◌, [], IfSome};
 ghost use Rattle.rate_io.specs.Listeners.{IsPortFor};
+ghost use Rattle.mio_links.specs.Told.{woke_of};
 
 use crate::MioLink;
 use conn_tasks::{PollListen, Polled, Woke};
+use mio::event::Event;
 use mio::net::{TcpListener, TcpStream};
 use mio::{Events, Interest, Poll, Token};
 use rate_io::{Failed, HostClock, ListenCall, ListenHistory};
@@ -63,6 +65,7 @@ impl<R: Net + std::rt::Clock + Clone + Drop> MioListen<R> {
         ensures later { self.old.faults ≤ self.new.faults }
         ensures rose { Rose self.old.faults self.new.faults }
         ensures waits { self.new.waits ≡ self.old.waits }
+        ensures port { self.new.port ≡ self.old.port }
     {
         self.faults = self.faults.saturating_add(1);
         self.history = self.history.and(call);
@@ -133,6 +136,20 @@ fn clock_of<R: std::rt::Clock + Clone + Drop>(rt: &R) -> Option<HostClock<R>> {
     Some(HostClock::new(rt))
 }
 
+// What an event tells.
+fn woke_of(event: &Event) -> Woke
+    ensures { result ≡ woke_of event.now }
+{
+    let Token(place) = event.token();
+    if place == LISTENER {
+        return Woke::Listener;
+    }
+    Woke::Link {
+        place,
+        is_closed: event.is_read_closed(),
+    }
+}
+
 impl<R: Net + std::rt::Clock + Clone + Drop> PollListen for MioListen<R> {
     type Link = MioLink<HostClock<R>>;
 
@@ -141,6 +158,10 @@ impl<R: Net + std::rt::Clock + Clone + Drop> PollListen for MioListen<R> {
     ghost faults = { λ s. s.faults };
 
     ghost waits = { λ s. s.waits };
+
+    ghost use Rattle.mio_links.specs.Told.{told_by};
+
+    ghost told = { λ s. told_by s.port };
 
     fn bind(&mut self, port: u16) -> Result<u16, Failed> {
         let Some((had, got)) = port_at(&self.rt, self.alloc, port) else {
@@ -191,14 +212,7 @@ impl<R: Net + std::rt::Clock + Clone + Drop> PollListen for MioListen<R> {
     fn woke(&self, index: usize) -> Option<Woke> {
         let port = self.port.as_ref()?;
         let event = port.events.iter().as_slice().get(index)?;
-        let Token(place) = event.token();
-        if place == LISTENER {
-            return Some(Woke::Listener);
-        }
-        Some(Woke::Link {
-            place,
-            is_closed: event.is_read_closed(),
-        })
+        Some(woke_of(event))
     }
 
     fn give_back(&mut self, number: u32, link: MioLink<HostClock<R>>) {

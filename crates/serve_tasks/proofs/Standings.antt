@@ -1,22 +1,29 @@
 -- Links under their numbers go on.
 use Rattle.std.proofs.Common.{◌≡◌, ⊎_elim, ℕ, zero, suc, ◌+◌, ◌<◌, ◌≤◌, true, List, [], ◌∷◌, ◌++◌, Option, Some, None, get_or, set, length, map, refl, sym, ap, ◌∙◌, subst, append-nil, append_assoc, arith}
 use Rattle.std.proofs.Common.{length-append}
-use Rattle.std.proofs.lemmas.List.{get_or-set_same, get_or-set_other, length-set, get_or_append_left, get_or_push, map-append}
+use Rattle.std.proofs.lemmas.List.{get_or-set_same, get_or-set_other, length-set, get_or_append_left, get_or_push, map-append, nil_from_length}
 use Rattle.std.specs.List.{AllByRecursion}
 use Rattle.http_endpoint.specs.Answers.{CheckStep, Asked, Lead}
 use Rattle.http_endpoint.proofs.TurnLemmas.{lead_more}
 use Rattle.http_serve.specs.Service.{Service}
 use Rattle.conn_tasks.specs.State.{TaskState}
-use Rattle.conn_tasks.specs.Tasks.{IsOn, is_live}
+use Rattle.conn_tasks.specs.Tasks.{IsOn, IsGoing, is_live}
 use Rattle.rate_io.specs.Links.{LinkState}
 use Rattle.rate_io.specs.Listeners.{IsNewLink}
 use Rattle.serve_tasks.specs.Service.{made_for, IsTaskServed}
-use Rattle.serve_tasks.specs.Running.{StandsAt, AllStand, Standing, Runs, live_count}
+use Rattle.serve_tasks.specs.Running.{StandsAt, AllStand, Stand, Standing, Runs, live_count}
 use Rattle.serve_tasks.proofs.Made.{tag, same_or, made_append, made_here, made_there, none_for, only_append, only_wider, only_tagged}
 
 -- no link
 pub none_stand : AllStand [] [] []
 none_stand = record { as_many = refl; only = tt; each = λ k less. absurd (omega (arith, less)) }
+
+-- nor is there one where none was accepted
+pub none_there : (s : Standing) → length s.served ≡ length s.tasks → length s.tasks ≡ 0 → Stand s
+none_there s same none =
+    let tasks = nil_from_length s.tasks none in
+    let served = nil_from_length s.served (same ∙ none) in
+    ([], subst (λ (ts : List (Option TaskState)). AllStand [] ts s.served) (sym tasks) (subst (λ (ss : List (Option Service)). AllStand [] [] ss) (sym served) none_stand))
 
 -- one goes on or ends, and all others stay
 pub one_stands : (n : ℕ) (more : List Asked) (made : List (ℕ × Asked)) (tasks tasks' : List (Option TaskState)) (served served' : List (Option Service))
@@ -74,6 +81,10 @@ one_comes more made tasks served x y all here = record {
         (subst (λ (qs : List Asked). StandsAt k qs (get_or tasks k None) (get_or served k None))
         (sym (made_append k made (tag n more) ∙ (ap (λ (qs : List Asked). made_for k made ++ qs) (made_there k n more other) ∙ append-nil (made_for k made))))
         (all.each k less)))
+
+-- after more checks each stands again
+pub stand_again : {S : Type 0} (answers : CheckStep S) (p q : S) (old new : Standing) → Stand old → Runs answers p q old new → Stand new
+stand_again answers p q old new s r = (s.0 ++ r.0, r.2 s.0 s.1)
 
 -- ---- runs, one after the other
 
@@ -188,3 +199,9 @@ module _ (n : ℕ) (more : List Asked) (made : List (ℕ × Asked)) (tasks : Lis
       (subst (λ (o : Option Service). StandsAt n (made_for n made ++ more) None o)
       (sym (get_or-set_same served n (Some v) None (omega (arith, less, all.as_many))))
       (number, end was.1.0 (made_for n made) was.1.1 was.1.2)))
+
+-- it goes on
+pub one_goes : (n : ℕ) (old : Standing) (s : TaskState) → Stand old → Some s ≡ get_or old.tasks n None → IsGoing s
+one_goes n old s st is =
+    let w = was n [] st.0 old.tasks old.served s st.1 is in
+    (w.1.0, made_for n st.0, w.1.1, w.1.2)

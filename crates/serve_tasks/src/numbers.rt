@@ -1,13 +1,13 @@
 // Links under their numbers.
-ghost use Rattle.std.specs.Prelude.{◌≡◌, ◌<◌, ◌+◌, [], None, Some, get_or, set, vec_len, IfOk};
+ghost use Rattle.std.specs.Prelude.{◌≡◌, ◌<◌, ◌+◌, [], ℕ, None, Some, get_or, set, vec_len, IfOk};
 ghost use Rattle.rate_types.specs.declared.limits.TheConstants.{MOST_CONNECTIONS};
 ghost use Rattle.rate_io.specs.Listeners.{IsNewLink};
-ghost use Rattle.serve_tasks.specs.Running.{Runs};
+ghost use Rattle.serve_tasks.specs.Running.{Runs, Stand, Follows, WasRun};
 ghost use Rattle.serve_tasks.specs.Links.{standing};
 
 use crate::links::Links;
 use crate::running::{Parked, Ran, run_task};
-use conn_tasks::{ConnTask, PollLink};
+use conn_tasks::{ConnTask, PollLink, Room};
 use http_endpoint::Checks;
 use rate_types::OutOfMemory;
 use std::alloc::Global;
@@ -21,6 +21,7 @@ pub fn no_links<N: PollLink + Drop>(alloc: Global) -> Links<N>
         tasks: Vec::new(alloc),
         served: Vec::new(alloc),
         live: 0,
+        spare: None,
     }
 }
 
@@ -39,9 +40,10 @@ pub fn begin<R: Wait, N: PollLink + Drop, K: Checks>(
 {
     links.tasks.reserve(1)?;
     links.served.reserve(1)?;
+    Room::refill(alloc, &mut links.spare)?;
     let task = ConnTask::make(alloc, link)?;
     let number = links.tasks.len() as u32;
-    match run_task(rt, alloc, checks, number, task) {
+    match run_task(rt, alloc, checks, number, task, &mut links.spare) {
         Ran::Waits(parked) => {
             links.tasks.push_reserved(Some(parked));
             links.served.push_reserved(None);
@@ -87,19 +89,27 @@ pub fn run_at<R: Wait, N: PollLink + Drop, K: Checks>(
     links: &mut Links<N>,
     number: usize,
     is_closed: bool,
-)
+) -> Result<(), OutOfMemory>
+    requires stand { Stand (standing links.old) }
     ensures runs { Runs K.answers checks.old checks.new (standing links.old) (standing links.new) }
     ensures as_many { vec_len links.new.tasks ≡ vec_len links.old.tasks }
+    ensures run { IfOk result (λ _. WasRun (get_or links.old.tasks.items number None) (get_or links.new.tasks.items number None)) }
+    ensures others { (k : ℕ) → Follows (get_or links.old.tasks.items k None) (get_or links.new.tasks.items k None) }
 {
+    Room::refill(alloc, &mut links.spare)?;
     let Some(parked) = take_at(&mut links.tasks, number) else {
-        return;
+        return Ok(());
     };
     let task = parked.woken(is_closed);
-    match run_task(rt, alloc, checks, number as u32, task) {
-        Ran::Waits(parked) => put_at(&mut links.tasks, number, parked),
+    match run_task(rt, alloc, checks, number as u32, task, &mut links.spare) {
+        Ran::Waits(parked) => {
+            put_at(&mut links.tasks, number, parked);
+            Ok(())
+        }
         Ran::Ended(served) => {
             put_at(&mut links.served, number, served);
             links.live -= 1;
+            Ok(())
         }
     }
 }

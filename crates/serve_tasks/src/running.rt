@@ -1,11 +1,12 @@
 // A connection that is run.
 ghost use Rattle.std.specs.Prelude.{◌≡◌, true, List, ℕ, ◌++◌, ◌∷◌, []};
+ghost use Rattle.std.specs.Option.{is_some};
 ghost use Rattle.rate_io.specs.Links.{LinkState};
 ghost use Rattle.http_endpoint.specs.Answers.{Asked, Lead};
-ghost use Rattle.conn_tasks.specs.Tasks.{IsOn, IsChecking, is_live};
+ghost use Rattle.conn_tasks.specs.Tasks.{IsOn, IsGoing, IsChecking, is_live};
 ghost use Rattle.serve_tasks.specs.Running.{RunsTo};
 
-use conn_tasks::{ConnTask, Mode, PollLink, Turned};
+use conn_tasks::{ConnTask, Mode, PollLink, Room, Turned};
 use http_endpoint::{Checks, LinkEnd};
 use rate_types::{Request, Seconds};
 use std::alloc::Global;
@@ -91,19 +92,22 @@ fn make_check<R: Wait, N: PollLink + Drop, K: Checks>(
 }
 
 /// Runs a connection, which has this number, until it waits at its link or has ended, and then shuts the link. Each check that it wants
-/// is made.
+/// is made. A room is lent to it.
 pub fn run_task<R: Wait, N: PollLink + Drop, K: Checks>(
     rt: &R,
     alloc: Global,
     checks: &mut K,
     number: u32,
     mut task: ConnTask<N>,
+    spare: &mut Option<Room>,
 ) -> Ran<N>
-    requires { is_live task.mode ≡ true }
+    requires live { is_live task.mode ≡ true }
+    requires going { IsGoing task }
+    requires room { is_some spare.old ≡ true }
     ensures { (more : List Asked) × Lead K.answers checks.old more checks.new × RunsTo more number task result }
 {
     'turns: for _ in rt.forever() {
-        match task.poll_turn(alloc) {
+        match task.poll_turn(alloc, spare) {
             Turned::Pending => return Ran::Waits(Parked { task }),
             Turned::Check(request, moment) => {
                 make_check(rt, alloc, checks, &mut task, request, moment);

@@ -1,7 +1,7 @@
 ghost use Rattle.std.specs.Prelude.{⊤};
 
 use arrayvec::ArrayVec;
-use conn_tasks::{ConnTask, MemPeer, MemPollListen, Turned};
+use conn_tasks::{ConnTask, MemPeer, MemPollListen, Room, Turned};
 use http_endpoint::{Checks, LinkCause, LinkEnd};
 use rate_types::limits::MOST_CONNECTIONS;
 use rate_types::{OwnLimit, Request, Seconds, Unit};
@@ -191,14 +191,18 @@ fn a_write_goes_on_where_it_waited(rt: HostRuntime) -> Result<(), Fail> {
     let Ok(mut task) = ConnTask::make(alloc, peer.connect(alloc)) else {
         return Err("no memory".into());
     };
-    let Turned::Pending = task.poll_turn(alloc) else {
+    let mut spare = None;
+    Room::refill(alloc, &mut spare)?;
+    let Turned::Pending = task.poll_turn(alloc, &mut spare) else {
         return Err("it doesn't wait".into());
     };
     assert_eq!(rt; task.link().link().written().ok_or("no memory")?.len(), 10);
     if !task.is_live() {
         return Err("it can't go on".into());
     }
-    let Turned::End(link_end) = task.poll_turn(alloc) else {
+    assert!(rt; spare.is_none(), "it gave up the room of an answer that is half written");
+    Room::refill(alloc, &mut spare)?;
+    let Turned::End(link_end) = task.poll_turn(alloc, &mut spare) else {
         return Err("it waits".into());
     };
     assert!(rt;

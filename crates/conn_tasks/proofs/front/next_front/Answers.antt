@@ -31,7 +31,7 @@ reads-preserved g c =
     record {
       so = λ first turns rest s h.
           let x = c.reads.invariant.so first turns rest s h in
-          let now = so_read first (g.N.PollLink.state c.reads.link).link (g.N.PollLink.state c.fill.new.link).link turns x.0 d.0 x.1 (d.1 x.0 (waits_head x.0 c.in-More.is_blank (c.in-More.ensures.looks x.0 x.2).1)) in
+          let now = so_read first c.reads.link.link c.fill.new.link.link turns x.0 d.0 x.1 (d.1 x.0 (waits_head x.0 c.in-More.is_blank (c.in-More.ensures.looks x.0 x.2).1)) in
           (x.0 ++ given d.0, now.0, d.3 x.0 (c.in-More.ensures.looks x.0 x.2).0);
       few = omega (arith, c.fill.ensures.total, c.look_on.ensures.few c.reads.invariant.few);
       waits = le_trans c.reads.invariant.waits c.fill.ensures.waits;
@@ -41,25 +41,25 @@ pub returns-in-End-clause-nexts : goal.returns-in-End-clause-nexts
 returns-in-End-clause-nexts g c = λ first turns rest s h.
     let x = c.reads.invariant.so first turns rest s h in
     let d = c.in-End.ensures.drew in
-    let e = so_ended first (g.N.PollLink.state c.reads.link).link (g.N.PollLink.state c.fill.new.link).link turns x.0 d.0 x.1 (d.1 x.0 (waits_head x.0 c.in-More.is_blank (c.in-More.ensures.looks x.0 x.2).1)) d.2.1 d.2.0 in
+    let e = so_ended first c.reads.link.link c.fill.new.link.link turns x.0 d.0 x.1 (d.1 x.0 (waits_head x.0 c.in-More.is_blank (c.in-More.ensures.looks x.0 x.2).1)) d.2.1 d.2.0 in
     rw c.ended.ensures
-    (nexts_end first turns x.0 (g.N.PollLink.state c.args.link.now) (g.N.PollLink.state c.fill.new.link) c.fill.new.awaited c.fill.new.inbox
+    (nexts_end first turns x.0 c.args.link.now c.fill.new.link c.fill.new.awaited c.fill.new.inbox
     c.in-More.is_blank e (c.in-More.ensures.looks x.0 x.2).1)
 
 pub returns-in-Failed-clause-nexts : goal.returns-in-Failed-clause-nexts
 returns-in-Failed-clause-nexts g c = λ first turns rest s h.
     let x = c.reads.invariant.so first turns rest s h in
     let d = c.in-Failed.ensures.drew in
-    (x.0, so_failed first (g.N.PollLink.state c.reads.link).link (g.N.PollLink.state c.fill.new.link).link turns x.0 d.0 x.1 (d.1 x.0 (waits_head x.0 c.in-More.is_blank (c.in-More.ensures.looks x.0 x.2).1)) d.2.1 d.2.0)
+    (x.0, so_failed first c.reads.link.link c.fill.new.link.link turns x.0 d.0 x.1 (d.1 x.0 (waits_head x.0 c.in-More.is_blank (c.in-More.ensures.looks x.0 x.2).1)) d.2.1 d.2.0)
 
 pub returns-in-Wait-clause-nexts : goal.returns-in-Wait-clause-nexts
 returns-in-Wait-clause-nexts g c = λ first turns rest s h.
     let x = c.reads.invariant.so first turns rest s h in
     let d = c.in-Wait.ensures.drew in
-    let now = so_read first (g.N.PollLink.state c.reads.link).link (g.N.PollLink.state c.fill.new.link).link turns x.0 d.0 x.1 (d.1 x.0 (waits_head x.0 c.in-More.is_blank (c.in-More.ensures.looks x.0 x.2).1)) in (
+    let now = so_read first c.reads.link.link c.fill.new.link.link turns x.0 d.0 x.1 (d.1 x.0 (waits_head x.0 c.in-More.is_blank (c.in-More.ensures.looks x.0 x.2).1)) in (
       x.0 ++ given d.0,
       now.0,
       d.3 x.0 (c.in-More.ensures.looks x.0 x.2).0,
-      rose_earlier (g.N.PollLink.state c.args.link.now).waits (g.N.PollLink.state c.reads.link).waits (g.N.PollLink.state c.fill.new.link).waits
+      rose_earlier c.args.link.now.waits c.reads.link.waits c.fill.new.link.waits
           c.reads.invariant.waits d.2.1,
     )

@@ -7,11 +7,11 @@ use Rattle.conn_tasks.proofs.front.next_front.Given as goal
 
 abbrev pub invariant-reads : goal.invariant-reads
 invariant-reads g l = record {
-  so : (first : LinkState) (turns : List Turn) (rest : List ℕ) → SoFar first (g.N.PollLink.state l.fn.link).link turns rest
+  so : (first : LinkState) (turns : List Turn) (rest : List ℕ) → SoFar first l.fn.link.link turns rest
       → Holds rest l.fn.awaited l.fn.inbox
-      → (now : List ℕ) × SoFar first (g.N.PollLink.state l.link).link turns now × Holds now l.awaited l.inbox;
+      → (now : List ℕ) × SoFar first l.link.link turns now × Holds now l.awaited l.inbox;
   few : total_of l.awaited ≤ 1064960;
-  waits : (g.N.PollLink.state l.fn.link).waits ≤ (g.N.PollLink.state l.link).waits;
+  waits : l.fn.link.waits ≤ l.link.waits;
 }
 
 abbrev pub decreases-reads : goal.decreases-reads

@@ -8,8 +8,8 @@ use Rattle.conn_tasks.proofs.reading.fill.Goals as goal
 
 pub returns-in-Ready-Err-clause-drew : goal.returns-in-Ready-Err-clause-drew
 returns-in-Ready-Err-clause-drew g c =
-    let a = (g.N.PollLink.state c.args.link.now).link in
-    let b = (g.N.PollLink.state c.poll_read.new.self).link in
+    let a = c.args.link.now.link in
+    let b = c.poll_read.new.self.link in
     let w = rw c.in-Ready-Err.field-0-is at c.in-Ready-Err.ensures in (
       read_failed ∷ [],
       λ bytes waits. (drew_failed bytes a b waits c.in-Ready-Err.field-0-0 c.poll_read.new.buf w.0).0,
@@ -19,8 +19,8 @@ returns-in-Ready-Err-clause-drew g c =
 
 pub returns-then-count-eq0-clause-drew : goal.returns-then-count-eq0-clause-drew
 returns-then-count-eq0-clause-drew g c =
-    let a = (g.N.PollLink.state c.args.link.now).link in
-    let b = (g.N.PollLink.state c.poll_read.new.self).link in
+    let a = c.args.link.now.link in
+    let b = c.poll_read.new.self.link in
     let w = rw c.in-Ready-Ok.field-0-is at c.in-Ready-Ok.ensures in
     let zeroes : c.in-Ready-Ok.count ≡ 0 = c.if-count-eq0.true in
     let none : (c.in-Ready-Ok.count == 0) ≡ true = grind (arith, nat_tests) in
@@ -33,8 +33,8 @@ returns-then-count-eq0-clause-drew g c =
 
 pub returns-else-count-eq0-clause-drew : goal.returns-else-count-eq0-clause-drew
 returns-else-count-eq0-clause-drew g c =
-    let a = (g.N.PollLink.state c.args.link.now).link in
-    let b = (g.N.PollLink.state c.poll_read.new.self).link in
+    let a = c.args.link.now.link in
+    let b = c.poll_read.new.self.link in
     let w = rw c.in-Ready-Ok.field-0-is at c.in-Ready-Ok.ensures in
     let bytes = take c.in-Ready-Ok.count c.poll_read.new.buf in
     let some : (c.in-Ready-Ok.count == 0) ≡ false = grind (arith, nat_tests) in

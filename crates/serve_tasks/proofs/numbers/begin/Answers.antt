@@ -6,6 +6,13 @@ use Rattle.serve_tasks.proofs.Made.{tag, lead_tagged}
 use Rattle.serve_tasks.proofs.Standings.{one_comes, count_push, count_push_none, live_few}
 use Rattle.serve_tasks.proofs.numbers.begin.Goals as goal
 
+pub run_task-requires : goal.run_task-requires
+run_task-requires g c = record {
+  live = c.in_ok-task.ensures.live;
+  going = ((g.N.PollLink.state c.args.link).link, [], c.requires.new, c.in_ok-task.ensures.on);
+  room = c.in_ok-refill.ensures;
+}
+
 pub overflow_add-links : goal.overflow_add-links
 overflow_add-links g c =
     omega (arith, c.args.links.now.counted, live_few c.args.links.now.tasks.items, c.args.links.now.tasks.ok.0, c.requires.few)
@@ -41,7 +48,7 @@ returns-in-Waits-clause-runs g c =
           subst (λ (ts : List (Option TaskState)). AllStand (made ++ tag n x.0) ts c.push_reserved-in-Waits.new.self.items) (sym tasks_is)
           (subst (λ (ss : List (Option Service)). AllStand (made ++ tag n x.0) (old ++ Some c.in-Waits.parked ∷ []) ss) (sym served_is)
           (one_comes x.0 made old done (Some c.in-Waits.parked) None all
-          (first, c.requires.new, (x.2.1 first [] c.in_ok-task.ensures.on).0, x.2.0))),
+          (first, c.requires.new, x.2.3 first [] c.in_ok-task.ensures.on, x.2.0))),
     )
 
 pub returns-in-Ended-clause-runs : goal.returns-in-Ended-clause-runs

@@ -1,13 +1,23 @@
-use Rattle.std.proofs.Common.{◌≡◌, ◌++◌, None, Some, List, Option, set, sym, ap, ◌∙◌, subst, arith}
+use Rattle.std.proofs.Common.{◌≡◌, ◌≤◌, ◌++◌, ℕ, None, Some, List, Option, set, get_or, refl, sym, ap, ◌∙◌, subst, arith}
 use Rattle.std.proofs.lemmas.List.{set-get_or}
 use Rattle.http_serve.specs.Service.{Service}
 use Rattle.conn_tasks.specs.State.{TaskState}
-use Rattle.conn_tasks.specs.Tasks.{IsOn}
+use Rattle.rate_io.specs.Causes.{Rose}
+use Rattle.conn_tasks.specs.Tasks.{IsOn, IsGoing}
 use Rattle.serve_tasks.specs.Links.{standing}
-use Rattle.serve_tasks.specs.Running.{AllStand, Runs, live_count}
+use Rattle.serve_tasks.specs.Running.{AllStand, Runs, WasRun, Follows, live_count}
 use Rattle.serve_tasks.proofs.Made.{tag, lead_tagged}
-use Rattle.serve_tasks.proofs.Standings.{runs_none, count_taken, count_kept, there_within, ran_on, ran_out}
+use Rattle.serve_tasks.proofs.Standings.{runs_none, count_taken, count_kept, there_within, ran_on, ran_out, one_goes}
+use Rattle.serve_tasks.proofs.Runs.{follows_same, run_waiting, others_waiting, run_ended, others_ended}
 use Rattle.serve_tasks.proofs.numbers.run_at.Goals as goal
+
+pub run_task-requires : goal.run_task-requires
+run_task-requires g c = record {
+  live = c.woken-task.ensures.live;
+  going = subst (λ (s : TaskState). IsGoing s) (sym c.woken-task.ensures.same)
+      (one_goes c.args.number (standing c.args.links.now) c.in-Some.parked c.requires.stand c.in-Some.ensures.taken);
+  room = c.in_ok-refill.ensures;
+}
 
 pub returns-in_default-clause-runs : goal.returns-in_default-clause-runs
 returns-in_default-clause-runs g c =
@@ -47,7 +57,7 @@ returns-in-Waits-clause-runs g c =
       λ made all.
           subst (λ (ts : List (Option TaskState)). AllStand (made ++ tag n x.0) ts done) (sym is)
           (ran_on n x.0 made old done c.in-Some.parked all c.in-Some.ensures.taken c.in-Waits.parked x.2.0
-          (λ first asked on. (x.2.1 first asked (subst (λ (u : TaskState). IsOn first asked u) (sym c.woken-task.ensures.same) on)).0)),
+          (λ first asked on. x.2.3 first asked (subst (λ (u : TaskState). IsOn first asked u) (sym c.woken-task.ensures.same) on))),
     )
 
 pub returns-in-Ended-clause-runs : goal.returns-in-Ended-clause-runs
@@ -66,3 +76,52 @@ returns-in-Ended-clause-runs g c =
           (ran_out n x.0 made old done s all c.in-Some.ensures.taken c.in-Ended.served number
           (λ first asked new on. x.2.1 first asked new (subst (λ (u : TaskState). IsOn first asked u) (sym c.woken-task.ensures.same) on)))),
     )
+
+pub returns-in_default-clause-run : goal.returns-in_default-clause-run
+returns-in_default-clause-run g c =
+    let old = c.args.links.now.tasks.items in
+    let none = c.in_default.ensures.taken in
+    let same : c.take_at.new.tasks.items ≡ old =
+    c.take_at.ensures.rest ∙ (ap (λ (v : Option TaskState). set old c.args.number v) none ∙ set-get_or old c.args.number None) in
+    subst (λ (ts : List (Option TaskState)). WasRun (get_or old c.args.number None) (get_or ts c.args.number None)) (sym same)
+    (subst (λ (o : Option TaskState). WasRun o o) none refl)
+
+pub returns-in_default-clause-others : goal.returns-in_default-clause-others
+returns-in_default-clause-others g c = λ k.
+    let old = c.args.links.now.tasks.items in
+    let same : c.take_at.new.tasks.items ≡ old =
+    c.take_at.ensures.rest ∙ (ap (λ (v : Option TaskState). set old c.args.number v) c.in_default.ensures.taken ∙ set-get_or old c.args.number None) in
+    subst (λ (ts : List (Option TaskState)). Follows (get_or old k None) (get_or ts k None)) (sym same) (follows_same (get_or old k None))
+
+pub returns-in-Waits-clause-run : goal.returns-in-Waits-clause-run
+returns-in-Waits-clause-run g c =
+    let old = c.args.links.now.tasks.items in
+    let n = c.args.number in
+    let is : c.put_at.new.list.items ≡ set (set old n None) n (Some c.in-Waits.parked) =
+    c.put_at.ensures.put ∙ ap (λ (xs : List (Option TaskState)). set xs n (Some c.in-Waits.parked)) c.take_at.ensures.rest in
+    subst (λ (ts : List (Option TaskState)). WasRun (get_or old n None) (get_or ts n None)) (sym is)
+    (run_waiting old n c.in-Some.parked c.in-Some.ensures.taken c.in-Waits.parked
+    (subst (λ (s : TaskState). Rose s.link.waits c.in-Waits.parked.link.waits) c.woken-task.ensures.same c.in-Waits.ensures.2.2))
+
+pub returns-in-Waits-clause-others : goal.returns-in-Waits-clause-others
+returns-in-Waits-clause-others g c = λ k.
+    let old = c.args.links.now.tasks.items in
+    let n = c.args.number in
+    let is : c.put_at.new.list.items ≡ set (set old n None) n (Some c.in-Waits.parked) =
+    c.put_at.ensures.put ∙ ap (λ (xs : List (Option TaskState)). set xs n (Some c.in-Waits.parked)) c.take_at.ensures.rest in
+    subst (λ (ts : List (Option TaskState)). Follows (get_or old k None) (get_or ts k None)) (sym is)
+    (others_waiting old n c.in-Some.parked c.in-Some.ensures.taken c.in-Waits.parked
+    (subst (λ (s : TaskState). s.link.waits ≤ c.in-Waits.parked.link.waits) c.woken-task.ensures.same c.in-Waits.ensures.2.1) k)
+
+pub returns-in-Ended-clause-run : goal.returns-in-Ended-clause-run
+returns-in-Ended-clause-run g c =
+    let old = c.args.links.now.tasks.items in
+    let n = c.args.number in
+    subst (λ (ts : List (Option TaskState)). WasRun (get_or old n None) (get_or ts n None)) (sym c.take_at.ensures.rest)
+    (run_ended old n c.in-Some.parked c.in-Some.ensures.taken)
+
+pub returns-in-Ended-clause-others : goal.returns-in-Ended-clause-others
+returns-in-Ended-clause-others g c = λ k.
+    let old = c.args.links.now.tasks.items in
+    subst (λ (ts : List (Option TaskState)). Follows (get_or old k None) (get_or ts k None)) (sym c.take_at.ensures.rest)
+    (others_ended old c.args.number c.in-Some.parked c.in-Some.ensures.taken k)

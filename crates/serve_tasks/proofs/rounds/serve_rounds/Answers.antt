@@ -1,10 +1,10 @@
-use Rattle.std.proofs.Common.{◌≡◌, ◌≤◌, ℕ, true, sym, ◌∙◌, subst, vec_len}
+use Rattle.std.proofs.Common.{◌≡◌, ◌≤◌, ℕ, true, sym, ◌∙◌, subst, vec_len, arith}
 use Rattle.http_endpoint.proofs.ReadLemmas.{rose_earlier}
 use Rattle.serve_tasks.specs.Links.{standing}
 use Rattle.serve_tasks.specs.Accepting.{Leaves, is_over}
 use Rattle.serve_tasks.proofs.Accepts.{slept, ends_so}
 use Rattle.serve_tasks.proofs.Calls.{stayed, grew_more}
-use Rattle.serve_tasks.proofs.Standings.{runs_more}
+use Rattle.serve_tasks.proofs.Standings.{runs_more, none_there, stand_again}
 use Rattle.serve_tasks.proofs.rounds.serve_rounds.Goals as goal
 
 pub returns-then-links-eq0-clause-runs : goal.returns-then-links-eq0-clause-runs
@@ -33,6 +33,17 @@ returns-in_default-clause-ends g c =
       rose_earlier (Q.faults c.args.polls.now) (Q.faults c.accept_on.new.polls) (Q.faults c.sleep_on.new.polls) l.later c.in_default.ensures.cause.failed,
     )
 
+pub run_woken-requires : goal.run_woken-requires
+run_woken-requires g c =
+    let A = g.K.Checks.answers in
+    let l = c.args.links.now in
+    let s = none_there (standing l) (omega (arith, l.as_many, l.served.ok.0, l.tasks.ok.0)) (omega (arith, c.requires.none, l.tasks.ok.0)) in
+    let here = stand_again A c.args.checks.now c.rounds.checks (standing c.args.links.now) (standing c.rounds.links) s c.rounds.invariant.runs in
+    record {
+      stand = stand_again A c.rounds.checks c.accept_on.new.checks (standing c.rounds.links) (standing c.accept_on.new.links) here c.in_ok-accepting.ensures.runs;
+      all = c.in-Ok.ensures.told;
+    }
+
 pub rounds-preserved : goal.rounds-preserved
 rounds-preserved g c =
     let Q = g.Q.PollListen in
@@ -43,13 +54,13 @@ rounds-preserved g c =
     let s = Q.history c.sleep_on.new.polls in
     let n = vec_len c.accept_on.new.links.tasks in
     let o = c.in_ok-accepting.ensures in
-    let w = c.run_woken-may_come.ensures in
+    let w = c.in_ok-may_come.ensures in
     let l = o.accepts h f c.rounds.invariant.leaves in
     let m = slept c.args.connections c.in_ok-accepting.accepting n f (Q.faults c.accept_on.new.polls) (Q.faults c.sleep_on.new.polls) h a s c.in-Ok.ensures.history
     c.in-Ok.ensures.cause.later l in
     record {
-      runs = runs_more A c.args.checks.now c.accept_on.new.checks c.run_woken-may_come.new.checks (standing c.args.links.now) (standing c.accept_on.new.links)
-          (standing c.run_woken-may_come.new.links)
+      runs = runs_more A c.args.checks.now c.accept_on.new.checks c.run_woken.new.checks (standing c.args.links.now) (standing c.accept_on.new.links)
+          (standing c.run_woken.new.links)
           (runs_more A c.args.checks.now c.rounds.checks c.accept_on.new.checks (standing c.args.links.now) (standing c.rounds.links) (standing c.accept_on.new.links)
           c.rounds.invariant.runs o.runs) w.runs;
       leaves = subst (λ (k : ℕ). Leaves c.args.connections c.accepting_after-accepting.result k h s (f, Q.faults c.sleep_on.new.polls)) (sym w.as_many)

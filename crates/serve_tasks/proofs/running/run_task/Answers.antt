@@ -9,21 +9,30 @@ use Rattle.serve_tasks.proofs.running.run_task.Goals as goal
 pub turns-init : goal.turns-init
 turns-init g c = record {
   runs = ([], refl, λ first asked on. subst (λ (qs : List Asked). IsOn first qs c.args.task) (sym (append-nil asked)) on);
-  live = c.requires;
+  live = c.requires.live;
   waits = omega arith;
+  room = λ reading. c.requires.room;
 }
+
+pub poll_turn-requires : goal.poll_turn-requires
+poll_turn-requires g c =
+    let x = c.turns.invariant.runs in
+    let r = c.requires.going in
+    record { live = c.turns.invariant.live; going = (r.0, r.1 ++ x.0, r.2, x.2 r.0 r.1 r.3); room = c.turns.invariant.room }
 
 pub returns-in-Pending : goal.returns-in-Pending
 returns-in-Pending g c =
     let x = c.turns.invariant.runs in
+    let r = c.requires.going in
     let t = c.in-Pending.ensures in (
       x.0,
       x.1,
       (
         t.mode,
-        λ first asked on.
-            let y = t.turns first (asked ++ x.0) (x.2 first asked on) in
-            (y.0, rose_earlier c.args.task.link.waits c.turns.task.link.waits c.poll_turn.new.self.link.waits c.turns.invariant.waits y.1),
+        le_trans c.turns.invariant.waits t.waits,
+        rose_earlier c.args.task.link.waits c.turns.task.link.waits c.poll_turn.new.self.link.waits c.turns.invariant.waits
+            (t.turns r.0 (r.1 ++ x.0) (x.2 r.0 r.1 r.3)).1,
+        λ first asked on. (t.turns first (asked ++ x.0) (x.2 first asked on)).0,
       ),
     )
 
@@ -42,6 +51,7 @@ turns-preserved g c =
       live = ap is_live c.make_check.ensures.mode;
       waits = le_trans c.turns.invariant.waits (subst (λ n. c.turns.task.link.waits ≤ n)
           (sym (ap (λ (l : PollState). l.waits) c.make_check.ensures.link)) c.in-Check.ensures.waits);
+      room = λ reading. let writing = c.make_check.ensures.mode in absurd (cc);
     }
 
 pub returns-in-End : goal.returns-in-End

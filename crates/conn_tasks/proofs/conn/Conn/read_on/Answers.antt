@@ -31,29 +31,29 @@ returns-in-Front-clause-steps g c = λ first asked r.
       last = r.last;
       asked_is = r.asked_is;
     }) in
-    steps_earlier first asked (g.N.PollLink.state c.args.self.now.link).waits (g.N.PollLink.state c.next_front.new.link).waits _ c.take_front.result c.in-Front.ensures.waits front
+    steps_earlier first asked c.args.self.now.link.waits c.next_front.new.link.waits _ c.take_front.result c.in-Front.ensures.waits front
 
 pub returns-in-NoMemory-clause-steps : goal.returns-in-NoMemory-clause-steps
 returns-in-NoMemory-clause-steps g c = λ first asked r.
     let x = c.in-NoMemory.ensures.nexts first r.turns r.rest r.so_far r.holds in
-    let p = memory_turn (c.args.self.now.answers + 1 == answers_max) x.2.0 (string_bytes c.args.self.now.out) c.in-NoMemory.sends_body x.2.2 in
-    none_asked first asked _ (starts_writing first (g.N.PollLink.state c.next_front.new.link).link asked _ r.turns x.0 x.2.0 None x.1
-    (tells_none (g.N.PollLink.state c.next_front.new.link).link) x.2.1 p refl refl (λ still. absurd (cc)) r.count r.asked_is)
+    let p = memory_turn (c.args.self.now.answers + 1 == answers_max) x.2.0 (string_bytes c.args.room.now.out) c.in-NoMemory.sends_body x.2.2 in
+    none_asked first asked _ (starts_writing first c.next_front.new.link.link asked _ r.turns x.0 x.2.0 None x.1
+    (tells_none c.next_front.new.link.link) x.2.1 p refl refl (λ still. absurd (cc)) r.count r.asked_is)
 
 pub returns-in-Ended-clause-steps : goal.returns-in-Ended-clause-steps
 returns-in-Ended-clause-steps g c = λ first asked r.
     let x = c.in-Ended.ensures.nexts first r.turns r.rest r.so_far r.holds in
     rw c.ended.ensures
-    (refl, served_ended first (g.N.PollLink.state c.next_front.new.link).link asked r.turns x.0 c.args.self.now.answers x.1 x.2 r.count r.asked_is)
+    (refl, served_ended first c.next_front.new.link.link asked r.turns x.0 c.args.self.now.answers x.1 x.2 r.count r.asked_is)
 
 pub returns-in-CutShort-clause-steps : goal.returns-in-CutShort-clause-steps
 returns-in-CutShort-clause-steps g c = λ first asked r.
     let x = c.in-CutShort.ensures.nexts first r.turns r.rest r.so_far r.holds in
     rw c.ended-in-CutShort.ensures
-    (refl, served_cut first (g.N.PollLink.state c.next_front.new.link).link asked r.turns x.0 c.args.self.now.answers x.1 x.2 r.count r.asked_is)
+    (refl, served_cut first c.next_front.new.link.link asked r.turns x.0 c.args.self.now.answers x.1 x.2 r.count r.asked_is)
 
 pub returns-in-ReadFault-clause-steps : goal.returns-in-ReadFault-clause-steps
 returns-in-ReadFault-clause-steps g c = λ first asked r.
     let x = c.in-ReadFault.ensures.nexts first r.turns r.rest r.so_far r.holds in
     rw c.ended-in-ReadFault.ensures
-    (refl, served_read_fault first (g.N.PollLink.state c.next_front.new.link).link asked r.turns x.0 c.args.self.now.answers x.1 r.count r.asked_is)
+    (refl, served_read_fault first c.next_front.new.link.link asked r.turns x.0 c.args.self.now.answers x.1 r.count r.asked_is)

@@ -13,5 +13,5 @@ returns-in-Fixed-clause-steps g c = λ first asked.
     (λ h.
     let p = fixed_turn (c.args.self.now.answers + 1 == answers_max) c.in-Fixed.answer c.in-Fixed.used (string_bytes c.answer_fixed-self.new.out)
     c.answer_fixed-self.result (rw h.last at c.answer_fixed-self.ensures) in
-    none_asked first asked _ (starts_writing first (g.N.PollLink.state c.args.self.now.link).link asked _ h.turns h.rest (Fixed c.in-Fixed.answer c.in-Fixed.used) None
-    h.so_far (tells_none (g.N.PollLink.state c.args.self.now.link).link) h.stands p refl c.closes-self.ensures (λ still. holds_head _ _ _ (sym h.behind) h.awaits) h.count h.asked_is))
+    none_asked first asked _ (starts_writing first c.args.self.now.link.link asked _ h.turns h.rest (Fixed c.in-Fixed.answer c.in-Fixed.used) None
+    h.so_far (tells_none c.args.self.now.link.link) h.stands p refl c.closes-self.ensures (λ still. holds_head _ _ _ (sym h.behind) h.awaits) h.count h.asked_is))
