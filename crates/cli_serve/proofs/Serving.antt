@@ -57,7 +57,7 @@ pub record From (by : ServeBy) (config : List DomainTree) (job : ServeJob) (old 
   pub served : ServedFor by config job more services is_all
 
 pub served_from : (workers : ℕ) (config : List DomainTree) (job : ServeJob) (old new : List ListenEvent) (services : List Service) (is_all : Bool)
-    → ServedByLimiter config (record { workers = workers; cells = job.cells; global_shadow = job.global_shadow }) old new services is_all
+    → ServedByLimiter config (record { workers = workers; cells = job.cells; global_shadow = job.global_shadow; stats = job.stats }) old new services is_all
     → From (Workers workers) config job old new services is_all
 served_from workers config job old new services is_all h = record {
   more = accepts (length services) is_all ++ given_back services;
@@ -66,14 +66,17 @@ served_from workers config job old new services is_all h = record {
     limiter = h.limiter;
     before = h.before;
     made = h.made;
+    stats = h.stats;
+    kept = h.kept;
     after = h.after;
     served = record { numbered = h.served.numbered; asked = h.served.asked; served = h.served.served; handled = refl };
     closed = h.closed;
+    counted = h.counted;
   };
 }
 
 pub tasks_from : (tasks : ℕ) (config : List DomainTree) (job : ServeJob) (old new : List ListenEvent) (services : List Service) (is_all : Bool)
-    → TasksServedByLimiter config (record { cells = job.cells; global_shadow = job.global_shadow }) old new services is_all
+    → TasksServedByLimiter config (record { cells = job.cells; global_shadow = job.global_shadow; stats = job.stats }) old new services is_all
     → From (Tasks tasks) config job old new services is_all
 tasks_from tasks config job old new services is_all h = record {
   more = accepts (length services) is_all ++ given_back services;
@@ -82,9 +85,12 @@ tasks_from tasks config job old new services is_all h = record {
     limiter = h.limiter;
     before = h.before;
     made = h.made;
+    stats = h.stats;
+    kept = h.kept;
     after = h.after;
     served = record { numbered = h.served.numbered; served = h.served.served; handled = refl };
     closed = h.closed;
+    counted = h.counted;
   };
 }
 

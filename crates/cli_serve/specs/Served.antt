@@ -62,9 +62,9 @@ HasTasks (Tasks tasks) = ⊤
 -- A limiter of the configuration served these links: a pass in each of so many threads, or one pass by tasks on one thread.
 abbrev pub ServedFor : ServeBy → List DomainTree → ServeJob → List ListenEvent → List Service → Bool → Type 0
 ServedFor (Workers workers) config job more services is_all =
-    ServedByLimiter config (record { workers = workers; cells = job.cells; global_shadow = job.global_shadow }) [] more services is_all
+    ServedByLimiter config (record { workers = workers; cells = job.cells; global_shadow = job.global_shadow; stats = job.stats }) [] more services is_all
 ServedFor (Tasks tasks) config job more services is_all =
-    TasksServedByLimiter config (record { cells = job.cells; global_shadow = job.global_shadow }) [] more services is_all
+    TasksServedByLimiter config (record { cells = job.cells; global_shadow = job.global_shadow; stats = job.stats }) [] more services is_all
 
 -- `serve` read its files, which spell this configuration, and no input
 pub record HasBegun (w : World) (job : ServeJob) (config : List DomainTree) : Type 0 where

@@ -49,6 +49,7 @@ where
         workers,
         cells: job.cells,
         global_shadow: job.global_shadow,
+        stats: job.stats,
     };
     match serve_limited(rt, alloc, seed, config, setup, listen, job.connections) {
         Ok(ends) => write_ends(alloc, &ends, sink),

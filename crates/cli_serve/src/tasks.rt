@@ -46,6 +46,7 @@ fn serve_tasks_and_end<R: Wait, K: Sink, Q: PollListen>(
     let setup = TaskSetup {
         cells: job.cells,
         global_shadow: job.global_shadow,
+        stats: job.stats,
     };
     match serve_limited_tasks(
         rt,

@@ -9,6 +9,7 @@ mod reports;
 mod rows;
 mod serve;
 mod side_by_side;
+mod tasks;
 mod workers;
 
 ghost use Rattle.std.specs.Prelude.{◌≡◌, [], IfOk};

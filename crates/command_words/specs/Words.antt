@@ -73,11 +73,11 @@ number_named name = record (new_rule name) { required = true }
 unfoldable pub gen_app : App
 gen_app = with_rule (with_rule (new_app (codes "gen")) (number_named (codes "number"))) (number_named (codes "checks"))
 
--- `serve --port P --connections N [--workers N | --tasks N] [--cells N] [--global-shadow] CONFIG..`
+-- `serve --port P --connections N [--workers N | --tasks N] [--cells N] [--global-shadow] [--stats] CONFIG..`
 unfoldable pub serve_app : App
-serve_app = with_rule (with_rule (with_rule (with_rule (with_rule (with_rule (with_rule (new_app (codes "serve")) (required_named (codes "port")))
-    (required_named (codes "connections"))) (option_named (codes "workers"))) (option_named (codes "tasks"))) (option_named (codes "cells")))
-    (flag_named (codes "global-shadow"))) (files_named (codes "configs"))
+serve_app = with_rule (with_rule (with_rule (with_rule (with_rule (with_rule (with_rule (with_rule (new_app (codes "serve"))
+    (required_named (codes "port"))) (required_named (codes "connections"))) (option_named (codes "workers"))) (option_named (codes "tasks")))
+    (option_named (codes "cells"))) (flag_named (codes "global-shadow"))) (flag_named (codes "stats"))) (files_named (codes "configs"))
 
 -- what is made of the words where a command takes them: where it has no fault in them
 abbrev pub if_taken : {X : Type 0} → Kinds → Option X → Option X
@@ -202,16 +202,17 @@ serve_by None (Some tasks) = option_map Tasks (number_in 1 MOST_TASKS 1 (Some ta
 serve_by (Some workers) (Some tasks) = None
 
 -- the serving of connections by these, where all are there
-abbrev pub serve_job_of : List (List ℕ) → Option ℕ → Option ℕ → Option ServeBy → Option ℕ → Bool → Option Command
-serve_job_of configs (Some port) (Some connections) (Some by) (Some cells) global_shadow = Some (Threads (Serve (record {
+abbrev pub serve_job_of : List (List ℕ) → Option ℕ → Option ℕ → Option ServeBy → Option ℕ → Bool → Bool → Option Command
+serve_job_of configs (Some port) (Some connections) (Some by) (Some cells) global_shadow stats = Some (Threads (Serve (record {
   configs = configs;
   by = by;
   cells = cells;
   global_shadow = global_shadow;
+  stats = stats;
   port = port;
   connections = connections;
 })))
-serve_job_of configs port connections by cells global_shadow = None
+serve_job_of configs port connections by cells global_shadow stats = None
 
 -- what `serve` does: `--port` is 0 to 65,535, `--connections` 0 to 1,048,576, `--cells` 1 to 1,048,576
 abbrev pub serve_job : List Row → Option Command
@@ -219,6 +220,7 @@ serve_job rows = serve_job_of (configs_in rows) (required_in 65535 (first_of (co
     (required_in MOST_CONNECTIONS (first_of (codes "connections") rows))
     (serve_by (first_of (codes "workers") rows) (first_of (codes "tasks") rows))
     (number_in 1 MOST_CELLS DEFAULT_CELLS (first_of (codes "cells") rows)) (is_given (first_of (codes "global-shadow") rows))
+    (is_given (first_of (codes "stats") rows))
 
 -- the words of `serve`
 abbrev pub serve_of : List (List ℕ) → Option Command

@@ -99,6 +99,8 @@ pub struct ServeJob {
     pub cells: u32,
     /// Whether overall codes are always OK.
     pub global_shadow: bool,
+    /// Whether statistics of the rules are kept, and told where they are asked for.
+    pub stats: bool,
     /// The port to listen at, 0 for a free one.
     pub port: u16,
     /// 0 to 1,048,576.

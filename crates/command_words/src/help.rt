@@ -33,7 +33,7 @@ ratelimit: a rate limiter after Envoy's rate limit service, over recorded traffi
         --cells N          cells for counters: 1 to 1048576 (default 262144)
         --start T          the moment of the start, in seconds: 0 to 1000000000000 (default 0)
         --global-shadow    no reply has the overall code OVER_LIMIT
-  serve --port P --connections N [--workers N | --tasks N] [--cells N] [--global-shadow] CONFIG..
+  serve --port P --connections N [--workers N | --tasks N] [--cells N] [--global-shadow] [--stats] CONFIG..
       Reads configuration files and answers checks over HTTP at the loopback address: POST /json with a RateLimitRequest, GET
       /healthcheck. Prints its port, and after N connections how each of them ended.
         --port P           the port, 0 for a free one
@@ -42,6 +42,7 @@ ratelimit: a rate limiter after Envoy's rate limit service, over recorded traffi
         --tasks N          many connections on one thread: so many open at a time, 1 to 256, none of which waits for another
         --cells N          cells for counters: 1 to 1048576 (default 262144)
         --global-shadow    no reply has the overall code OVER_LIMIT
+        --stats            answers GET /stats with what each rule counted, admitted and refused so far, in hits
   gen NUMBER CHECKS
       Runs the made-up load of a number, 0 to 18446744073709551615, by four workers: so many checks, 0 to 1048576, of 64 counters that
       admit 100 hits each. Prints how many were admitted and how many denied, which is the same for each run.

@@ -20,7 +20,7 @@ use std::alloc::{AllocError, Global};
 /// The most connections that are open at a time where one thread serves them.
 pub const MOST_TASKS: u32 = 256;
 
-/// `serve --port P --connections N [--workers N | --tasks N] [--cells N] [--global-shadow] CONFIG..`
+/// `serve --port P --connections N [--workers N | --tasks N] [--cells N] [--global-shadow] [--stats] CONFIG..`
 pub fn serve_parser<'a>(alloc: Global) -> Result<Parser<'a>, AllocError>
     ensures { IfOk result (λ c. app_of c ≡ spec.serve_app) }
 {
@@ -30,7 +30,8 @@ pub fn serve_parser<'a>(alloc: Global) -> Result<Parser<'a>, AllocError>
     let four = with_option(alloc, three, "tasks")?;
     let five = with_option(alloc, four, "cells")?;
     let six = with_flag(alloc, five, "global-shadow")?;
-    let command = with_files(alloc, six, "configs")?;
+    let seven = with_flag(alloc, six, "stats")?;
+    let command = with_files(alloc, seven, "configs")?;
     Ok(command)
 }
 
@@ -71,12 +72,13 @@ fn serve_job_of(
     by: Option<ServeBy>,
     cells: Option<u32>,
     global_shadow: bool,
+    stats: bool,
 ) -> Option<Command>
     requires port { IfSome port (λ n. n ≤ 65535) }
     requires connections { IfSome connections (λ n. n ≤ MOST_CONNECTIONS) }
     requires by { IfSome by spec.IsByInRange }
     requires cells { IfSome cells (λ n. (1 ≤ n) × (n ≤ MOST_CELLS)) }
-    ensures job { result ≡ spec.serve_job_of configs port connections by cells global_shadow }
+    ensures job { result ≡ spec.serve_job_of configs port connections by cells global_shadow stats }
     ensures range { IfSome result spec.AreInRange }
 {
     let Some(port) = port else {
@@ -96,6 +98,7 @@ fn serve_job_of(
         by,
         cells,
         global_shadow,
+        stats,
         port: port as u16,
         connections,
     })))
@@ -113,7 +116,8 @@ pub fn serve_job(alloc: Global, matches: &ArgMatches<'_>) -> Result<Command, Wor
     let by = serve_by(first_in(matches, "workers"), first_in(matches, "tasks"));
     let cells = count_in(first_in(matches, "cells"), 1, MOST_CELLS, DEFAULT_CELLS);
     let global_shadow = is_given(first_in(matches, "global-shadow"));
-    match serve_job_of(configs, port, connections, by, cells, global_shadow) {
+    let stats = is_given(first_in(matches, "stats"));
+    match serve_job_of(configs, port, connections, by, cells, global_shadow, stats) {
         Some(job) => Ok(job),
         None => Err(WordsFault::Usage),
     }

@@ -71,6 +71,7 @@ pub steps_earlier : (first : LinkState) (asked : List Asked) (old mid : ℕ) (ne
 steps_earlier first asked old mid new step.On later x = x
 steps_earlier first asked old mid new step.Wait later x = (x.0, rose_earlier old mid new.link.waits later x.1)
 steps_earlier first asked old mid new (step.Check request now) later x = x
+steps_earlier first asked old mid new (step.Stats method) later x = x
 steps_earlier first asked old mid new (step.End link_end) later x = x
 
 -- a link of which nothing was read or written yet

@@ -4,7 +4,7 @@ use Rattle.std.proofs.Common.{◌≡◌, ℕ, false, List, [], ◌∷◌, ◌++�
 use Rattle.std.proofs.lemmas.Grind.{flat_map-append}
 use Rattle.rate_io.specs.Events.{Event, gave, ended, read_failed, wrote, write_failed, flushed, flush_failed, told, given, has_write_failed, pieces_written}
 use Rattle.http_front.specs.Front.{IsFront, used_of}
-use Rattle.http_endpoint.specs.Answers.{Asked, Turn, turn_bytes}
+use Rattle.http_endpoint.specs.Answers.{Asked, check, statistics, Turn, turn_bytes}
 use Rattle.http_endpoint.specs.Order.{ReadsOn, told_for, OffersWithin}
 use Rattle.http_endpoint.proofs.ReadLemmas.{given-append, pieces-append, reads_more}
 use Rattle.conn_tasks.specs.Order.{bytes_written, AreWrites, Writes, TaskCalls}
@@ -55,15 +55,18 @@ unfailed_writes (told now ∷ es) x = absurd (let not = x.0 in cc)
 -- what the clock told, and then other calls
 given_told : (asked : Option Asked) (es : List Event) → given (told_for asked ++ es) ≡ given es
 given_told None es = refl
-given_told (Some a) es = refl
+given_told (Some (check c)) es = refl
+given_told (Some (statistics text)) es = refl
 
 written_told : (asked : Option Asked) (es : List Event) → bytes_written (told_for asked ++ es) ≡ bytes_written es
 written_told None es = refl
-written_told (Some a) es = refl
+written_told (Some (check c)) es = refl
+written_told (Some (statistics text)) es = refl
 
 failed_told : (asked : Option Asked) (es : List Event) → has_write_failed (told_for asked ++ es) ≡ has_write_failed es
 failed_told None es = refl
-failed_told (Some a) es = refl
+failed_told (Some (check c)) es = refl
+failed_told (Some (statistics text)) es = refl
 
 pub given_sent : (asked : Option Asked) (bytes : List ℕ) (es : List Event) → Writes bytes es → given (told_for asked ++ es) ≡ []
 given_sent asked bytes es w = given_told asked es ∙ given_writes es w.are

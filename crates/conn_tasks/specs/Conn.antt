@@ -4,7 +4,7 @@ use Rattle.conn_tasks.specs.State.{TaskState}
 use Rattle.conn_tasks.specs.declared.poll_link.PollLink.{Ghosts}
 use Rattle.conn_tasks.specs.declared.conn.Conn.{Conn}
 use Rattle.conn_tasks.specs.declared.conn.Mode.{Mode}
-use Rattle.conn_tasks.specs.declared.conn.Mode.TheVariants.{Reading, Checking, Writing, Ended}
+use Rattle.conn_tasks.specs.declared.conn.Mode.TheVariants.{Reading, Checking, Telling, Writing, Ended}
 use Rattle.conn_tasks.specs.declared.room.Room.{Room}
 
 -- what is kept in a room, and the text that is printed in it; without a room, none
@@ -20,6 +20,7 @@ text_in (Some room) = string_bytes room.out
 abbrev pub needs_room : Mode → Bool
 needs_room Reading = false
 needs_room Checking = true
+needs_room Telling = true
 needs_room Writing = true
 needs_room Ended = false
 
@@ -27,6 +28,7 @@ needs_room Ended = false
 abbrev pub IsFree : Mode → List ℕ → Type 0
 IsFree Reading kept = kept ≡ []
 IsFree Checking kept = ⊥
+IsFree Telling kept = ⊥
 IsFree Writing kept = ⊥
 IsFree Ended kept = ⊤
 

@@ -12,7 +12,8 @@ use Rattle.rate_io.specs.Listeners.{IsNewLink}
 use Rattle.http_front.specs.Front.{IsFront, used_of}
 use Rattle.http_front.specs.Part.{Stands}
 use Rattle.http_front.specs.declared.front.Front.{Front}
-use Rattle.http_front.specs.declared.front.Front.TheVariants.{Ended as FrontEnded, CutShort as FrontCutShort, Check as FrontCheck}
+use Rattle.http_front.specs.declared.asks.Method.{Method}
+use Rattle.http_front.specs.declared.front.Front.TheVariants.{Ended as FrontEnded, CutShort as FrontCutShort, Check as FrontCheck, Stats as FrontStats}
 use Rattle.http_endpoint.specs.Answers.{answers_max, Asked, Turn, IsTurn, IsNext, AreAnswers, turn_bytes, asked_in}
 use Rattle.http_endpoint.specs.Printing.{PrintsTurn}
 use Rattle.http_endpoint.specs.declared.link_end.LinkCause.{LinkCause}
@@ -105,6 +106,20 @@ pub record IsChecking (first : LinkState) (asked : List Asked) (request : Reques
   pub closes : s.closes ≡ (asks_close || (s.answers + 1 == answers_max))
   pub asked_is : asked ≡ asked_in turns
 
+-- The front of a request for the statistics stands there, with this method, and waits for them.
+pub record IsTelling (first : LinkState) (asked : List Asked) (method : Method) (s : TaskState) : Type 0 where
+  pub turns : List Turn
+  pub rest : List ℕ
+  pub so_far : SoFar first s.link.link turns rest
+  pub asks_close : Bool
+  pub used : ℕ
+  pub stands : Stands rest (FrontStats method asks_close used)
+  pub behind : s.kept ≡ drop used rest
+  pub awaits : s.awaited ≡ Head
+  pub count : s.answers ≡ length turns
+  pub closes : s.closes ≡ (asks_close || (s.answers + 1 == answers_max))
+  pub asked_is : asked ≡ asked_in turns
+
 -- One more answer is printed, and its first bytes are written.
 pub record IsWriting (first : LinkState) (asked : List Asked) (s : TaskState) : Type 0 where
   pub turns : List Turn
@@ -154,6 +169,7 @@ abbrev pub Goes : LinkState → List Asked → TaskState → Mode → Type 0
 Goes first asked s mode.Reading = IsReading first asked s
 Goes first asked s mode.Writing = IsWriting first asked s
 Goes first asked s mode.Checking = ⊥
+Goes first asked s mode.Telling = ⊥
 Goes first asked s mode.Ended = ⊥
 
 -- the connection goes on, and of its checks these were answered
@@ -169,11 +185,16 @@ abbrev pub IsAsking : TaskState → Type 0
 IsAsking s = (first : LinkState) × (asked : List Asked) × (request : RequestParts) × (now : ℕ) × IsNewLink first
     × IsChecking first asked request now s
 
+-- a request for the statistics waits, of this method, likewise
+abbrev pub IsAskingStats : Method → TaskState → Type 0
+IsAskingStats method s = (first : LinkState) × (asked : List Asked) × IsNewLink first × IsTelling first asked method s
+
 -- what one step comes to, before which the link would have waited so often
 abbrev pub Steps : LinkState → List Asked → ℕ → TaskState → Step → Type 0
 Steps first asked waits new step.On = IsOn first asked new
 Steps first asked waits new step.Wait = IsOn first asked new × Rose waits new.link.waits
 Steps first asked waits new (step.Check request now) = (new.mode ≡ mode.Checking) × IsChecking first asked request now new
+Steps first asked waits new (step.Stats method) = (new.mode ≡ mode.Telling) × IsTelling first asked method new
 Steps first asked waits new (step.End link_end) =
     (new.mode ≡ mode.Ended) × TaskServed first asked new.link.link link_end.cause link_end.answers
 
@@ -181,6 +202,7 @@ Steps first asked waits new (step.End link_end) =
 abbrev pub TurnsTo : LinkState → List Asked → ℕ → TaskState → Turned → Type 0
 TurnsTo first asked waits new turned.Pending = IsOn first asked new × Rose waits new.link.waits
 TurnsTo first asked waits new (turned.Check request now) = (new.mode ≡ mode.Checking) × IsChecking first asked request now new
+TurnsTo first asked waits new (turned.Stats method) = (new.mode ≡ mode.Telling) × IsTelling first asked method new
 TurnsTo first asked waits new (turned.End link_end) =
     (new.mode ≡ mode.Ended) × TaskServed first asked new.link.link link_end.cause link_end.answers
 
@@ -188,6 +210,7 @@ TurnsTo first asked waits new (turned.End link_end) =
 abbrev pub StillGoes : TaskState → Turned → Type 0
 StillGoes new turned.Pending = IsGoing new
 StillGoes new (turned.Check request now) = IsAsking new
+StillGoes new (turned.Stats method) = IsAskingStats method new
 StillGoes new (turned.End link_end) = ⊤
 
 -- it goes on without a turn
@@ -195,6 +218,7 @@ abbrev pub is_on : Step → Bool
 is_on step.On = true
 is_on step.Wait = false
 is_on (step.Check request now) = false
+is_on (step.Stats method) = false
 is_on (step.End link_end) = false
 
 -- it may be polled
@@ -202,6 +226,7 @@ abbrev pub is_live : Mode → Bool
 is_live mode.Reading = true
 is_live mode.Writing = true
 is_live mode.Checking = false
+is_live mode.Telling = false
 is_live mode.Ended = false
 
 -- 1 while an answer is being written
@@ -209,6 +234,7 @@ abbrev pub in_answer : Mode → ℕ
 in_answer mode.Writing = 1
 in_answer mode.Reading = 0
 in_answer mode.Checking = 0
+in_answer mode.Telling = 0
 in_answer mode.Ended = 0
 
 -- where a step leaves a task
@@ -216,10 +242,12 @@ abbrev pub StandsAfter : Step → Mode → Type 0
 StandsAfter step.On now = is_live now ≡ true
 StandsAfter step.Wait now = is_live now ≡ true
 StandsAfter (step.Check request at) now = now ≡ mode.Checking
+StandsAfter (step.Stats method) now = now ≡ mode.Telling
 StandsAfter (step.End link_end) now = now ≡ mode.Ended
 
 -- where a turn leaves it
 abbrev pub StandsBehind : Turned → Mode → Type 0
 StandsBehind turned.Pending now = is_live now ≡ true
 StandsBehind (turned.Check request at) now = now ≡ mode.Checking
+StandsBehind (turned.Stats method) now = now ≡ mode.Telling
 StandsBehind (turned.End link_end) now = now ≡ mode.Ended

@@ -6,9 +6,11 @@ use crate::front::{NextPoll, next_front};
 use crate::put::{Put, put_on};
 use crate::reading::Awaited;
 use crate::{LawfulLink, PollLink, Room};
-use http_endpoint::{LinkCause, LinkEnd, Printed, answer_fixed, closes_after, print_result};
-use http_front::Front;
-use rate_types::{Request, Seconds};
+use http_endpoint::{
+    LinkCause, LinkEnd, Printed, answer_fixed, closes_after, print_result, print_stats,
+};
+use http_front::{Front, Method};
+use rate_types::{OutOfMemory, Request, Seconds, Word};
 use rls_core::{CheckFault, Reply};
 use std::alloc::Global;
 
@@ -22,6 +24,8 @@ pub enum Mode {
     Reading,
     /// A check waits for its answer.
     Checking,
+    /// A request for the statistics waits for them.
+    Telling,
     /// It writes an answer.
     Writing,
     Ended,
@@ -33,6 +37,7 @@ pub enum Step {
     On,
     Wait,
     Check(Request, Seconds),
+    Stats(Method),
     End(LinkEnd),
 }
 
@@ -43,6 +48,8 @@ pub enum Turned {
     Pending,
     /// The check of this request is wanted, and offers this moment.
     Check(Request, Seconds),
+    /// The statistics are wanted, by a request of this method.
+    Stats(Method),
     /// The connection has ended.
     End(LinkEnd),
 }
@@ -66,14 +73,14 @@ pub struct Conn<N: PollLink + Drop> {
 }
 
 impl<N: PollLink + Drop> Conn<N> {
-    ghost use Rattle.std.specs.Prelude.{◌≡◌, ◌≤◌, ◌+◌, ◌*◌, ◌∷◌, ◌++◌, [], List, ℕ, true, false};
+    ghost use Rattle.std.specs.Prelude.{◌≡◌, ◌≤◌, ◌+◌, ◌*◌, ◌∷◌, ◌++◌, [], List, ℕ, true, false, option_to_list};
     ghost use Rattle.std.specs.Option.{is_some};
     ghost use Rattle.rate_io.specs.Links.{LinkState};
     ghost use Rattle.rate_types.specs.Requests.{RequestParts};
-    ghost use Rattle.http_endpoint.specs.Answers.{Asked};
+    ghost use Rattle.http_endpoint.specs.Answers.{Asked, check, statistics_asked};
     ghost use Rattle.http_front.specs.Front.{is_waiting};
     ghost use Rattle.conn_tasks.specs.Conn.{seen, seen_in, seen_with, needs_room, IsFree};
-    ghost use Rattle.conn_tasks.specs.Tasks.{IsOn, IsGoing, IsReading, IsWriting, IsChecking, IsWritten, HasFront, Steps, TurnsTo};
+    ghost use Rattle.conn_tasks.specs.Tasks.{IsOn, IsGoing, IsReading, IsWriting, IsChecking, IsTelling, IsWritten, HasFront, Steps, TurnsTo};
     ghost use Rattle.conn_tasks.specs.Tasks.{StandsAfter, StandsBehind, is_on, is_live, in_answer};
 
     /// A connection that was just handed out.
@@ -196,6 +203,11 @@ impl<N: PollLink + Drop> Conn<N> {
                 let moment = self.link.now();
                 Step::Check(request, moment)
             }
+            Front::Stats { method, closes, .. } => {
+                self.closes = closes_after(closes, self.closes);
+                self.mode = Mode::Telling;
+                Step::Stats(method)
+            }
             Front::Ended | Front::CutShort => unreachable!(),
         }
     }
@@ -206,7 +218,7 @@ impl<N: PollLink + Drop> Conn<N> {
         requires room { is_some self.old.room ≡ true }
         ensures answered { (first : LinkState) (asked : List Asked) (request : RequestParts) (now : ℕ)
             → IsChecking first asked request now (seen self.old)
-            → IsOn first (asked ++ record { request = request; now = now; result = came } ∷ []) (seen self.new) }
+            → IsOn first (asked ++ check (record { request = request; now = now; result = came }) ∷ []) (seen self.new) }
         ensures mode { self.new.mode ≡ Mode.Writing }
         ensures link { self.new.link ≡ self.old.link }
         ensures room { is_some self.new.room ≡ true }
@@ -223,12 +235,48 @@ impl<N: PollLink + Drop> Conn<N> {
         requires { self.old.mode ≡ Mode.Checking }
         ensures answered { (first : LinkState) (asked : List Asked) (request : RequestParts) (now : ℕ)
             → IsChecking first asked request now (seen_in self.old room.old)
-            → IsOn first (asked ++ record { request = request; now = now; result = came } ∷ []) (seen_in self.new room.new) }
+            → IsOn first (asked ++ check (record { request = request; now = now; result = came }) ∷ []) (seen_in self.new room.new) }
         ensures mode { self.new.mode ≡ Mode.Writing }
         ensures link { self.new.link ≡ self.old.link }
     {
         self.sent = 0;
         self.printed = print_result(alloc, &mut room.out, came, self.closes);
+        self.closes = self.printed.closes();
+        self.mode = Mode::Writing;
+    }
+
+    /// Answers the request for the statistics that waits, which has this method, where they came to this.
+    pub fn answer_stats(&mut self, method: Method, came: Result<Option<Word>, OutOfMemory>)
+        requires mode { self.old.mode ≡ Mode.Telling }
+        requires room { is_some self.old.room ≡ true }
+        ensures answered { (first : LinkState) (asked : List Asked) → IsTelling first asked method (seen self.old)
+            → IsOn first (asked ++ option_to_list (statistics_asked came)) (seen self.new) }
+        ensures mode { self.new.mode ≡ Mode.Writing }
+        ensures link { self.new.link ≡ self.old.link }
+        ensures room { is_some self.new.room ≡ true }
+    {
+        let Some(mut room) = self.room.take() else {
+            unreachable!()
+        };
+        self.print_answer_stats(&mut room, method, came);
+        self.room = Some(room);
+    }
+
+    // The answer with the statistics is printed.
+    fn print_answer_stats(
+        &mut self,
+        room: &mut Room,
+        method: Method,
+        came: Result<Option<Word>, OutOfMemory>,
+    )
+        requires { self.old.mode ≡ Mode.Telling }
+        ensures answered { (first : LinkState) (asked : List Asked) → IsTelling first asked method (seen_in self.old room.old)
+            → IsOn first (asked ++ option_to_list (statistics_asked came)) (seen_in self.new room.new) }
+        ensures mode { self.new.mode ≡ Mode.Writing }
+        ensures link { self.new.link ≡ self.old.link }
+    {
+        self.sent = 0;
+        self.printed = print_stats(&mut room.out, method, came, self.closes);
         self.closes = self.printed.closes();
         self.mode = Mode::Writing;
     }
@@ -247,11 +295,11 @@ impl<N: PollLink + Drop> Conn<N> {
         match self.mode {
             Mode::Reading => self.read_on(alloc, room),
             Mode::Writing => self.write_on(room),
-            Mode::Checking | Mode::Ended => unreachable!(),
+            Mode::Checking | Mode::Telling | Mode::Ended => unreachable!(),
         }
     }
 
-    // Goes on in this room until the link would wait, a check is wanted, or the connection ends.
+    // Goes on in this room until the link would wait, a check or the statistics are wanted, or the connection ends.
     fn turn_in(&mut self, alloc: Global, room: &mut Room) -> Turned
         requires live { is_live self.old.mode ≡ true }
         requires going { IsGoing (seen_in self.old room.old) }
@@ -265,6 +313,7 @@ impl<N: PollLink + Drop> Conn<N> {
                 Step::On => {}
                 Step::Wait => return Turned::Pending,
                 Step::Check(request, moment) => return Turned::Check(request, moment),
+                Step::Stats(method) => return Turned::Stats(method),
                 Step::End(link_end) => return Turned::End(link_end),
             }
         }
@@ -294,7 +343,7 @@ impl<N: PollLink + Drop> Conn<N> {
     {
         match self.mode {
             Mode::Reading => room.inbox.count() == 0,
-            Mode::Checking | Mode::Writing => false,
+            Mode::Checking | Mode::Telling | Mode::Writing => false,
             Mode::Ended => true,
         }
     }
@@ -324,7 +373,8 @@ impl<N: PollLink + Drop> Conn<N> {
         self.link.woken(is_closed);
     }
 
-    /// Goes on until the link would wait, a check is wanted, or the connection ends. A room is lent to it where it has none.
+    /// Goes on until the link would wait, a check or the statistics are wanted, or the connection ends. A room is lent to it where it has
+    /// none.
     pub fn turn(&mut self, alloc: Global, spare: &mut Option<Room>) -> Turned
         requires live { is_live self.old.mode ≡ true }
         requires going { IsGoing (seen self.old) }

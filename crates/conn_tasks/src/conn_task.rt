@@ -1,14 +1,15 @@
-ghost use Rattle.std.specs.Prelude.{◌≡◌, ◌≤◌, ◌∷◌, ◌++◌, [], List, ℕ, true, false, IfOk};
+ghost use Rattle.std.specs.Prelude.{◌≡◌, ◌≤◌, ◌∷◌, ◌++◌, [], List, ℕ, true, false, IfOk, option_to_list};
 ghost use Rattle.std.specs.Option.{is_some};
 ghost use Rattle.rate_io.specs.Links.{LinkState};
 ghost use Rattle.rate_types.specs.Requests.{RequestParts};
-ghost use Rattle.http_endpoint.specs.Answers.{Asked};
-ghost use Rattle.conn_tasks.specs.Tasks.{IsOn, IsGoing, IsAsking, IsChecking, StillGoes, TurnsTo, StandsBehind, is_live};
+ghost use Rattle.http_endpoint.specs.Answers.{Asked, check, statistics_asked};
+ghost use Rattle.conn_tasks.specs.Tasks.{IsOn, IsGoing, IsAsking, IsAskingStats, IsChecking, IsTelling, StillGoes, TurnsTo, StandsBehind, is_live};
 ghost use Rattle.rate_io.specs.Listeners.{IsNewLink};
 
 use crate::conn::{Conn, Mode, Turned};
 use crate::{PollLink, Room};
-use rate_types::OutOfMemory;
+use http_front::Method;
+use rate_types::{OutOfMemory, Word};
 use rls_core::{CheckFault, Reply};
 use std::alloc::Global;
 use std::marker::Model;
@@ -57,12 +58,12 @@ impl<N: PollLink + Drop> ConnTask<N> {
     {
         match self.conn.mode {
             Mode::Reading | Mode::Writing => true,
-            Mode::Checking | Mode::Ended => false,
+            Mode::Checking | Mode::Telling | Mode::Ended => false,
         }
     }
 
-    /// Goes on until the link would wait, a check is wanted, or the connection ends. Where it stands between two requests a room is lent to
-    /// it, which it gives back unless it waits with something half read or half written.
+    /// Goes on until the link would wait, a check or the statistics are wanted, or the connection ends. Where it stands between two requests
+    /// a room is lent to it, which it gives back unless it waits with something half read or half written.
     pub fn poll_turn(&mut self, alloc: Global, spare: &mut Option<Room>) -> Turned
         requires live { is_live self.old.mode ≡ true }
         requires going { IsGoing self.old }
@@ -82,12 +83,25 @@ impl<N: PollLink + Drop> ConnTask<N> {
         requires { self.old.mode ≡ Mode.Checking }
         ensures answered { (first : LinkState) (asked : List Asked) (request : RequestParts) (now : ℕ)
             → IsChecking first asked request now self.old
-            → IsOn first (asked ++ record { request = request; now = now; result = came } ∷ []) self.new }
+            → IsOn first (asked ++ check (record { request = request; now = now; result = came }) ∷ []) self.new }
         ensures going { IsAsking self.old → IsGoing self.new }
         ensures mode { self.new.mode ≡ Mode.Writing }
         ensures link { self.new.link ≡ self.old.link }
     {
         self.conn.answer(alloc, came);
+    }
+
+    /// Answers the request for the statistics that is wanted, which has this method, where they came to this: their text, or none where
+    /// none are kept. Where memory is wanting, 500 is answered in their place.
+    pub fn answer_stats(&mut self, method: Method, came: Result<Option<Word>, OutOfMemory>)
+        requires { self.old.mode ≡ Mode.Telling }
+        ensures answered { (first : LinkState) (asked : List Asked) → IsTelling first asked method self.old
+            → IsOn first (asked ++ option_to_list (statistics_asked came)) self.new }
+        ensures going { IsAskingStats method self.old → IsGoing self.new }
+        ensures mode { self.new.mode ≡ Mode.Writing }
+        ensures link { self.new.link ≡ self.old.link }
+    {
+        self.conn.answer_stats(method, came);
     }
 
     /// Its link.

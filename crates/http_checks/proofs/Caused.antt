@@ -29,7 +29,7 @@ use Rattle.rate_limiter.proofs.OpenClaims.{keys_in, keys_count, live_few}
 use Rattle.rate_limiter.proofs.LawfulClaims.{first_lawful, keys_differ}
 use Rattle.rate_limiter.proofs.RequestCounters.{named_open}
 use Rattle.rate_limiter.proofs.WantedCounters.{missing_differ, missing_is, together_differ, together_count, some_open, open_long, open_is, open_differ}
-use Rattle.http_endpoint.specs.Answers.{Asked}
+use Rattle.http_endpoint.specs.Answers.{Checked}
 use Rattle.http_checks.specs.Checker.{Checker, checker, ChecksBy}
 use Rattle.http_checks.specs.Deeds.{At, at_pass, Deed, checked, reloaded, Does, Deeds}
 use Rattle.http_checks.specs.Named.{IsNamed}
@@ -39,7 +39,7 @@ use Rattle.http_checks.proofs.Grown.{prefix_on}
 use Rattle.http_checks.proofs.Deeds.{one_did, all_did}
 
 -- a check of these deeds
-abbrev pub IsThere : List Deed → Asked → At → Type 0
+abbrev pub IsThere : List Deed → Checked → At → Type 0
 IsThere deeds a at = (i : ℕ) × (get_elem? deeds i ≡ some (checked a at))
 
 module _ (size : ℕ) (configs : List (List DomainTree)) (claims : List Claim) (most : ℕ) (lawful : IsLawfulClaims size most claims) (all : List Deed)
@@ -113,7 +113,7 @@ module _ (size : ℕ) (configs : List (List DomainTree)) (claims : List Claim) (
       mine : (k : CounterKey) → 1 ≤ count k keys → IsNamed configs all k
       mine k l = record {
         place = there.0;
-        asked = record { request = request; now = now; result = Err (ClaimsSpent spent wanted) };
+        made = record { request = request; now = now; result = Err (ClaimsSpent spent wanted) };
         at = at_pass q.pass;
         there = there.1;
         names = record { config = q.pass.version.index; is_version = at; named = l };
@@ -170,7 +170,7 @@ module _ (size : ℕ) (configs : List (List DomainTree)) (claims : List Claim) (
       mine : (k : CounterKey) → 1 ≤ count k keys → IsNamed configs all k
       mine k l = record {
         place = there.0;
-        asked = record { request = request; now = now; result = Err (CountersFull moment live held wanted) };
+        made = record { request = request; now = now; result = Err (CountersFull moment live held wanted) };
         at = at_pass q.pass;
         there = there.1;
         names = record { config = q.pass.version.index; is_version = at; named = l };

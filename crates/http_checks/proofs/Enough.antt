@@ -16,7 +16,7 @@ use Rattle.rls_core.specs.declared.fault.CheckFault.TheVariants.{CountersFull, C
 use Rattle.rls_core.specs.declared.reply.Reply.{Reply}
 use Rattle.rate_limiter.specs.Passes.{LimiterView}
 use Rattle.rate_limiter.proofs.CounterLists.{count, no_longer, inside}
-use Rattle.http_endpoint.specs.Answers.{Asked}
+use Rattle.http_endpoint.specs.Answers.{Checked}
 use Rattle.http_checks.specs.Deeds.{At, Deed, checked, reloaded}
 use Rattle.http_checks.specs.Named.{IsNamed, AreDifferent}
 use Rattle.http_checks.specs.Causes.{IsCause, HasCause}
@@ -26,7 +26,7 @@ module _ (configs : List (List DomainTree)) where
   abbrev IsAmong : List Deed → CounterKey → Type 0
   IsAmong deeds c = 1 ≤ count c (all_counters configs deeds)
 
-  named_at : (deeds : List Deed) (c : CounterKey) (i : ℕ) (a : Asked) (at : At) (config : List DomainTree) → get_elem? deeds i ≡ some (checked a at)
+  named_at : (deeds : List Deed) (c : CounterKey) (i : ℕ) (a : Checked) (at : At) (config : List DomainTree) → get_elem? deeds i ≡ some (checked a at)
       → slice_get configs at.version ≡ Some config → 1 ≤ count c (counters_named config a.request at.moment) → IsAmong deeds c
   named_at [] c i a at config e v h = absurd (some-ne-none (checked a at) (sym e))
   named_at (d ∷ deeds) c zero a at config e v h =
@@ -47,12 +47,12 @@ module _ (configs : List (List DomainTree)) where
   different_few deeds P named n h =
       let l = no_longer h.counters (all_counters configs deeds) (inside h.counters (all_counters configs deeds) h.differ (λ c k.
       let is = named c (h.each c k) in
-      named_at deeds c is.place is.asked is.at is.names.config is.there is.names.is_version is.names.named)) in
+      named_at deeds c is.place is.made is.at is.names.config is.there is.names.is_version is.names.named)) in
       let e = h.count in
       omega arith
 
   had_room : (cells : ℕ) (limiter : LimiterView) (all : List Deed) → MOST_PINS * (limiter.passes - 1) + length (all_counters configs all) ≤ cells
-      → (a : Asked) (at : At) (result : Result Reply CheckFault) → IsCause cells limiter configs all a at result → HadRoom result
+      → (a : Checked) (at : At) (result : Result Reply CheckFault) → IsCause cells limiter configs all a at result → HadRoom result
   had_room cells limiter all enough a at (Ok reply) h = tt
   had_room cells limiter all enough a at (Err OutOfMemory) h = tt
   had_room cells limiter all enough a at (Err (ClaimsSpent claims wanted)) h = tt

@@ -19,7 +19,7 @@ use Rattle.rls_core.specs.declared.reply.Reply.{Reply}
 use Rattle.rate_limiter.specs.Passes.{LimiterView, PassView}
 use Rattle.rate_limiter.specs.PassStep.{HasClaimed, HasRenewed, IsPassStep}
 use Rattle.rate_limiter.proofs.Places.{back_at, append_at, here, prefix_at, prefix_get, times_either, times_from}
-use Rattle.http_endpoint.specs.Answers.{Asked}
+use Rattle.http_endpoint.specs.Answers.{Checked}
 use Rattle.http_checks.specs.Checker.{Checker, checker, ChecksBy}
 use Rattle.http_checks.specs.Deeds.{At, at_pass, Deed, checked, reloaded, Does, Deeds}
 use Rattle.http_checks.specs.Versions.{ledger_of, sights_in, installs, all_deeds, DeedsEach}
@@ -52,10 +52,10 @@ claimed_of keys m v w c n owned = pick (times_either n v.own _ (subst (λ (l : L
 record IsMade (configs : List (List DomainTree)) (d : Deed) (q : PassView) (n : ℕ) : Type 0 where
   pub claim : Claim
   pub there : get_elem? q.claims.known n ≡ some claim
-  pub asked : Asked
+  pub made : Checked
   pub at : At
-  pub is : d ≡ checked asked at
-  pub names : Names configs asked at claim.key
+  pub is : d ≡ checked made at
+  pub names : Names configs made at claim.key
 
 module _ (size : ℕ) (configs : List (List DomainTree)) where
   check_made : (p : Checker) (request : RequestParts) (now : ℕ) (result : Result Reply CheckFault) (q : Checker) → ChecksBy size p request now result q
@@ -75,7 +75,7 @@ module _ (size : ℕ) (configs : List (List DomainTree)) where
       pick (inr x) = inr (record {
         claim = x.0;
         there = x.1;
-        asked = record { request = request; now = now; result = Ok reply };
+        made = record { request = request; now = now; result = Ok reply };
         at = at_pass q.pass;
         is = refl;
         names = record {
@@ -101,7 +101,7 @@ module _ (size : ℕ) (configs : List (List DomainTree)) where
           pick (inr x) = inr (record {
             claim = x.0;
             there = x.1;
-            asked = record { request = request; now = now; result = Err OutOfMemory };
+            made = record { request = request; now = now; result = Err OutOfMemory };
             at = at_pass q.pass;
             is = refl;
             names = record {
@@ -140,22 +140,22 @@ module _ (size : ℕ) (configs : List (List DomainTree)) where
           let same : m.claim ≡ x = some-injective m.claim x (sym there ∙ e) in
           inr (record {
             place = 0;
-            asked = m.asked;
+            made = m.made;
             at = m.at;
             there = ap some m.is;
-            names = subst (λ (y : Claim). Names configs m.asked m.at y.key) same m.names;
+            names = subst (λ (y : Claim). Names configs m.made m.at y.key) same m.names;
           })
 
       later : (1 ≤ times n mid.pass.claims.own) ⊎ IsNamed configs deeds x.key → (1 ≤ times n p.pass.claims.own) ⊎ IsNamed configs (d ∷ deeds) x.key
       later (inl then) =
           first (one_made p d mid h.1 (prefix_on mid.pass.version.view.known q.pass.version.view.known configs more.versions known) n then)
-      later (inr m) = inr (record { place = suc m.place; asked = m.asked; at = m.at; there = m.there; names = m.names })
+      later (inr m) = inr (record { place = suc m.place; made = m.made; at = m.at; there = m.there; names = m.names })
 
 pub named_front : (configs : List (List DomainTree)) (xs ys : List Deed) (c : CounterKey) → IsNamed configs xs c → IsNamed configs (xs ++ ys) c
-named_front configs xs ys c h = record { place = h.place; asked = h.asked; at = h.at; there = append_at xs ys h.place (checked h.asked h.at) h.there; names = h.names }
+named_front configs xs ys c h = record { place = h.place; made = h.made; at = h.at; there = append_at xs ys h.place (checked h.made h.at) h.there; names = h.names }
 
 pub named_back : (configs : List (List DomainTree)) (xs ys : List Deed) (c : CounterKey) → IsNamed configs ys c → IsNamed configs (xs ++ ys) c
-named_back configs xs ys c h = record { place = length xs + h.place; asked = h.asked; at = h.at; there = back_at xs ys h.place (checked h.asked h.at) h.there; names = h.names }
+named_back configs xs ys c h = record { place = length xs + h.place; made = h.made; at = h.at; there = back_at xs ys h.place (checked h.made h.at) h.there; names = h.names }
 
 module _ (size : ℕ) (limiter : LimiterView) (configs : List (List DomainTree)) (claims : List Claim) (n : ℕ) (x : Claim)
     (at : get_elem? claims n ≡ some x) where

@@ -4,7 +4,7 @@ use Rattle.descriptor_tree.specs.Trees.{DomainTree}
 use Rattle.rls_core.specs.declared.fault.ReloadFault.{ReloadFault}
 use Rattle.rate_limiter.specs.Passes.{PassView, KeepsAllButVersion}
 use Rattle.rate_limiter.specs.Versions.{Reloads}
-use Rattle.http_endpoint.specs.Answers.{Asked}
+use Rattle.http_endpoint.specs.Answers.{Checked}
 use Rattle.http_checks.specs.Checker.{Checker, ChecksBy}
 
 -- the version and the moment at which a pass is
@@ -14,7 +14,7 @@ pub record At : Type 0 where
 
 -- a check that was made, and where it left its pass; or a configuration that was handed to a reload, and what came of it
 pub data Deed : Type 0 where
-  checked : Asked → At → Deed
+  checked : Checked → At → Deed
   reloaded : List DomainTree → Result ℕ ReloadFault → Deed
 
 -- A reload that was handed this configuration came to this: nothing of the pass changed but its version. The limiter stays the same.

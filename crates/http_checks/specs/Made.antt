@@ -2,9 +2,9 @@
 use Rattle.std.specs.Prelude.{◌≡◌, ℕ, List, length, map, All, Bool}
 use Rattle.descriptor_tree.specs.Trees.{DomainTree}
 use Rattle.rate_limiter.specs.Passes.{LimiterView, PassView, IsNewPass}
-use Rattle.http_endpoint.specs.Answers.{Asked}
+use Rattle.http_endpoint.specs.Answers.{Checked}
 use Rattle.http_checks.specs.Checker.{Checker, checker}
-use Rattle.http_checks.specs.Ledger.{AreLawfulChecks, all_asked}
+use Rattle.http_checks.specs.Ledger.{AreLawfulChecks, all_checks}
 use Rattle.http_checks.specs.Versions.{AreLawfulAlone}
 use Rattle.http_checks.specs.declared.parts.TheConstants.{SERVED_CLAIMS}
 
@@ -24,6 +24,6 @@ pub record IsMade (config : List DomainTree) (start workers : ℕ) (global_shado
 
 -- The limiter, of so many cells, was closed after these checks, pass by pass, which its passes made since they were new: they are lawful
 -- checks by the configuration, each refused one for its cause, and at moments that were offered.
-pub record IsClosedAfter (config : List DomainTree) (start cells : ℕ) (limiter : LimiterView) (asked : List (List Asked)) : Type 0 where
-  pub lawful : AreLawfulChecks config limiter.global_shadow (all_asked asked)
-  pub alone : AreLawfulAlone cells limiter config start asked
+pub record IsClosedAfter (config : List DomainTree) (start cells : ℕ) (limiter : LimiterView) (checks : List (List Checked)) : Type 0 where
+  pub lawful : AreLawfulChecks config limiter.global_shadow (all_checks checks)
+  pub alone : AreLawfulAlone cells limiter config start checks

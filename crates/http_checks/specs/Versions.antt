@@ -17,7 +17,7 @@ use Rattle.rls_core.specs.declared.fault.ReloadFault.{ReloadFault}
 use Rattle.rls_core.specs.declared.fault.ReloadFault.TheVariants as reload_fault
 use Rattle.rls_core.specs.declared.reply.Reply.{Reply}
 use Rattle.rate_limiter.specs.Passes.{LimiterView, PassView, IsNewPass}
-use Rattle.http_endpoint.specs.Answers.{Asked}
+use Rattle.http_endpoint.specs.Answers.{Checked}
 use Rattle.http_checks.specs.Checker.{checker}
 use Rattle.http_checks.specs.Ledger.{charges_shown, sights_shown, LeadEach}
 use Rattle.http_checks.specs.Deeds.{At, Deed, checked, reloaded, Deeds}
@@ -106,12 +106,12 @@ all_deeds deeds = flat_map (λ xs. xs) deeds
 -- ---- checks alone
 
 -- checks, each with where it left its pass, as deeds
-abbrev pub as_deeds : List (Asked × At) → List Deed
+abbrev pub as_deeds : List (Checked × At) → List Deed
 as_deeds xs = map (λ x. checked x.0 x.1) xs
 
 -- the checks alone
-abbrev pub asked_of : List (Asked × At) → List Asked
-asked_of xs = map (λ x. x.0) xs
+abbrev pub checks_alone : List (Checked × At) → List Checked
+checks_alone xs = map (λ x. x.0) xs
 
 -- ---- the closed limiter
 
@@ -137,9 +137,9 @@ module _ (cells : ℕ) (limiter : LimiterView) where
         → AllByRecursion HadRoomFor (all_deeds deeds)
 
   -- These checks, pass by pass, with where each left its pass, are lawful where the limiter had this configuration all the time.
-  pub record AreLawfulAlone (config : List DomainTree) (start : ℕ) (asked : List (List Asked)) : Type 0 where
-    pub placed : List (List (Asked × At))
-    pub are : map asked_of placed ≡ asked
+  pub record AreLawfulAlone (config : List DomainTree) (start : ℕ) (checks : List (List Checked)) : Type 0 where
+    pub placed : List (List (Checked × At))
+    pub are : map checks_alone placed ≡ checks
     pub lawful : AreLawfulDeeds config start (config ∷ []) (map as_deeds placed)
 
   -- pass by pass, these deeds led from what it was to what it is
@@ -154,5 +154,5 @@ module _ (cells : ℕ) (limiter : LimiterView) where
     pub lawful : (config : List DomainTree) (before : List PassView) (deeds : List (List Deed))
         → All (λ p. IsNewPass config start p) before → DeedsEach before deeds passes
         → (configs : List (List DomainTree)) × AreLawfulDeeds config start configs deeds
-    pub alone : (config : List DomainTree) (before : List PassView) (asked : List (List Asked))
-        → All (λ p. IsNewPass config start p) before → LeadEach cells limiter before asked passes → AreLawfulAlone config start asked
+    pub alone : (config : List DomainTree) (before : List PassView) (checks : List (List Checked))
+        → All (λ p. IsNewPass config start p) before → LeadEach cells limiter before checks passes → AreLawfulAlone config start checks

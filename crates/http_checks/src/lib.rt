@@ -14,7 +14,9 @@
 mod close;
 mod parts;
 mod pass_checks;
+mod passes;
 
 pub use close::close_served;
 pub use parts::{LimiterParts, SERVED_CLAIMS};
 pub use pass_checks::PassChecks;
+pub use passes::{checks_of, passes_of};

@@ -4,7 +4,7 @@ use counter_cells::CellNaming;
 use descriptor_tree::Config;
 use http_endpoint::Checks;
 use rate_limiter::{Limiter, Pass};
-use rate_types::{Request, Seconds};
+use rate_types::{OutOfMemory, Request, Seconds, Word};
 use rls_core::{CheckFault, ReloadFault, Reply};
 use std::alloc::Global;
 use std::marker::Model;
@@ -68,9 +68,9 @@ impl<'a, N: CellNaming> PassChecks<'a, N> {
 }
 
 impl<'a, N: CellNaming> Checks for PassChecks<'a, N> {
-    ghost use Rattle.http_checks.specs.Checker.{ChecksBy};
+    ghost use Rattle.http_checks.specs.Checker.{AnswersBy};
 
-    ghost answers = { ChecksBy N.setup.cells };
+    ghost answers = { AnswersBy N.setup.cells };
 
     fn check<R: Wait>(
         &mut self,
@@ -80,5 +80,9 @@ impl<'a, N: CellNaming> Checks for PassChecks<'a, N> {
         now: Seconds,
     ) -> Result<Reply, CheckFault> {
         self.limiter.check(rt, alloc, &mut self.pass, request, now)
+    }
+
+    fn stats(&mut self, _alloc: Global) -> Result<Option<Word>, OutOfMemory> {
+        Ok(None)
     }
 }

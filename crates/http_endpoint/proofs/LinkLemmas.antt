@@ -14,7 +14,7 @@ use Rattle.http_front.specs.Front.{IsFront, used_of}
 use Rattle.http_front.specs.Part.{Stands}
 use Rattle.http_front.specs.declared.front.Front.{Front}
 use Rattle.http_front.specs.declared.front.Front.TheVariants.{Ended, CutShort}
-use Rattle.http_endpoint.specs.Answers.{answers_max, Asked, Turn, IsTurn, IsNext, AreAnswers, turn_bytes, asked_in, CheckStep, Lead}
+use Rattle.http_endpoint.specs.Answers.{answers_max, Asked, check, statistics, Turn, IsTurn, IsNext, AreAnswers, turn_bytes, asked_in, CheckStep, Lead}
 use Rattle.http_endpoint.specs.Order.{ReadsOn, told_for, OffersWithin, Calls}
 use Rattle.http_endpoint.specs.Served.{Wrote, EndsBy, Serves}
 use Rattle.http_endpoint.specs.Steps.{Drew, Tells, FoundEnd, FailedToRead, StandAnswers, Goes}
@@ -76,27 +76,33 @@ appends_more (Some us) (Some vs) (Some ws) xs ys h k = k ∙ (ap (λ zs. zs ++ y
 -- what was told for a check, and one write: both hand out no byte
 given_told : (asked : Option Asked) (piece : List ℕ) → given (told_for asked ++ wrote piece ∷ []) ≡ []
 given_told None piece = refl
-given_told (Some asked) piece = refl
+given_told (Some (check c)) piece = refl
+given_told (Some (statistics text)) piece = refl
 
 given_told_failed : (asked : Option Asked) (piece : List ℕ) → given (told_for asked ++ write_failed piece ∷ []) ≡ []
 given_told_failed None piece = refl
-given_told_failed (Some asked) piece = refl
+given_told_failed (Some (check c)) piece = refl
+given_told_failed (Some (statistics text)) piece = refl
 
 pieces_told : (asked : Option Asked) (piece : List ℕ) → pieces_written (told_for asked ++ wrote piece ∷ []) ≡ piece ∷ []
 pieces_told None piece = refl
-pieces_told (Some asked) piece = refl
+pieces_told (Some (check c)) piece = refl
+pieces_told (Some (statistics text)) piece = refl
 
 pieces_told_failed : (asked : Option Asked) (piece : List ℕ) → pieces_written (told_for asked ++ write_failed piece ∷ []) ≡ []
 pieces_told_failed None piece = refl
-pieces_told_failed (Some asked) piece = refl
+pieces_told_failed (Some (check c)) piece = refl
+pieces_told_failed (Some (statistics text)) piece = refl
 
 unfailed_told : (asked : Option Asked) (piece : List ℕ) → has_write_failed (told_for asked ++ wrote piece ∷ []) ≡ false
 unfailed_told None piece = refl
-unfailed_told (Some asked) piece = refl
+unfailed_told (Some (check c)) piece = refl
+unfailed_told (Some (statistics text)) piece = refl
 
 failed_told : (asked : Option Asked) (piece : List ℕ) → has_write_failed (told_for asked ++ write_failed piece ∷ []) ≡ true
 failed_told None piece = refl
-failed_told (Some asked) piece = refl
+failed_told (Some (check c)) piece = refl
+failed_told (Some (statistics text)) piece = refl
 
 given_wrote : (events : List Event) (asked : Option Asked) (piece : List ℕ) → given (events ++ (told_for asked ++ wrote piece ∷ [])) ≡ given events
 given_wrote events asked piece = given-append events (told_for asked ++ wrote piece ∷ [])

@@ -3,19 +3,22 @@ use Rattle.std.specs.Prelude.{Result}
 use Rattle.std.proofs.Common.{◌≡◌, ℕ, ◌==◌, ◌+◌, ◌<◌, Bool, true, false, ◌||◌, List, [], ◌∷◌, ◌++◌, drop, Option, Some, None, refl, sym, ap, ◌∙◌, inl, inr, subst, arith, append-nil}
 use Rattle.std.proofs.lemmas.Bool.Decides.{nat_tests}
 use Rattle.rate_types.specs.Requests.{RequestParts}
+use Rattle.rate_types.specs.declared.memory.OutOfMemory.{OutOfMemory}
 use Rattle.rls_core.specs.declared.reply.Reply.{Reply}
 use Rattle.rls_core.specs.declared.fault.CheckFault.{CheckFault}
 use Rattle.rls_core.specs.declared.fault.CheckFault.TheVariants as fault
-use Rattle.std.specs.Prelude.{Ok, Err}
-use Rattle.http_front.specs.Front.{used_of, plain}
+use Rattle.std.specs.Prelude.{Ok, Err, IfOk, OnErr}
+use Rattle.http_front.specs.Front.{used_of, plain, sends_body, stats_answer}
 use Rattle.http_front.specs.Part.{Stands}
 use Rattle.http_front.specs.declared.answer.HttpAnswer.{HttpAnswer}
 use Rattle.http_front.specs.declared.front.Front.{Front}
-use Rattle.http_front.specs.declared.front.Front.TheVariants.{Ended, CutShort, Fixed, Check}
-use Rattle.http_endpoint.specs.Answers.{Asked, Turn, GivesResult, closing, MayAsk, IsTurn, CheckStep, Lead}
+use Rattle.http_front.specs.declared.asks.Method.{Method}
+use Rattle.http_front.specs.declared.asks.Method.TheVariants.{Get, Head, Post, Other}
+use Rattle.http_front.specs.declared.front.Front.TheVariants.{Ended, CutShort, Fixed, Check, Stats}
+use Rattle.http_endpoint.specs.Answers.{Checked, Asked, check, statistics, Turn, GivesResult, closing, MayAsk, IsTurn, CheckStep, Lead}
 use Rattle.rate_io.specs.Links.{LinkState, IsLinkNow}
 use Rattle.http_endpoint.proofs.ReadLemmas.{stays_same}
-use Rattle.http_endpoint.specs.Printing.{Prints, PrintsResult}
+use Rattle.http_endpoint.specs.Printing.{Prints, PrintsResult, PrintsStats}
 use Rattle.http_endpoint.specs.Steps.{Tells, Awaits, TurnsOut, TakesTurn}
 use Rattle.http_endpoint.specs.declared.turn.Printed.{Printed}
 use Rattle.http_endpoint.specs.declared.turn.Printed.TheVariants.{Text, NoMemory}
@@ -32,14 +35,25 @@ tells_none a = record {
 }
 
 -- one moment was told
-pub tells_one : (a b : LinkState) (asked : Asked) → IsLinkNow a b asked.now → Tells a b (Some asked)
-tells_one a b asked n = record {
+pub tells_one : (a b : LinkState) (c : Checked) → IsLinkNow a b c.now → Tells a b (Some (check c))
+tells_one a b c n = record {
   history = n.history;
   within = n.within;
   left = n.left;
   written = n.written;
   faults = n.faults;
   stays = n.stays;
+}
+
+-- nothing was told for statistics
+pub tells_stats : (a : LinkState) (text : Option (List ℕ)) → Tells a a (Some (statistics text))
+tells_stats a text = record {
+  history = sym (append-nil a.history);
+  within = tt;
+  left = refl;
+  written = refl;
+  faults = refl;
+  stays = stays_same a;
 }
 
 -- of a fixed answer
@@ -77,10 +91,10 @@ spent_prints closes claims wanted out (NoMemory sends_body) p = p
 -- of a check
 pub check_turn : {S : Type 0} (answers : CheckStep S) (is_last : Bool) (request : RequestParts) (closes : Bool) (used now : ℕ)
     (result : Result Reply CheckFault) (a b : LinkState) (checks after : S) (out : List ℕ) (printed : Printed)
-    → IsLinkNow a b now → answers checks request now result after → PrintsResult (closes || is_last) result out printed
+    → IsLinkNow a b now → answers checks (check (record { request = request; now = now; result = result })) after → PrintsResult (closes || is_last) result out printed
     → TurnsOut answers is_last (Check request closes used) a b checks after out printed
 check_turn answers is_last request closes used now result a b checks after out (Text closed) offered step p = record {
-  t = record { front = Check request closes used; asked = Some (record { request = request; now = now; result = result }); answer = p.0 };
+  t = record { front = Check request closes used; asked = Some (check (record { request = request; now = now; result = result })); answer = p.0 };
   front_is = refl;
   turn = inl (refl, p.1);
   prints = record { bytes = p.2; closes = p.3 };
@@ -88,7 +102,7 @@ check_turn answers is_last request closes used now result a b checks after out (
   lead = (after, step, refl);
 }
 check_turn answers is_last request closes used now result a b checks after out (NoMemory sends_body) offered step p = record {
-  t = record { front = Check request closes used; asked = Some (record { request = request; now = now; result = result }); answer = plain 500 None sends_body true };
+  t = record { front = Check request closes used; asked = Some (check (record { request = request; now = now; result = result })); answer = plain 500 None sends_body true };
   front_is = refl;
   turn = inr (record { may_ask = refl; answer = ap (λ s. plain 500 None s true) p });
   prints = record { bytes = refl; closes = refl };
@@ -96,12 +110,58 @@ check_turn answers is_last request closes used now result a b checks after out (
   lead = (after, step, refl);
 }
 
+-- the body of the answer to a request for statistics is sent, but to HEAD
+pub stats_sends : (method : Method) (text : Option (List ℕ)) (closes : Bool) → (stats_answer method text closes).sends_body ≡ sends_body method
+stats_sends method None closes = refl
+stats_sends Get (Some text) closes = refl
+stats_sends Head (Some text) closes = refl
+stats_sends Post (Some text) closes = refl
+stats_sends Other (Some text) closes = refl
+
+pub stats_closes : (method : Method) (text : Option (List ℕ)) (closes : Bool) → (stats_answer method text closes).closes ≡ closes
+stats_closes method None closes = refl
+stats_closes Get (Some text) closes = refl
+stats_closes Head (Some text) closes = refl
+stats_closes Post (Some text) closes = refl
+stats_closes Other (Some text) closes = refl
+
+-- of statistics
+pub stats_turn : {S : Type 0} (answers : CheckStep S) (is_last : Bool) (method : Method) (closes : Bool) (used : ℕ)
+    (came : Result (Option (List ℕ)) OutOfMemory) (a : LinkState) (checks after : S) (out : List ℕ) (printed : Printed)
+    → IfOk came (λ text. answers checks (statistics text) after) → OnErr came (after ≡ checks) → PrintsStats method (closes || is_last) came out printed
+    → TurnsOut answers is_last (Stats method closes used) a a checks after out printed
+stats_turn answers is_last method closes used (Ok text) a checks after out (Text closed) step same p = record {
+  t = record { front = Stats method closes used; asked = Some (statistics text); answer = stats_answer method text (closes || is_last) };
+  front_is = refl;
+  turn = inl refl;
+  prints = record { bytes = p.0; closes = p.1 };
+  tells = tells_stats a text;
+  lead = (after, step, refl);
+}
+stats_turn answers is_last method closes used (Ok text) a checks after out (NoMemory sends) step same p = record {
+  t = record { front = Stats method closes used; asked = Some (statistics text); answer = plain 500 None sends true };
+  front_is = refl;
+  turn = inr (record { may_ask = tt; answer = ap (λ s. plain 500 None s true) (p ∙ stats_sends method text (closes || is_last)) });
+  prints = record { bytes = refl; closes = refl };
+  tells = tells_stats a text;
+  lead = (after, step, refl);
+}
+stats_turn answers is_last method closes used (Err e) a checks after out printed step same p = rw p (record {
+  t = record { front = Stats method closes used; asked = None; answer = plain 500 None (sends_body method) true };
+  front_is = refl;
+  turn = inr (record { may_ask = tt; answer = refl });
+  prints = record { bytes = refl; closes = refl };
+  tells = tells_none a;
+  lead = same;
+})
+
 -- no check need be made
 pub may_not : (front : Front) → MayAsk front None
 may_not Ended = tt
 may_not CutShort = tt
 may_not (Fixed answer used) = tt
 may_not (Check request closes used) = tt
+may_not (Stats method closes used) = tt
 
 -- the answer of a front that was found
 pub front_turn : {S : Type 0} (answers : CheckStep S) (is_last : Bool) (bytes unread : List ℕ) (front : Front) (a b : LinkState) (checks after : S) (out : List ℕ)
@@ -146,9 +206,14 @@ given_closes (Err fault.OutOfMemory) closes answer is = absurd is
 last_closes : (front : Front) (asked : Option Asked) (answer : HttpAnswer) → IsTurn true (record { front = front; asked = asked; answer = answer }) → answer.closes ≡ true
 last_closes front asked answer (inr other) = ap (λ a. a.closes) other.answer
 last_closes (Fixed fixed used) None answer (inl is) = ap (λ a. a.closes) is ∙ or_true fixed.closes
-last_closes (Check request closes used) (Some asked) answer (inl is) = given_closes asked.result (closes || true) answer is.1 ∙ or_true closes
+last_closes (Check request closes used) (Some (check c)) answer (inl is) = given_closes c.result (closes || true) answer is.1 ∙ or_true closes
+last_closes (Stats method closes used) (Some (statistics text)) answer (inl is) =
+    ap (λ a. a.closes) is ∙ (stats_closes method text (closes || true) ∙ or_true closes)
 last_closes (Fixed fixed used) (Some asked) answer (inl is) = absurd is
+last_closes (Check request closes used) (Some (statistics text)) answer (inl is) = absurd is
 last_closes (Check request closes used) None answer (inl is) = absurd is
+last_closes (Stats method closes used) (Some (check c)) answer (inl is) = absurd is
+last_closes (Stats method closes used) None answer (inl is) = absurd is
 last_closes Ended asked answer (inl is) = absurd is
 last_closes CutShort asked answer (inl is) = absurd is
 

@@ -3,27 +3,38 @@ use Rattle.std.specs.Prelude.{◌≡◌, ℕ, ◌+◌, Bool, true, false, ◌||�
 use Rattle.std.specs.Prelude.{if◌then◌else◌, ◌⊎◌, ⊤, Result, Ok, Err}
 use Rattle.std.specs.List.{flat_map}
 use Rattle.rate_types.specs.Requests.{RequestParts}
+use Rattle.rate_types.specs.declared.memory.OutOfMemory.{OutOfMemory}
 use Rattle.rls_core.specs.declared.reply.Reply.{Reply}
 use Rattle.rls_core.specs.declared.fault.CheckFault.{CheckFault}
 use Rattle.rls_core.specs.declared.fault.CheckFault.TheVariants as fault
 use Rattle.reply_text.specs.Texts.{reply_text_of}
-use Rattle.http_front.specs.Front.{IsFront, is_waiting, sends, used_of, plain, json}
+use Rattle.http_front.specs.Front.{IsFront, is_waiting, sends, used_of, plain, json, stats_answer}
 use Rattle.http_front.specs.Printed.{answer_bytes}
 use Rattle.http_front.specs.declared.answer.HttpAnswer.{HttpAnswer}
 use Rattle.http_front.specs.declared.front.Front.{Front}
-use Rattle.http_front.specs.declared.front.Front.TheVariants.{Ended, CutShort, Fixed, Check}
+use Rattle.http_front.specs.declared.front.Front.TheVariants.{Ended, CutShort, Fixed, Check, Stats}
 
 -- the most answers of one connection
 abbrev pub answers_max : ℕ
 answers_max = 1024
 
 -- a check that was made: the request, the moment that was offered, and what came of it
-pub record Asked : Type 0 where
+pub record Checked : Type 0 where
   pub request : RequestParts
   pub now : ℕ
   pub result : Result Reply CheckFault
 
--- an answer, the front to which it answers, and the check that was made for it
+-- what was asked of what answers checks: a check, or the statistics of rules, of which this is the text where it keeps any
+pub data Asked : Type 0 where
+  check : Checked → Asked
+  statistics : Option (List ℕ) → Asked
+
+-- what was asked where the statistics came to this: nothing where there was no memory for them
+abbrev pub statistics_asked : Result (Option (List ℕ)) OutOfMemory → Option Asked
+statistics_asked (Ok text) = Some (statistics text)
+statistics_asked (Err e) = None
+
+-- an answer, the front to which it answers, and what was asked for it
 pub record Turn : Type 0 where
   pub front : Front
   pub asked : Option Asked
@@ -47,20 +58,28 @@ GivesResult (Err fault.OutOfMemory) closes answer = ⊥
 abbrev pub closing : Bool → HttpAnswer → HttpAnswer
 closing is_last answer = record answer { closes = answer.closes || is_last }
 
--- the answer to a front: a fixed one, or what came of its check
+-- the answer to a front: a fixed one, what came of its check, or the statistics
 abbrev pub Answers : Bool → Front → Option Asked → HttpAnswer → Type 0
 Answers is_last (Fixed fixed used) None answer = answer ≡ closing is_last fixed
 Answers is_last (Fixed fixed used) (Some asked) answer = ⊥
-Answers is_last (Check request closes used) (Some asked) answer =
-    (asked.request ≡ request) × GivesResult asked.result (closes || is_last) answer
+Answers is_last (Check request closes used) (Some (check c)) answer =
+    (c.request ≡ request) × GivesResult c.result (closes || is_last) answer
+Answers is_last (Check request closes used) (Some (statistics text)) answer = ⊥
 Answers is_last (Check request closes used) None answer = ⊥
+Answers is_last (Stats method closes used) (Some (statistics text)) answer = answer ≡ stats_answer method text (closes || is_last)
+Answers is_last (Stats method closes used) (Some (check c)) answer = ⊥
+Answers is_last (Stats method closes used) None answer = ⊥
 Answers is_last Ended asked answer = ⊥
 Answers is_last CutShort asked answer = ⊥
 
--- a check is made for the front that asks for it, with its request, and for no other
+-- a check is made for the front that asks for it, with its request, the statistics are asked for one that asks for them, and nothing
+-- for any other
 abbrev pub MayAsk : Front → Option Asked → Type 0
 MayAsk front None = ⊤
-MayAsk (Check request closes used) (Some asked) = asked.request ≡ request
+MayAsk (Check request closes used) (Some (check c)) = c.request ≡ request
+MayAsk (Check request closes used) (Some (statistics text)) = ⊥
+MayAsk (Stats method closes used) (Some (statistics text)) = ⊤
+MayAsk (Stats method closes used) (Some (check c)) = ⊥
 MayAsk (Fixed fixed used) (Some asked) = ⊥
 MayAsk Ended (Some asked) = ⊥
 MayAsk CutShort (Some asked) = ⊥
@@ -95,16 +114,21 @@ turn_bytes t = answer_bytes t.answer
 
 -- ---- the checks
 
--- the checks that were made, in order
+-- what was asked, in order
 abbrev pub asked_in : List Turn → List Asked
 asked_in turns = flat_map (λ t. option_to_list t.asked) turns
 
--- what checks do: from a state, a check of this request, which offers this moment, comes to this and leaves a state
-abbrev pub CheckStep : Type 0 → Type 1
-CheckStep S = S → RequestParts → ℕ → Result Reply CheckFault → S → Type 0
+-- the checks among it
+abbrev pub checks_in : List Asked → List Checked
+checks_in [] = []
+checks_in (check c ∷ asked) = c ∷ checks_in asked
+checks_in (statistics text ∷ asked) = checks_in asked
 
--- each check leads from the state that the one before it left
+-- what answers checks does: from a state, what is asked comes to this and leaves a state
+abbrev pub CheckStep : Type 0 → Type 1
+CheckStep S = S → Asked → S → Type 0
+
+-- each thing that is asked leads from the state that the one before it left
 abbrev pub Lead : {S : Type 0} → CheckStep S → S → List Asked → S → Type 0
 Lead answers old [] new = new ≡ old
-Lead {S} answers old (a ∷ asked) new =
-    (next : S) × answers old a.request a.now a.result next × Lead answers next asked new
+Lead {S} answers old (a ∷ asked) new = (next : S) × answers old a next × Lead answers next asked new

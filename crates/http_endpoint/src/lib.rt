@@ -3,7 +3,8 @@
 //! `serve_link` serves a connection from its first byte to its end. What it promises is one record (`specs/Served.antt`): the
 //! bytes that the reads handed out are answered front by front (`AreAnswers` of `specs/Answers.antt`), each answer by one
 //! write, and the checks that were made are those of the fronts that ask for one, in order, each from the state that the one
-//! before it left. What answers checks is a trait, `Checks`, whose ghost member says what a check does.
+//! before it left. What answers checks is a trait, `Checks`, whose ghost member says what a check does, and whether there are
+//! statistics of rules and what they say. A request for them asks no moment of the clock.
 //!
 //! `listening_line` and `link_end_line` are the lines that serving prints (`specs/ServeLines.antt`).
 //!
@@ -27,4 +28,4 @@ pub use inbox::Inbox;
 pub use lines::{link_end_line, listening_line};
 pub use link_end::{LinkCause, LinkEnd};
 pub use serve::serve_link;
-pub use turn::{Printed, answer_fixed, closes_after, print_result};
+pub use turn::{Printed, answer_fixed, closes_after, print_result, print_stats};

@@ -7,7 +7,9 @@ ghost use Rattle.http_endpoint.specs.Steps as steps;
 
 use crate::Checks;
 use http::StatusCode;
-use http_front::{Front, HttpAnswer, out_of_memory_answer, print_answer};
+use http_front::{
+    Front, HttpAnswer, Method, out_of_memory_answer, print_answer, sends_body, stats_answer,
+};
 use rate_io::Link;
 use rate_types::{OutOfMemory, Request, Word};
 use reply_text::{Statuses, reply_body};
@@ -122,6 +124,23 @@ pub fn print_result(
     }
 }
 
+/// The answer to a request for the statistics that came to this, printed into the text.
+pub fn print_stats(
+    out: &mut String,
+    method: Method,
+    came: Result<Option<Word>, OutOfMemory>,
+    closes: bool,
+) -> Printed
+    ensures { printing.PrintsStats method closes came (string_bytes out.new) result }
+{
+    match came {
+        Ok(text) => print(out, &stats_answer(method, text, closes)),
+        Err(_) => Printed::NoMemory {
+            sends_body: sends_body(method),
+        },
+    }
+}
+
 /// The connection closes after an answer that says so, and after the last that may come.
 pub fn closes_after(closes: bool, is_last: bool) -> bool
     ensures { result ≡ (closes || is_last) }
@@ -162,6 +181,11 @@ pub fn answer_front<R: Wait, N: Link, K: Checks>(
             let moment = link.now();
             let came = checks.check(rt, alloc, &request, moment);
             print_result(alloc, out, came, closes)
+        }
+        Front::Stats { method, closes, .. } => {
+            let closes = closes_after(closes, is_last);
+            let came = checks.stats(alloc);
+            print_stats(out, method, came, closes)
         }
         Front::Ended | Front::CutShort => unreachable!(),
     }

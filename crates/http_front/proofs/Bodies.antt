@@ -5,7 +5,7 @@ use Rattle.http_front.specs.declared.asks.Asks.{Asks}
 use Rattle.http_front.specs.declared.asks.Method.{Method}
 use Rattle.http_front.specs.declared.asks.Method.TheVariants.{Get, Head, Post, Other}
 use Rattle.http_front.specs.declared.asks.Target.{Target}
-use Rattle.http_front.specs.declared.asks.Target.TheVariants.{Json, Healthcheck, Unknown}
+use Rattle.http_front.specs.declared.asks.Target.TheVariants.{Json, Healthcheck, Stats, Unknown}
 use Rattle.http_front.specs.declared.asks.BodyLength.{BodyLength}
 use Rattle.http_front.specs.declared.asks.BodyLength.TheVariants.{Absent, Unclear, Given}
 use Rattle.std.specs.Prelude.{Result, Ok, Err}
@@ -29,6 +29,7 @@ json_settled asks used (Err refused) = refl
 routed-settled : (asks : Asks) (target : Target) (used : ℕ) (body : List ℕ) → is_waiting (routed asks target used body) ≡ false
 routed-settled asks Json used body = either (λ f. is_waiting f ≡ false) (is_post asks.method) _ _ (json_settled asks used (body_reading body)) refl
 routed-settled asks Healthcheck used body = either (λ f. is_waiting f ≡ false) (is_get asks.method) _ _ refl refl
+routed-settled asks Stats used body = refl
 routed-settled asks Unknown used body = refl
 
 pub json_sends : (asks : Asks) (used : ℕ) (read : Result (Option RequestParts) Refused) → sends (json_front asks used read) ≡ true
@@ -56,6 +57,7 @@ routed-sends asks Healthcheck used body = by asks.method refl
     by Get at = rw at refl
     by Head at = rw at refl
     by Other at = rw at refl
+routed-sends asks Stats used body = refl
 routed-sends asks Unknown used body = refl
 
 json_used : (asks : Asks) (used : ℕ) (read : Result (Option RequestParts) Refused) → used_of (json_front asks used read) ≡ used
@@ -66,6 +68,7 @@ json_used asks used (Err refused) = refl
 routed-used : (asks : Asks) (target : Target) (used : ℕ) (body : List ℕ) → used_of (routed asks target used body) ≡ used
 routed-used asks Json used body = either (λ f. used_of f ≡ used) (is_post asks.method) _ _ (json_used asks used (body_reading body)) refl
 routed-used asks Healthcheck used body = either (λ f. used_of f ≡ used) (is_get asks.method) _ _ refl refl
+routed-used asks Stats used body = refl
 routed-used asks Unknown used body = refl
 
 -- what is so of a front that waits for a body of so many bytes

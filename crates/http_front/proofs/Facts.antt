@@ -8,7 +8,7 @@ use Rattle.rate_types.specs.Requests.{RequestParts}
 use Rattle.rate_types.specs.declared.refused.Refused.{Refused}
 use Rattle.http_front.specs.declared.asks.Asks.{Asks}
 use Rattle.http_front.specs.declared.asks.Target.{Target}
-use Rattle.http_front.specs.declared.asks.Target.TheVariants.{Json, Healthcheck, Unknown}
+use Rattle.http_front.specs.declared.asks.Target.TheVariants.{Json, Healthcheck, Stats, Unknown}
 use Rattle.http_front.specs.declared.asks.BodyLength.{BodyLength}
 use Rattle.http_front.specs.declared.asks.BodyLength.TheVariants.{Absent, Unclear, Given}
 use Rattle.http_front.specs.declared.front.Front.{Front}
@@ -32,6 +32,7 @@ json-within most asks used (Err refused) h = h
 routed-within : (most : ℕ) (asks : Asks) (target : Target) (used : ℕ) (body : List ℕ) → used ≤ most → used_of (routed asks target used body) ≤ most
 routed-within most asks Json used body h = either (λ f. used_of f ≤ most) (is_post asks.method) _ _ (json-within most asks used (body_reading body) h) h
 routed-within most asks Healthcheck used body h = either (λ f. used_of f ≤ most) (is_get asks.method) _ _ h h
+routed-within most asks Stats used body h = h
 routed-within most asks Unknown used body h = h
 
 with_body-within : (asks : Asks) (count used : ℕ) (after : List ℕ) → used_of (with_body asks count used after) ≤ used + length after

@@ -7,7 +7,7 @@ use Rattle.std.proofs.lemmas.List.{take-append-le, drop-append-le}
 use Rattle.httparse.specs.Grammar.{RequestHead}
 use Rattle.http_front.specs.declared.asks.Asks.{Asks}
 use Rattle.http_front.specs.declared.front.Front.{Front}
-use Rattle.http_front.specs.declared.front.Front.TheVariants.{Ended, CutShort, Fixed, Check}
+use Rattle.http_front.specs.declared.front.Front.TheVariants.{Ended, CutShort, Fixed, Check, Stats}
 use Rattle.http_front.specs.declared.part.Part.{Part}
 use Rattle.http_front.specs.declared.part.Part.TheVariants.{Whole, NoHead, NoBody}
 use Rattle.http_front.specs.Asks.{asks_of}
@@ -81,6 +81,7 @@ headless_part bytes (NoBody total sent) none p = absurd p
 has_settled : (front : Front) → has_json front ≡ true → is_waiting front ≡ false
 has_settled (Fixed answer used) has = refl
 has_settled (Check request closes used) has = refl
+has_settled (Stats method closes used) has = refl
 has_settled Ended has = absurd (cc)
 has_settled CutShort has = absurd (cc)
 

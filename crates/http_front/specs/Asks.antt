@@ -9,7 +9,7 @@ use Rattle.httparse.specs.Spans.{name_and_value}
 use Rattle.http_front.specs.declared.asks.Method.{Method}
 use Rattle.http_front.specs.declared.asks.Method.TheVariants.{Get, Head, Post, Other}
 use Rattle.http_front.specs.declared.asks.Target.{Target}
-use Rattle.http_front.specs.declared.asks.Target.TheVariants.{Json, Healthcheck, Unknown}
+use Rattle.http_front.specs.declared.asks.Target.TheVariants.{Json, Healthcheck, Stats, Unknown}
 use Rattle.http_front.specs.declared.asks.BodyLength.{BodyLength}
 use Rattle.http_front.specs.declared.asks.BodyLength.TheVariants.{Absent, Unclear, Given}
 use Rattle.http_front.specs.declared.asks.Asks.{Asks}
@@ -38,7 +38,8 @@ method_of name =
 abbrev pub target_of : List ℕ → Target
 target_of target = let path = before_first (λ b. b == 63) target in
     if bytes_eq path (codes "/json") then Json else (
-    if bytes_eq path (codes "/healthcheck") then Healthcheck else Unknown)
+    if bytes_eq path (codes "/healthcheck") then Healthcheck else (
+    if bytes_eq path (codes "/stats") then Stats else Unknown))
 
 -- 1 to 10 digits
 abbrev pub is_length : List ℕ → Bool

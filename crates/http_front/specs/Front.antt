@@ -12,7 +12,7 @@ use Rattle.http_front.specs.Requests.{body_reading, refusal_text}
 use Rattle.http_front.specs.declared.asks.Method.{Method}
 use Rattle.http_front.specs.declared.asks.Method.TheVariants.{Get, Head, Post, Other}
 use Rattle.http_front.specs.declared.asks.Target.{Target}
-use Rattle.http_front.specs.declared.asks.Target.TheVariants.{Json, Healthcheck, Unknown}
+use Rattle.http_front.specs.declared.asks.Target.TheVariants.{Json, Healthcheck, Stats as StatsTarget, Unknown}
 use Rattle.http_front.specs.declared.asks.BodyLength.{BodyLength}
 use Rattle.http_front.specs.declared.asks.BodyLength.TheVariants.{Absent, Unclear, Given}
 use Rattle.http_front.specs.declared.asks.Asks.{Asks}
@@ -22,7 +22,7 @@ use Rattle.http_front.specs.declared.answer.Body.{Body}
 use Rattle.http_front.specs.declared.answer.Body.TheVariants as body
 use Rattle.http_front.specs.declared.answer.HttpAnswer.{HttpAnswer}
 use Rattle.http_front.specs.declared.front.Front.{Front}
-use Rattle.http_front.specs.declared.front.Front.TheVariants.{Ended, CutShort, Fixed, Check}
+use Rattle.http_front.specs.declared.front.Front.TheVariants.{Ended, CutShort, Fixed, Check, Stats}
 
 -- the most bytes of a body
 abbrev pub body_max : ℕ
@@ -57,6 +57,12 @@ is_get Post = false
 is_get Head = false
 is_get Other = false
 
+-- the answer to a request for the statistics: as of an unknown target where there are none, else their text, which GET alone takes
+abbrev pub stats_answer : Method → Option (List ℕ) → Bool → HttpAnswer
+stats_answer method None closes = plain 404 None (sends_body method) closes
+stats_answer method (Some text) closes =
+    if is_get method then json 200 text closes else plain 405 (Some allow.Get) (sends_body method) closes
+
 -- ---- fronts, each with the number of bytes before the rest
 
 -- a refusal by the head alone, after which the connection closes
@@ -79,6 +85,7 @@ routed asks Json used body =
     if is_post asks.method then json_front asks used (body_reading body) else not_allowed allow.Post asks used
 routed asks Healthcheck used body =
     if is_get asks.method then Fixed (plain 200 None true asks.closes) used else not_allowed allow.Get asks used
+routed asks StatsTarget used body = Stats asks.method asks.closes used
 routed asks Unknown used body = Fixed (plain 404 None (sends_body asks.method) asks.closes) used
 
 -- with a body of so many bytes, where these follow the head: nothing is answered before it is whole
@@ -121,6 +128,7 @@ IsFront bytes front = MatchOption (head_length (take head_max bytes))
 abbrev pub used_of : Front → ℕ
 used_of (Fixed answer used) = used
 used_of (Check request closes used) = used
+used_of (Stats method closes used) = used
 used_of Ended = 0
 used_of CutShort = 0
 
@@ -130,6 +138,7 @@ is_waiting Ended = true
 is_waiting CutShort = true
 is_waiting (Fixed answer used) = false
 is_waiting (Check request closes used) = false
+is_waiting (Stats method closes used) = false
 
 -- the body of this front's answer is sent
 abbrev pub sends : Front → Bool
@@ -137,6 +146,7 @@ sends (Fixed answer used) = answer.sends_body
 sends Ended = true
 sends CutShort = true
 sends (Check request closes used) = true
+sends (Stats method closes used) = sends_body method
 
 -- a body that is JSON
 abbrev pub is_json : Body → Bool
@@ -146,6 +156,7 @@ is_json (body.Json text) = true
 -- the request had a JSON body that was read: only there memory is wanted
 abbrev pub has_json : Front → Bool
 has_json (Check request closes used) = true
+has_json (Stats method closes used) = false
 has_json (Fixed answer used) = is_json answer.body
 has_json Ended = false
 has_json CutShort = false

@@ -1,5 +1,5 @@
 // An answer before it is printed.
-ghost use Rattle.std.specs.Prelude.{◌≡◌, None, true};
+ghost use Rattle.std.specs.Prelude.{◌≡◌, None, Some, true};
 ghost use Rattle.http_front.specs.Front.{plain, json};
 
 use http::StatusCode;
@@ -41,6 +41,19 @@ impl HttpAnswer {
         HttpAnswer {
             status,
             allow: None,
+            body: Body::Phrase,
+            sends_body,
+            closes,
+        }
+    }
+
+    /// The answer to a method that the target doesn't take: it takes this one. It takes no memory.
+    pub fn not_allowed(allow: Allow, sends_body: bool, closes: bool) -> HttpAnswer
+        ensures { result ≡ plain 405 (Some allow) sends_body closes }
+    {
+        HttpAnswer {
+            status: StatusCode::METHOD_NOT_ALLOWED,
+            allow: Some(allow),
             body: Body::Phrase,
             sends_body,
             closes,

@@ -10,6 +10,7 @@ ghost use Rattle.http_front.specs.Asks.{says_close};
 
 use httparse::spans::{HeaderSpan, RequestSpans};
 
+/// The method of a request.
 #[derive(Clone, Copy, Debug, PartialEq, Eq)]
 pub enum Method {
     Get,
@@ -22,6 +23,7 @@ pub enum Method {
 pub enum Target {
     Json,
     Healthcheck,
+    Stats,
     Unknown,
 }
 
@@ -83,6 +85,8 @@ fn target_of(target: &[u8]) -> Target
         Target::Json
     } else if path == b"/healthcheck".as_slice() {
         Target::Healthcheck
+    } else if path == b"/stats".as_slice() {
+        Target::Stats
     } else {
         Target::Unknown
     }

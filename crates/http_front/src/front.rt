@@ -6,10 +6,10 @@ ghost use Rattle.http_front.specs.Requests.{body_reading};
 
 use crate::asks::{Asks, BodyLength, Method, Target};
 use crate::request::{read_body, refusal_text};
-use crate::{Allow, Body, HttpAnswer};
+use crate::{Allow, HttpAnswer};
 use http::StatusCode;
 use proto_json::FormFault;
-use rate_types::{OutOfMemory, Refused, Request};
+use rate_types::{OutOfMemory, Refused, Request, Word};
 use std::alloc::Global;
 
 /// The most bytes of a body.
@@ -33,6 +33,12 @@ pub enum Front {
         closes: bool,
         used: usize,
     },
+    /// A request for the statistics of rules. Whether there are any isn't known here.
+    Stats {
+        method: Method,
+        closes: bool,
+        used: usize,
+    },
 }
 
 impl Front {
@@ -43,6 +49,7 @@ impl Front {
         match self {
             Front::Fixed { used, .. } => *used,
             Front::Check { used, .. } => *used,
+            Front::Stats { used, .. } => *used,
             Front::Ended | Front::CutShort => 0,
         }
     }
@@ -91,15 +98,18 @@ fn refusal(status: StatusCode, asks: Asks, used: usize) -> Front
 fn not_allowed(allow: Allow, asks: Asks, used: usize) -> Front
     ensures { result ≡ fronts.not_allowed allow asks used }
 {
-    Front::Fixed {
-        answer: HttpAnswer {
-            status: StatusCode::METHOD_NOT_ALLOWED,
-            allow: Some(allow),
-            body: Body::Phrase,
-            sends_body: sends_body(asks.method),
-            closes: asks.closes,
-        },
-        used,
+    let answer = HttpAnswer::not_allowed(allow, sends_body(asks.method), asks.closes);
+    Front::Fixed { answer, used }
+}
+
+/// The answer to a request for the statistics, by their text where there are any. It takes no memory.
+pub fn stats_answer(method: Method, text: Option<Word>, closes: bool) -> HttpAnswer
+    ensures { result ≡ fronts.stats_answer method text closes }
+{
+    match text {
+        None => HttpAnswer::plain(StatusCode::NOT_FOUND, sends_body(method), closes),
+        Some(text) if is_get(method) => HttpAnswer::json(StatusCode::OK, text, closes),
+        Some(_) => HttpAnswer::not_allowed(Allow::Get, sends_body(method), closes),
     }
 }
 
@@ -143,6 +153,11 @@ fn routed(alloc: Global, asks: Asks, used: usize, body: &[u8]) -> Result<Front, 
             Ok(fixed(StatusCode::OK, true, asks.closes, used))
         }
         Target::Healthcheck => Ok(not_allowed(Allow::Get, asks, used)),
+        Target::Stats => Ok(Front::Stats {
+            method: asks.method,
+            closes: asks.closes,
+            used,
+        }),
         Target::Unknown => Ok(fixed(
             StatusCode::NOT_FOUND,
             sends_body(asks.method),

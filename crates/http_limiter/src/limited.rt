@@ -5,10 +5,10 @@ ghost use Rattle.counter_cells.specs.Opened.{table_of, setup_of};
 ghost use Rattle.http_serve.specs.Links.{IsUnused, ends_in};
 ghost use Rattle.http_limiter.specs.Limited.{IsInRange, ServesLimited};
 
-use crate::passes::{checks_of, passes_of};
+use counted_checks::{close_stats, counted, open_stats, parts_of};
 use counter_cells::CellNaming;
 use descriptor_tree::Config;
-use http_checks::{LimiterParts, close_served};
+use http_checks::{LimiterParts, checks_of, close_served, passes_of};
 use http_endpoint::LinkEnd;
 use http_serve::{LinksFault, serve_links};
 use rate_io::Listen;
@@ -27,9 +27,11 @@ pub struct Setup {
     pub cells: u32,
     /// Overall codes are always OK.
     pub global_shadow: bool,
+    /// Statistics of the rules are kept, and `GET /stats` tells them.
+    pub stats: bool,
 }
 
-// Serves links by the limiter that these parts make, and closes it after the last.
+// Serves links by the limiter that these parts make, and closes it and the statistics after the last.
 fn serve_made<N: CellNaming + Send + Sync, R: Threads + Wait + Sync, L: Listen>(
     rt: &R,
     alloc: Global,
@@ -50,13 +52,17 @@ where
 {
     let (limiter, passes) = parts.make::<N>(alloc)?;
     let checks = checks_of(alloc, &limiter, passes)?;
-    let (checks, ends) = match serve_links(rt, alloc, checks, listen, connections) {
-        Ok(served) => served,
+    let (stats, noting) = open_stats(alloc, setup.stats, setup.workers)?;
+    let begun = counted(alloc, checks, &stats, noting)?;
+    let (served, ends) = match serve_links(rt, alloc, begun, listen, connections) {
+        Ok(done) => done,
         Err(LinksFault::Listen) => return Err(LinksFault::Listen),
         Err(LinksFault::OutOfMemory) => return Err(LinksFault::OutOfMemory),
     };
-    let passes = passes_of(alloc, checks)?;
+    let (used, noted) = parts_of(alloc, served)?;
+    let passes = passes_of(alloc, used)?;
     close_served(alloc, limiter, passes)?;
+    close_stats(alloc, stats, noted)?;
     Ok(ends)
 }
 

@@ -5,7 +5,7 @@ use http_endpoint::{
     Buffers, Checks, LinkCause, LinkEnd, link_end_line, listening_line, serve_link,
 };
 use rate_io::MemLink;
-use rate_types::{OwnLimit, Request, Seconds, Unit};
+use rate_types::{OutOfMemory, OwnLimit, Request, Seconds, Unit, Word};
 use rls_core::{CheckFault, Code, Count, Reply, Status};
 use std::alloc::Global;
 use std::sync::Wait;
@@ -13,8 +13,8 @@ use std::test::Fail;
 
 // A limit of 2 hits a minute on one counter, and a check without a cell from the fourth on.
 #[derive(Drop)]
-struct TwoAMinute {
-    before: u32,
+pub struct TwoAMinute {
+    pub before: u32,
 }
 
 // The status after so many hits.
@@ -37,7 +37,7 @@ fn status_after(before: u32, now: Seconds) -> Status {
 }
 
 impl Checks for TwoAMinute {
-    ghost answers = { λ _ _ _ _ _. ⊤ };
+    ghost answers = { λ _ _ _. ⊤ };
 
     fn check<R: Wait>(
         &mut self,
@@ -64,6 +64,10 @@ impl Checks for TwoAMinute {
             over: before >= 2,
             statuses,
         })
+    }
+
+    fn stats(&mut self, _alloc: Global) -> Result<Option<Word>, OutOfMemory> {
+        Ok(None)
     }
 }
 

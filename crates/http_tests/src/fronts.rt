@@ -21,6 +21,13 @@ fn shown(alloc: Global, bytes: &[u8]) -> Result<String, Fail> {
             let hits = request.hits();
             Ok(format!(in alloc; "{used}: check of {hits} closes {closes}")?)
         }
+        Part::Whole(
+            Front::Stats {
+                method,
+                closes,
+                used,
+            },
+        ) => Ok(format!(in alloc; "{used}: statistics by {method:?} closes {closes}")?),
         Part::Whole(_) => Ok(String::from_str(alloc, "waits")?),
         Part::NoHead { is_blank } => Ok(format!(in alloc; "no head, blank {is_blank}")?),
         Part::NoBody { total, sends_body } => {
@@ -76,6 +83,23 @@ fn each_request_has_its_answer(rt: HostRuntime) -> Result<(), Fail> {
             "PUT /healthcheck HTTP/1.0\r\n\r\n",
             "29: HTTP/1.1 405 Method Not Allowed\r\nContent-Type: text/plain\r\nContent-Length: 18\r\nAllow: GET\r\n\
             Connection: close\r\n\r\nMethod Not Allowed",
+        ),
+        (
+            "GET /stats HTTP/1.1\r\n\r\n",
+            "23: statistics by Get closes false",
+        ),
+        (
+            "HEAD /stats?a=b HTTP/1.0\r\nContent-Length: 1\r\n\r\n.",
+            "48: statistics by Head closes true",
+        ),
+        (
+            "POST /stats HTTP/1.1\r\n\r\n",
+            "24: HTTP/1.1 411 Length Required\r\nContent-Type: text/plain\r\nContent-Length: 15\r\nConnection: close\r\n\r\n\
+            Length Required",
+        ),
+        (
+            "GET /stats/ HTTP/1.1\r\n\r\n",
+            "24: HTTP/1.1 404 Not Found\r\nContent-Type: text/plain\r\nContent-Length: 9\r\n\r\nNot Found",
         ),
         (
             "POST /json HTTP/1.1\r\nTransfer-Encoding: chunked\r\n\r\n",

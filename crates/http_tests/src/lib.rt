@@ -7,3 +7,5 @@ mod connections;
 mod fronts;
 #[cfg(test)]
 mod hostile;
+#[cfg(test)]
+mod stats;

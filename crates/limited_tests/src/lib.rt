@@ -5,3 +5,5 @@
 mod limited;
 #[cfg(test)]
 mod peers;
+#[cfg(test)]
+mod stats;

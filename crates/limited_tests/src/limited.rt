@@ -1,4 +1,4 @@
-use crate::peers::{CHECK_A, CHECK_B, HEALTH, answers, peer_of, serve, slow_peer};
+use crate::peers::{CHECK_A, CHECK_B, HEALTH, answers, peer_of, serve, setup_of, slow_peer};
 use http_endpoint::{LinkCause, LinkEnd};
 use std::test::Fail;
 
@@ -16,7 +16,7 @@ fn one_limit_holds_over_all_connections(rt: HostRuntime) -> Result<(), Fail> {
         for _ in 0..2 {
             peers.push(slow_peer(alloc, &two, 20, 4_000)?)?;
         }
-        let served = serve(&rt, alloc, peers, tasks, 10, 0)?;
+        let served = serve(&rt, alloc, peers, tasks, setup_of(10), 0)?;
         assert_eq!(rt;
             answers(alloc, &served, 0)?.as_str(),
             first,
@@ -42,7 +42,7 @@ fn a_counter_without_a_cell_is_refused_on_each_connection(rt: HostRuntime) -> Re
     ] {
         peers.push(peer_of(alloc, &bytes)?)?;
     }
-    let served = serve(&rt, alloc, peers, 2, 1, 0)?;
+    let served = serve(&rt, alloc, peers, 2, setup_of(1), 0)?;
     assert_eq!(rt; answers(alloc, &served, 0)?.as_str(), "200+ 503 200 ");
     assert_eq!(rt; answers(alloc, &served, 1)?.as_str(), "503 200 429 ");
     Ok(())
@@ -56,7 +56,7 @@ fn pieces_of_any_size_are_answered_alike(rt: HostRuntime) -> Result<(), Fail> {
     for (sent, taken) in [(1, 4_000), (4_000, 1), (1, 1), (7, 13), (4_000, 4_000)] {
         let mut peers = Vec::new(alloc);
         peers.push(slow_peer(alloc, &all, sent, taken)?)?;
-        let served = serve(&rt, alloc, peers, 1, 10, 0)?;
+        let served = serve(&rt, alloc, peers, 1, setup_of(10), 0)?;
         assert_eq!(rt;
             answers(alloc, &served, 0)?.as_str(),
             "200+ 200 200 200+ 429 ",
@@ -74,7 +74,7 @@ fn a_check_that_is_cut_adds_nothing(rt: HostRuntime) -> Result<(), Fail> {
     for count in 0..=CHECK_A.len() {
         peers.push(peer_of(alloc, CHECK_A.get(..count).ok_or("no part")?)?)?;
     }
-    let served = serve(&rt, alloc, peers, 256, 10, 0)?;
+    let served = serve(&rt, alloc, peers, 256, setup_of(10), 0)?;
     let ends = served.ends.as_ref().ok_or("the listener failed")?;
     for (number, end) in ends.iter().enumerate() {
         let (cause, count, want) = if number == CHECK_A.len() {
@@ -109,7 +109,7 @@ fn one_is_answered_beside_256_that_dribble(rt: HostRuntime) -> Result<(), Fail> 
         peers.push(slow_peer(alloc, CHECK_A, 1, 4_000)?)?;
     }
     peers.push(peer_of(alloc, CHECK_A)?)?;
-    let served = serve(&rt, alloc, peers, 257, 10, 0)?;
+    let served = serve(&rt, alloc, peers, 257, setup_of(10), 0)?;
     assert_eq!(rt; answers(alloc, &served, 256)?.as_str(), "200+ ");
     assert_eq!(rt; answers(alloc, &served, 0)?.as_str(), "200 ");
     for number in 1..256usize {
@@ -128,7 +128,7 @@ fn each_call_of_the_listener_can_fail(rt: HostRuntime) -> Result<(), Fail> {
         for _ in 0..2 {
             peers.push(slow_peer(alloc, CHECK_A, 1, 4_000)?)?;
         }
-        let served = serve(&rt, alloc, peers, 2, 10, failing)?;
+        let served = serve(&rt, alloc, peers, 2, setup_of(10), failing)?;
         assert!(rt; served.ends.is_none(), "call {failing} fails");
         for number in 0..2usize {
             let is_back = served.listen.given_back(number).is_some();

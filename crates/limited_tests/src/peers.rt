@@ -67,13 +67,22 @@ pub struct Served {
     pub listen: MemPollListen,
 }
 
-/// Serves these peers, at most so many at a time, by a limiter of so many cells, where the call of the listener with this number fails.
+/// A limiter of so many cells, without statistics.
+pub fn setup_of(cells: u32) -> TaskSetup {
+    TaskSetup {
+        cells,
+        global_shadow: false,
+        stats: false,
+    }
+}
+
+/// Serves these peers, at most so many at a time, by such a limiter, where the call of the listener with this number fails.
 pub fn serve<R: Wait + RandomSource>(
     rt: &R,
     alloc: Global,
     peers: Vec<MemPeer>,
     tasks: u32,
-    cells: u32,
+    setup: TaskSetup,
     failing: u64,
 ) -> Result<Served, Fail> {
     let most = MOST_CONNECTIONS as usize;
@@ -82,8 +91,9 @@ pub fn serve<R: Wait + RandomSource>(
     let mut listen = MemPollListen::new(alloc, peers, Vec::new(alloc), failing)?;
     let seed = RandomState::new(rt)?;
     let setup = TaskSetup {
-        cells: cells.clamp(1, MOST_CELLS),
-        global_shadow: false,
+        cells: setup.cells.clamp(1, MOST_CELLS),
+        global_shadow: setup.global_shadow,
+        stats: setup.stats,
     };
     let config = limits(alloc)?;
     let answer = serve_limited_tasks(
@@ -106,8 +116,8 @@ pub fn serve<R: Wait + RandomSource>(
     }
 }
 
-/// What was written for the link of a number, in short: for each answer its status, and `+` where one more hit is left.
-pub fn answers(alloc: Global, served: &Served, number: usize) -> Result<String, Fail> {
+/// What was written for the link of a number.
+pub fn written(alloc: Global, served: &Served, number: usize) -> Result<String, Fail> {
     let link = served
         .listen
         .given_back(number)
@@ -116,7 +126,12 @@ pub fn answers(alloc: Global, served: &Served, number: usize) -> Result<String, 
         return Err("it wasn't shut".into());
     }
     let bytes = link.link().written().ok_or("no memory")?;
-    let text = String::from_utf8(Vec::from_slice(alloc, bytes)?)?;
+    Ok(String::from_utf8(Vec::from_slice(alloc, bytes)?)?)
+}
+
+/// The same in short: for each answer its status, and `+` where one more hit is left.
+pub fn answers(alloc: Global, served: &Served, number: usize) -> Result<String, Fail> {
+    let text = written(alloc, served, number)?;
     let mut all = String::new(alloc);
     for answer in text.as_str().split("HTTP/1.1 ").skip(1) {
         all.push_str(answer.get(..3).unwrap_or("cut"))?;

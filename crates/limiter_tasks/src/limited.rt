@@ -7,9 +7,10 @@ ghost use Rattle.http_serve.specs.Links.{IsUnused, ends_in};
 ghost use Rattle.limiter_tasks.specs.Limited.{ServesLimitedTasks};
 
 use conn_tasks::PollListen;
+use counted_checks::{close_stats, counted, open_stats, parts_of};
 use counter_cells::CellNaming;
 use descriptor_tree::Config;
-use http_checks::{LimiterParts, PassChecks, close_served};
+use http_checks::{LimiterParts, checks_of, close_served, passes_of};
 use http_endpoint::LinkEnd;
 use http_serve::LinksFault;
 use serve_tasks::serve_tasks;
@@ -25,9 +26,11 @@ pub struct TaskSetup {
     pub cells: u32,
     /// Overall codes are always OK.
     pub global_shadow: bool,
+    /// Statistics of the rules are kept, and `GET /stats` tells them.
+    pub stats: bool,
 }
 
-// Serves links by the limiter that these parts make, and closes it after the last.
+// Serves links by the limiter that these parts make, and closes it and the statistics after the last.
 fn serve_made<N: CellNaming, R: Wait, Q: PollListen>(
     rt: &R,
     alloc: Global,
@@ -46,18 +49,23 @@ fn serve_made<N: CellNaming, R: Wait, Q: PollListen>(
     ensures { ServesLimitedTasks (config_view (arc_value parts.config)) setup connections (Q.history polls.old)
         (Q.history polls.new) (Q.faults polls.old, Q.faults polls.new) (ends_in result) }
 {
-    let (limiter, mut passes) = parts.make::<N>(alloc)?;
-    let Some(pass) = passes.pop() else {
+    let (limiter, passes) = parts.make::<N>(alloc)?;
+    let checks = checks_of(alloc, &limiter, passes)?;
+    let (stats, noting) = open_stats(alloc, setup.stats, 1)?;
+    let mut all = counted(alloc, checks, &stats, noting)?;
+    let Some(mut one) = all.pop() else {
         unreachable!()
     };
-    let mut checks = PassChecks::new(&limiter, pass);
-    let ends = match serve_tasks(rt, alloc, &mut checks, polls, connections, tasks) {
+    let ends = match serve_tasks(rt, alloc, &mut one, polls, connections, tasks) {
         Ok(served) => served,
         Err(LinksFault::Listen) => return Err(LinksFault::Listen),
         Err(LinksFault::OutOfMemory) => return Err(LinksFault::OutOfMemory),
     };
-    passes.push_reserved(checks.into_pass());
+    all.push_reserved(one);
+    let (used, noted) = parts_of(alloc, all)?;
+    let passes = passes_of(alloc, used)?;
     close_served(alloc, limiter, passes)?;
+    close_stats(alloc, stats, noted)?;
     Ok(ends)
 }
 

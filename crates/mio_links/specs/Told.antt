@@ -1,5 +1,5 @@
 -- Inside: what a poll of mio told.
-use Rattle.std.specs.Prelude.{ℕ, ◌==◌, ◌-◌, ◌^◌, List, [], map, Option, None, Some, if◌then◌else◌}
+use Rattle.std.specs.Prelude.{◌==◌, List, [], map, Option, None, Some, if◌then◌else◌}
 use Rattle.mio.specs.Event.{event_token, is_read_closed}
 use Rattle.mio.specs.Events.{items}
 use Rattle.mio.specs.declared.event.event.Event.{Event}

@@ -3,7 +3,7 @@ ghost use Rattle.std.specs.Prelude.{⊤};
 use conn_tasks::PollListen;
 use http_endpoint::{Checks, LinkCause, LinkEnd};
 use mio_links::MioListen;
-use rate_types::{Request, Seconds};
+use rate_types::{OutOfMemory, Request, Seconds, Word};
 use rls_core::{CheckFault, Reply};
 use serve_tasks::serve_tasks;
 use std::alloc::Global;
@@ -28,7 +28,7 @@ const FULL: &str =
 struct NoRoom;
 
 impl Checks for NoRoom {
-    ghost answers = { λ _ _ _ _ _. ⊤ };
+    ghost answers = { λ _ _ _. ⊤ };
 
     fn check<R: Wait>(
         &mut self,
@@ -41,6 +41,10 @@ impl Checks for NoRoom {
             claims: 1,
             wanted: 1,
         })
+    }
+
+    fn stats(&mut self, _alloc: Global) -> Result<Option<Word>, OutOfMemory> {
+        Ok(None)
     }
 }
 

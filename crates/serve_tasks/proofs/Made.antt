@@ -2,7 +2,9 @@
 use Rattle.std.proofs.Common.{◌≡◌, ◌⊎◌, inl, inr, ℕ, zero, suc, ◌==◌, ◌<◌, Bool, true, false, List, [], ◌∷◌, ◌++◌, map, refl, sym, ap, ◌∙◌, subst, if◌then◌else◌, arith}
 use Rattle.std.proofs.lemmas.Bool.Decides.{nat_tests}
 use Rattle.std.specs.List.{AllByRecursion}
-use Rattle.http_endpoint.specs.Answers.{CheckStep, Asked, Lead}
+use Rattle.std.specs.Prelude.{option_to_list, Option, Result, Ok, Err, IfOk, OnErr}
+use Rattle.rate_types.specs.declared.memory.OutOfMemory.{OutOfMemory}
+use Rattle.http_endpoint.specs.Answers.{CheckStep, Asked, statistics, statistics_asked, Lead}
 use Rattle.serve_tasks.specs.Service.{made_for}
 
 -- checks for one link
@@ -60,3 +62,9 @@ only_wider n m (x ∷ a) less all = (omega (arith, less, all.0), only_wider n m 
 pub only_tagged : (n m : ℕ) (more : List Asked) → n < m → AllByRecursion (λ (x : ℕ × Asked). x.0 < m) (tag n more)
 only_tagged n m [] less = tt
 only_tagged n m (a ∷ more) less = (less, only_tagged n m more less)
+
+-- what was asked for the statistics leads from one state to the other
+pub lead_statistics : {S : Type 0} (answers : CheckStep S) (p q : S) (came : Result (Option (List ℕ)) OutOfMemory)
+    → IfOk came (λ text. answers p (statistics text) q) → OnErr came (q ≡ p) → Lead answers p (option_to_list (statistics_asked came)) q
+lead_statistics answers p q (Ok text) step same = (q, step, refl)
+lead_statistics answers p q (Err e) step same = same

@@ -1,5 +1,5 @@
 -- Connections that are run again, or stay.
-use Rattle.std.proofs.Common.{◌≡◌, ⊎_elim, ℕ, Bool, ◌+◌, ◌<◌, ◌≤◌, List, Option, Some, None, get_or, set, length, refl, sym, ◌∙◌, subst, arith, le_trans}
+use Rattle.std.proofs.Common.{◌≡◌, ⊎_elim, ℕ, Bool, ◌<◌, ◌≤◌, List, Option, Some, None, get_or, set, length, refl, sym, ◌∙◌, subst, arith, le_trans}
 use Rattle.std.proofs.lemmas.List.{get_or-set_same, get_or-set_other, length-set}
 use Rattle.rate_io.specs.Causes.{Rose}
 use Rattle.http_endpoint.proofs.ReadLemmas.{rose_earlier}

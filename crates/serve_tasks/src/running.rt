@@ -3,11 +3,12 @@ ghost use Rattle.std.specs.Prelude.{◌≡◌, true, List, ℕ, ◌++◌, ◌∷
 ghost use Rattle.std.specs.Option.{is_some};
 ghost use Rattle.rate_io.specs.Links.{LinkState};
 ghost use Rattle.http_endpoint.specs.Answers.{Asked, Lead};
-ghost use Rattle.conn_tasks.specs.Tasks.{IsOn, IsGoing, IsChecking, is_live};
+ghost use Rattle.conn_tasks.specs.Tasks.{IsOn, IsGoing, IsChecking, IsTelling, is_live};
 ghost use Rattle.serve_tasks.specs.Running.{RunsTo};
 
 use conn_tasks::{ConnTask, Mode, PollLink, Room, Turned};
 use http_endpoint::{Checks, LinkEnd};
+use http_front::Method;
 use rate_types::{Request, Seconds};
 use std::alloc::Global;
 use std::marker::Model;
@@ -91,8 +92,25 @@ fn make_check<R: Wait, N: PollLink + Drop, K: Checks>(
     task.answer(alloc, came);
 }
 
+// Tells the statistics that a request of this method wants.
+fn tell_stats<N: PollLink + Drop, K: Checks>(
+    alloc: Global,
+    checks: &mut K,
+    task: &mut ConnTask<N>,
+    method: Method,
+)
+    requires { task.old.mode ≡ Mode.Telling }
+    ensures told { (more : List Asked) × Lead K.answers checks.old more checks.new
+        × ((first : LinkState) (asked : List Asked) → IsTelling first asked method task.old → IsOn first (asked ++ more) task.new) }
+    ensures mode { task.new.mode ≡ Mode.Writing }
+    ensures link { task.new.link ≡ task.old.link }
+{
+    let came = checks.stats(alloc);
+    task.answer_stats(method, came);
+}
+
 /// Runs a connection, which has this number, until it waits at its link or has ended, and then shuts the link. Each check that it wants
-/// is made. A room is lent to it.
+/// is made, and the statistics are told where it wants them. A room is lent to it.
 pub fn run_task<R: Wait, N: PollLink + Drop, K: Checks>(
     rt: &R,
     alloc: Global,
@@ -112,6 +130,7 @@ pub fn run_task<R: Wait, N: PollLink + Drop, K: Checks>(
             Turned::Check(request, moment) => {
                 make_check(rt, alloc, checks, &mut task, request, moment);
             }
+            Turned::Stats(method) => tell_stats(alloc, checks, &mut task, method),
             Turned::End(link_end) => {
                 let mut link = task.into_link();
                 link.shut();

@@ -98,6 +98,7 @@ impl SharedStats {
         ensures text { IfOk result (λ t. (found : List RuleNumbers)
             × IsReading (rules_of self.now) (notes_of pass.old) (reads_of pass.old) (reads_of pass.new) found
             × (string_bytes t ≡ stats_text found)) }
+        ensures grows { (more : List (ℕ × RuleNumbers)) × (reads_of pass.new ≡ reads_of pass.old ++ more) }
         ensures noted { noted_of pass.new ≡ noted_of pass.old }
         ensures pass { stats_of pass.new ≡ stats_of pass.old }
     {

@@ -2,4 +2,6 @@
 #![tactic(auto)]
 
 #[cfg(test)]
+mod stats;
+#[cfg(test)]
 mod tasks;

@@ -4,7 +4,7 @@ use arrayvec::ArrayVec;
 use conn_tasks::{ConnTask, MemPeer, MemPollListen, Room, Turned};
 use http_endpoint::{Checks, LinkCause, LinkEnd};
 use rate_types::limits::MOST_CONNECTIONS;
-use rate_types::{OwnLimit, Request, Seconds, Unit};
+use rate_types::{OutOfMemory, OwnLimit, Request, Seconds, Unit, Word};
 use rls_core::{CheckFault, Code, Count, Reply, Status};
 use serve_tasks::serve_tasks;
 use std::alloc::Global;
@@ -13,8 +13,8 @@ use std::test::Fail;
 
 // A limit of 2 hits a minute on one counter, and a check without a cell from the fourth on.
 #[derive(Drop)]
-struct TwoAMinute {
-    before: u32,
+pub struct TwoAMinute {
+    pub before: u32,
 }
 
 // The status after so many hits.
@@ -37,7 +37,7 @@ fn status_after(before: u32, now: Seconds) -> Status {
 }
 
 impl Checks for TwoAMinute {
-    ghost answers = { λ _ _ _ _ _. ⊤ };
+    ghost answers = { λ _ _ _. ⊤ };
 
     fn check<R: Wait>(
         &mut self,
@@ -65,10 +65,14 @@ impl Checks for TwoAMinute {
             statuses,
         })
     }
+
+    fn stats(&mut self, _alloc: Global) -> Result<Option<Word>, OutOfMemory> {
+        Ok(None)
+    }
 }
 
 // A peer that sends these bytes and takes all at once, at a clock that says 65.
-fn peer_of(alloc: Global, bytes: &str) -> Result<MemPeer, Fail> {
+pub fn peer_of(alloc: Global, bytes: &str) -> Result<MemPeer, Fail> {
     Ok(MemPeer {
         bytes: Vec::from_slice(alloc, bytes.as_bytes())?,
         read_most: usize::MAX,
@@ -104,7 +108,7 @@ fn served<R: Wait>(
 }
 
 // The link of a number ended so.
-fn is_end(ends: &[LinkEnd], number: usize, cause: LinkCause, answers: u32) -> bool {
+pub fn is_end(ends: &[LinkEnd], number: usize, cause: LinkCause, answers: u32) -> bool {
     match ends.get(number) {
         Some(link_end) => *link_end == LinkEnd { cause, answers },
         None => false,
@@ -112,7 +116,7 @@ fn is_end(ends: &[LinkEnd], number: usize, cause: LinkCause, answers: u32) -> bo
 }
 
 // What was written for the link of a number.
-fn written(alloc: Global, listen: &MemPollListen, number: usize) -> Result<String, Fail> {
+pub fn written(alloc: Global, listen: &MemPollListen, number: usize) -> Result<String, Fail> {
     let link = listen.given_back(number).ok_or("it didn't come back")?;
     if !link.link().is_shut() {
         return Err("it wasn't shut".into());
@@ -121,12 +125,12 @@ fn written(alloc: Global, listen: &MemPollListen, number: usize) -> Result<Strin
     Ok(String::from_utf8(Vec::from_slice(alloc, bytes)?)?)
 }
 
-const CHECK: &str =
+pub const CHECK: &str =
     "POST /json HTTP/1.1\r\nContent-Length: 68\r\n\r\n{\"domain\":\"d\",\"descriptors\":[{\"entries\":[{\"key\":\"k\",\"value\":\"a\"}]}]}";
 
 const HEALTH: &str = "GET /healthcheck HTTP/1.1\r\n\r\n";
 
-const FIRST: &str =
+pub const FIRST: &str =
     "HTTP/1.1 200 OK\r\nContent-Type: application/json\r\nContent-Length: 146\r\n\r\n\
     {\"overallCode\":\"OK\",\"statuses\":[{\"code\":\"OK\",\"currentLimit\":{\"requestsPerUnit\":2,\"unit\":\"MINUTE\"},\
     \"durationUntilReset\":\"55s\",\"limitRemaining\":1}]}";
@@ -200,7 +204,10 @@ fn a_write_goes_on_where_it_waited(rt: HostRuntime) -> Result<(), Fail> {
     if !task.is_live() {
         return Err("it can't go on".into());
     }
-    assert!(rt; spare.is_none(), "it gave up the room of an answer that is half written");
+    assert!(rt;
+        spare.is_none(),
+        "it gave up the room of an answer that is half written"
+    );
     Room::refill(alloc, &mut spare)?;
     let Turned::End(link_end) = task.poll_turn(alloc, &mut spare) else {
         return Err("it waits".into());

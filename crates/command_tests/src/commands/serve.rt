@@ -150,6 +150,40 @@ fn a_connection_is_answered_and_has_its_line(rt: HostRuntime) -> Result<(), Fail
     Ok(())
 }
 
+/// A request for the statistics, and its answer behind two checks.
+pub const STATS: &str = "GET /stats HTTP/1.1\r\n\r\n";
+
+pub const COUNTED: &str =
+    "HTTP/1.1 200 OK\r\nContent-Type: application/json\r\nContent-Length: 81\r\n\r\n\
+    {\"rules\":[{\"near\":1,\"over\":0,\"rule\":0,\"seen\":0,\"shadow\":0,\"total\":2,\"within\":2}]}";
+
+const NOT_FOUND: &str =
+    "HTTP/1.1 404 Not Found\r\nContent-Type: text/plain\r\nContent-Length: 9\r\n\r\nNot Found";
+
+#[test]
+fn statistics_are_told_where_they_are_kept(rt: HostRuntime) -> Result<(), Fail> {
+    let alloc = rt.alloc();
+    let asked = format!(in alloc; "{CHECK_A}{CHECK_A}{STATS}")?;
+    for (word, want) in [("--stats", COUNTED), ("--global-shadow", NOT_FOUND)] {
+        let words = [
+            "serve",
+            "--port=0",
+            "--connections=1",
+            "--workers=1",
+            word,
+            "a",
+        ];
+        let found = serve_peers(&rt, alloc, &words, &[asked.as_str()], 0)?;
+        assert_eq!(rt;
+            found.said.as_str(),
+            "done\n{\"listening\":1}\n{\"answers\":3,\"connection\":0,\"end\":\"ENDED\"}\n"
+        );
+        let want = [format!(in alloc; "{FIRST}{SECOND}{want}")?];
+        assert_eq!(rt; found.written.as_slice(), want.as_slice(), "{word}");
+    }
+    Ok(())
+}
+
 // The first call of the listener is for the port, the others are for connections.
 #[test]
 fn each_call_of_the_listener_can_fail(rt: HostRuntime) -> Result<(), Fail> {

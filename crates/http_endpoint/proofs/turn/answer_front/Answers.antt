@@ -1,5 +1,5 @@
 use Rattle.std.proofs.Common.{string_bytes}
-use Rattle.http_endpoint.proofs.TurnLemmas.{fixed_turn, check_turn}
+use Rattle.http_endpoint.proofs.TurnLemmas.{fixed_turn, check_turn, stats_turn}
 use Rattle.http_endpoint.proofs.turn.answer_front.Goals as goal
 
 pub returns-in-Fixed : goal.returns-in-Fixed
@@ -15,3 +15,10 @@ returns-in-Check g c =
     c.now-moment.result c.check-came.result (g.N.Link.state c.args.link.now) (g.N.Link.state c.now-moment.new.self) c.args.checks.now c.check-came.new.self
     (string_bytes c.print_result.new.out) c.print_result.result
     c.now-moment.ensures c.check-came.ensures (rw c.closes_after-closes.ensures at c.print_result.ensures))
+
+pub returns-in-Stats : goal.returns-in-Stats
+returns-in-Stats g c =
+    rw c.in-Stats.is
+    (stats_turn g.K.Checks.answers c.args.is_last c.in-Stats.method c.in-Stats.closes c.in-Stats.used c.stats-came.result
+    (g.N.Link.state c.args.link.now) c.args.checks.now c.stats-came.new.self (string_bytes c.print_stats.new.out) c.print_stats.result
+    c.stats-came.ensures.asked c.stats-came.ensures.memory (rw c.closes_after-closes-in-Stats.ensures at c.print_stats.ensures))

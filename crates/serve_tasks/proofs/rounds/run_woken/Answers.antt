@@ -1,7 +1,6 @@
-use Rattle.std.proofs.Common.{◌≡◌, ◌<◌, ◌+◌, ⊎_elim, ℕ, Bool, None, get_or, length, refl, sym, ◌∙◌, subst, arith}
+use Rattle.std.proofs.Common.{◌≡◌, ⊎_elim, ℕ, None, get_or, refl, ◌∙◌, subst, arith}
 use Rattle.conn_tasks.specs.declared.woke.Woke.TheVariants.{Listener, Link}
 use Rattle.serve_tasks.specs.Links.{standing}
-use Rattle.serve_tasks.specs.Running.{WasRun}
 use Rattle.serve_tasks.proofs.Runs.{follows_same, follows_more, run_before, run_behind, told_of}
 use Rattle.serve_tasks.proofs.Made.{same_or}
 use Rattle.serve_tasks.proofs.Standings.{runs_none, runs_more, stand_again}

@@ -1,4 +1,4 @@
-use Rattle.std.proofs.Common.{◌≡◌, ◌<◌, ℕ, Bool, None, get_or, vec_len, length}
+use Rattle.std.proofs.Common.{◌≡◌, ◌<◌, ℕ, Bool, None, get_or, vec_len}
 use Rattle.conn_tasks.specs.declared.woke.Woke.TheVariants.{Listener, Link}
 use Rattle.serve_tasks.specs.Running.{Runs, Follows, WasRun}
 use Rattle.serve_tasks.specs.Links.{standing}

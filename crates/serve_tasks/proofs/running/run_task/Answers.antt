@@ -36,8 +36,8 @@ returns-in-Pending g c =
       ),
     )
 
-pub turns-preserved : goal.turns-preserved
-turns-preserved g c =
+pub turns-preserved-in-Check : goal.turns-preserved-in-Check
+turns-preserved-in-Check g c =
     let x = c.turns.invariant.runs in
     let m = c.make_check.ensures.made in
     record {
@@ -52,6 +52,24 @@ turns-preserved g c =
       waits = le_trans c.turns.invariant.waits (subst (λ n. c.turns.task.link.waits ≤ n)
           (sym (ap (λ (l : PollState). l.waits) c.make_check.ensures.link)) c.in-Check.ensures.waits);
       room = λ reading. let writing = c.make_check.ensures.mode in absurd (cc);
+    }
+
+pub turns-preserved : goal.turns-preserved
+turns-preserved g c =
+    let x = c.turns.invariant.runs in
+    let m = c.tell_stats.ensures.told in
+    record {
+      runs = (
+        x.0 ++ m.0,
+        lead_more g.K.Checks.answers c.args.checks.now c.turns.checks c.tell_stats.new.checks x.0 m.0 x.1 m.1,
+        λ first asked on.
+            let y = c.in-Stats.ensures.turns first (asked ++ x.0) (x.2 first asked on) in
+            subst (λ (qs : List Asked). IsOn first qs c.tell_stats.new.task) (append_assoc asked x.0 m.0) (m.2 first (asked ++ x.0) y.1),
+      );
+      live = ap is_live c.tell_stats.ensures.mode;
+      waits = le_trans c.turns.invariant.waits (subst (λ n. c.turns.task.link.waits ≤ n)
+          (sym (ap (λ (l : PollState). l.waits) c.tell_stats.ensures.link)) c.in-Stats.ensures.waits);
+      room = λ reading. let writing = c.tell_stats.ensures.mode in absurd (cc);
     }
 
 pub returns-in-End : goal.returns-in-End

@@ -1,5 +1,5 @@
 use Rattle.std.proofs.Common.{◌+◌, ◌==◌, Some, refl, sym, ◌∙◌, string_bytes}
-use Rattle.http_endpoint.specs.Answers.{answers_max, Asked}
+use Rattle.http_endpoint.specs.Answers.{answers_max, Checked, check}
 use Rattle.http_front.specs.declared.front.Front.TheVariants.{Check}
 use Rattle.http_endpoint.proofs.TurnLemmas.{tells_one}
 use Rattle.conn_tasks.proofs.Turns.{check_turn, printed_still}
@@ -19,7 +19,7 @@ pub returns-clause-answered : goal.returns-clause-answered
 returns-clause-answered g c = λ first asked request now k.
     let p = check_turn (c.args.self.now.answers + 1 == answers_max) request k.asks_close k.used now c.args.came (string_bytes c.print_result-self.new.out)
     c.print_result-self.result (rw k.closes at c.print_result-self.ensures) in
-    let one : Asked = record { request = request; now = now; result = c.args.came } in
-    starts_writing first k.mid asked _ k.turns k.rest (Check request k.asks_close k.used) (Some one)
+    let one : Checked = record { request = request; now = now; result = c.args.came } in
+    starts_writing first k.mid asked _ k.turns k.rest (Check request k.asks_close k.used) (Some (check one))
     k.so_far (tells_one k.mid c.args.self.now.link.link one k.told) k.stands p refl c.closes-self.ensures
     (λ still. holds_head _ _ _ (sym k.behind) k.awaits) k.count k.asked_is

@@ -22,5 +22,8 @@ returns-in-Wait-clause-turns g c = λ first asked on.
 pub returns-in-Check-clause-turns : goal.returns-in-Check-clause-turns
 returns-in-Check-clause-turns g c = λ first asked on. c.in-Check.ensures.steps first asked (c.steps.invariant.on first asked on)
 
+pub returns-in-Stats-clause-turns : goal.returns-in-Stats-clause-turns
+returns-in-Stats-clause-turns g c = λ first asked on. c.in-Stats.ensures.steps first asked (c.steps.invariant.on first asked on)
+
 pub returns-in-End-clause-turns : goal.returns-in-End-clause-turns
 returns-in-End-clause-turns g c = λ first asked on. c.in-End.ensures.steps first asked (c.steps.invariant.on first asked on)

@@ -2,7 +2,7 @@ use Rattle.std.proofs.Common.{◌≡◌, ℕ, true, List, [], ◌∷◌, ◌++�
 use Rattle.std.specs.Option.{is_some}
 use Rattle.rate_types.specs.Requests.{RequestParts}
 use Rattle.rate_io.specs.Links.{LinkState}
-use Rattle.http_endpoint.specs.Answers.{Asked}
+use Rattle.http_endpoint.specs.Answers.{Asked, check}
 use Rattle.conn_tasks.specs.Conn.{seen, needs_room}
 use Rattle.conn_tasks.specs.State.{TaskState}
 use Rattle.conn_tasks.specs.Tasks.{IsOn, IsAsking, IsGoing, IsChecking}
@@ -19,7 +19,7 @@ answer-requires g c =
 pub returns-clause-answered : goal.returns-clause-answered
 returns-clause-answered g c =
     subst (λ (s : TaskState). (first : LinkState) (asked : List Asked) (request : RequestParts) (now : ℕ) → IsChecking first asked request now s
-    → IsOn first (asked ++ record { request = request; now = now; result = c.args.came } ∷ []) (seen c.answer.new.self))
+    → IsOn first (asked ++ check (record { request = request; now = now; result = c.args.came }) ∷ []) (seen c.answer.new.self))
     (ap seen c.deref_mut.ensures.value ∙ c.self.view_is) c.answer.ensures.answered
 
 pub returns-clause-going : goal.returns-clause-going

@@ -2,8 +2,8 @@
 ghost use Rattle.std.specs.Prelude.{◌≡◌, All, IfOk, map};
 ghost use Rattle.http_checks.specs.Made.{checkers};
 
+use crate::PassChecks;
 use counter_cells::CellNaming;
-use http_checks::PassChecks;
 use rate_limiter::{Limiter, Pass};
 use rate_types::OutOfMemory;
 use std::alloc::Global;

@@ -1,6 +1,6 @@
 use Rattle.std.proofs.Common.{◌≡◌, ◌≤◌, ◌+◌, ◌++◌, length, vec_len, vec_capacity}
 use Rattle.http_checks.specs.Made.{checkers}
-use Rattle.http_limiter.proofs.passes.checks_of.Given as goal
+use Rattle.http_checks.proofs.passes.checks_of.Given as goal
 
 abbrev pub invariant-loop-pass : goal.invariant-loop-pass
 invariant-loop-pass g l = record {

@@ -1,5 +1,5 @@
 use Rattle.std.proofs.Common.{◌≡◌, ◌≤◌, ◌+◌, ◌++◌, length, map, vec_len, vec_capacity}
-use Rattle.http_limiter.proofs.passes.passes_of.Given as goal
+use Rattle.http_checks.proofs.passes.passes_of.Given as goal
 
 abbrev pub invariant-loop-check : goal.invariant-loop-check
 invariant-loop-check g l = record {

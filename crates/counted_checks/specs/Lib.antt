@@ -1,0 +1,4 @@
+pub mod Counting
+pub mod Text
+pub mod AtEnd
+pub mod Made
