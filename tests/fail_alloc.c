@@ -1,10 +1,11 @@
 /* Preloaded into the program, it fails the one allocation whose number, from 1, FAIL_ALLOC says; 0 fails none. It counts the allocations in
-   the first eight bytes of the file that ALLOCATIONS names. For tests/memory.sh. */
+   the first eight bytes of the file that ALLOCATIONS names. Where NO_RANDOM is set, the system has no random bytes. For tests/memory.sh. */
 #include <errno.h>
 #include <fcntl.h>
 #include <stdatomic.h>
 #include <stdlib.h>
 #include <sys/mman.h>
+#include <sys/random.h>
 #include <unistd.h>
 
 extern void *__libc_malloc(size_t size);
@@ -35,6 +36,12 @@ int posix_memalign(void **out, size_t align, size_t size) {
     if (found == NULL) return ENOMEM;
     *out = found;
     return 0;
+}
+
+int getentropy(void *bytes, size_t size) {
+    if (getenv("NO_RANDOM") == NULL) return getrandom(bytes, size, 0) == (ssize_t)size ? 0 : -1;
+    errno = EIO;
+    return -1;
 }
 
 __attribute__((constructor)) static void begin(void) {

@@ -5,7 +5,7 @@ Usage: memory.py PROGRAM LIBRARY [COMMAND..]    LIBRARY is tests/fail_alloc.c, b
 
 A run ends with status 7 after a prefix of its output in whole lines, or it did without that allocation and its output is whole. A server
 goes on: in the place of one answer stands 500, and the same check is then answered with the counts that it would have had; a cell that it
-had pinned is free once its window is over.
+had pinned is free once its window is over. Where the system has no random bytes, a command isn't begun.
 """
 import json
 import os
@@ -60,12 +60,12 @@ class Program:
             file.write(text)
         return path
 
-    def start(self, words, failing, given=subprocess.DEVNULL):
-        names = {"LD_PRELOAD": self.library, "FAIL_ALLOC": str(failing), "ALLOCATIONS": os.path.join(self.folder, "allocations")}
+    def start(self, words, failing, given=subprocess.DEVNULL, more=()):
+        names = {"LD_PRELOAD": self.library, "FAIL_ALLOC": str(failing), "ALLOCATIONS": os.path.join(self.folder, "allocations"), **dict(more)}
         return subprocess.Popen([self.path, *words], stdin=given, stdout=subprocess.PIPE, stderr=subprocess.PIPE, env={**os.environ, **names})
 
-    def run(self, words, failing, given):
-        child = self.start(words, failing, subprocess.PIPE)
+    def run(self, words, failing, given, more=()):
+        child = self.start(words, failing, subprocess.PIPE, more)
         out, err = child.communicate(given.encode(), 60)
         return child.returncode, out, err
 
@@ -98,6 +98,17 @@ def swept(program, words, given="", is_whole=None):
             want(out == whole if is_whole is None else is_whole(out), f"allocation {count}: done with {out!r}")
     want(needed > 0, "no run lacked any allocation")
     return f"{count} allocations, {needed} of them needed"
+
+
+def unseeded(program, commands):
+    """Words that are a command end with 7 and a line of their own, others as ever."""
+    for words in commands:
+        found = program.run(words, 0, check("a"), {"NO_RANDOM": "1"})
+        want(found == (7, b"", b"ratelimit: no random bytes\n"), f"{words} without random bytes: {found}")
+    for words in [], ["drive"], ["drive", "--cells", "0", "a.json"], ["serve", "a.json"]:
+        found = program.run(words, 0, "", {"NO_RANDOM": "1"})
+        want(found == (1, b"", b"ratelimit: usage\n"), f"{words} without random bytes: {found}")
+    return f"{len(commands)} commands not begun"
 
 
 def is_lawful(first, script, workers):
@@ -236,6 +247,9 @@ def scenarios(program):
     yield "lookup", lambda: swept(program, ["lookup", os.path.join(EXAMPLES, "gateway.json")], requests)
     yield "audit", lambda: swept(program, ["audit", "--run", printed, one], RELOADED)
     yield "gen", lambda: swept(program, ["gen", "1", "100"])
+    begun = [quota, pool, ["drive", one], ["lookup", one], ["audit", "--run", printed, one], ["gen", "1", "100"], ["--version"]]
+    begun.append(["serve", "--port", "0", "--connections", "1", one])
+    yield "random, none", lambda: unseeded(program, begun)
     yield "serve", lambda: serving(program, "DAY", ["--connections", "9", "--workers", "1", "--cells", "16"])
     yield "serve, two workers", lambda: serving(program, "DAY", ["--connections", "9", "--workers", "2", "--cells", "16"])
     yield "serve, over one cell", lambda: serving(program, "SECOND", ["--connections", "10", "--workers", "1", "--cells", "1"])

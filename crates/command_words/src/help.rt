@@ -52,7 +52,7 @@ ratelimit: a rate limiter after Envoy's rate limit service, over recorded traffi
       Prints the version.
 
 Exits: 0 done, 1 usage, 2 a configuration file is refused, 3 a file or the input is too long, 4 reading the input failed,
-5 writing the output failed, 6 reading a file failed, 7 out of memory, 8 listening failed, 9 quota settings or
+5 writing the output failed, 6 reading a file failed, 7 out of memory or random bytes, 8 listening failed, 9 quota settings or
 pools are refused.
 ";
 

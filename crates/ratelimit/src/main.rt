@@ -2,11 +2,13 @@
 //! status.
 #![tactic(auto)]
 
-ghost use Rattle.std.specs.Prelude.{◌≡◌};
+ghost use Rattle.std.specs.Prelude.{◌≡◌, ◌⊎◌, IfErr};
 ghost use Rattle.std.specs.Process.{exit_status};
 ghost use Rattle.cli_exits.specs.Reports.{status_of};
+ghost use Rattle.cli_exits.specs.declared.exit.Exit.TheVariants as exits;
 
 use cli_exits::Exit;
+use command_words::{WordsFault, read_words};
 use mio_links::MioListen;
 use rate_io::{HostFiles, ReaderSource, StreamListen, WriterSink};
 use rate_types::{Names, Word};
@@ -51,7 +53,9 @@ fn run<R: Threads + Wait + Sync>(
 }
 
 // The exit where the words couldn't be had: there was no memory for them, or one of them isn't UTF-8.
-fn exit_before(error: io::Error) -> Exit {
+fn exit_before(error: io::Error) -> Exit
+    ensures { (result ≡ exits.Usage) ⊎ (result ≡ exits.OutOfMemory) }
+{
     match error.kind() {
         io::ErrorKind::OutOfMemory => Exit::OutOfMemory,
         _ => Exit::Usage,
@@ -75,9 +79,36 @@ fn end(rt: &HostRuntime, exit: &Exit) -> ExitCode
     ExitCode::from(exit.status())
 }
 
+// The exit of words that are no command, or for which there was no memory.
+fn try_words(rt: &HostRuntime, alloc: Global) -> Result<(), Exit>
+    ensures { IfErr result (λ exit. (exit ≡ exits.Usage) ⊎ (exit ≡ exits.OutOfMemory)) }
+{
+    let words = match words_of(rt, alloc) {
+        Ok(words) => words,
+        Err(error) => return Err(exit_before(error)),
+    };
+    match read_words(alloc, &words) {
+        Ok(_) => Ok(()),
+        Err(WordsFault::Usage) => Err(Exit::Usage),
+        Err(WordsFault::OutOfMemory) => Err(Exit::OutOfMemory),
+    }
+}
+
+// Ends a command that can't be begun, since the system gave no random bytes for its hashes. Nothing was read, so this is no fault of
+// reading: as where there is no memory, the system hasn't what a command takes, and the line says what that is.
+fn end_without_seed(rt: &HostRuntime) -> ExitCode
+    ensures { exit_status result ≡ status_of exits.OutOfMemory }
+{
+    let _written = eprintln!(rt; "ratelimit: no random bytes");
+    ExitCode::from(Exit::OutOfMemory.status())
+}
+
 fn main(rt: HostRuntime) -> ExitCode {
     let Ok(seed) = RandomState::new(&rt) else {
-        return end(&rt, &Exit::ReadFault);
+        return match try_words(&rt, rt.alloc()) {
+            Ok(()) => end_without_seed(&rt),
+            Err(exit) => end(&rt, &exit),
+        };
     };
     match run(&rt, &rt, rt.alloc(), seed) {
         Ok(exit) => end(&rt, &exit),
