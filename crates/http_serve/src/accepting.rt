@@ -7,18 +7,19 @@ ghost use Rattle.link_handover.specs.Passes.{PutsInto, links_put, marks_put, tak
 ghost use Rattle.http_serve.specs.Links.{accepts};
 
 use crate::served::Fresh;
+use crate::signals::Signals;
 use link_handover::{Handover, PutPass};
 use rate_io::{Link, Listen};
 use rate_types::OutOfMemory;
 use std::sync::Wait;
-use std::sync::atomic::{AtomicBool, Ordering};
 
-// Accepts so many links and puts each, as long as no worker is short of memory. False where an accept failed.
+// Once the thread that serves was begun, accepts so many links and puts each, as long as no worker is short of memory. False where an
+// accept failed.
 #[tactic(auto, using(crate::proofs::Events::grown, crate::proofs::Events::stayed))]
 fn put_all<R: Wait, L: Listen>(
     rt: &R,
     handover: &Handover<Fresh<L::Link>>,
-    is_short: &AtomicBool,
+    signals: &Signals,
     connections: u32,
     put: &mut PutPass<Fresh<L::Link>>,
     listen: &mut L,
@@ -32,8 +33,11 @@ fn put_all<R: Wait, L: Listen>(
         × Rose (L.faults listen.old) (L.faults listen.new)) }
     ensures events { IfOk result (λ r. L.history listen.new ≡ L.history listen.old ++ accepts (length (links_put put.new)) r) }
 {
+    if !signals.wait_begun(rt) {
+        return Err(OutOfMemory);
+    }
     'links: for number in 0..connections {
-        if is_short.load(Ordering::SeqCst) {
+        if signals.is_short() {
             return Err(OutOfMemory);
         }
         let Ok(link) = listen.accept() else {
@@ -60,12 +64,12 @@ fn finish_all<R: Wait, N: Link + Drop>(
     }
 }
 
-/// Accepts so many links and puts each, and then an end mark for each worker. False where an accept failed. Where a worker is short
-/// of memory no more links are accepted.
+/// Accepts so many links and puts each, and then an end mark for each worker. False where an accept failed. No link is accepted before
+/// the thread that serves was begun, nor after a worker was short of memory.
 pub fn accept_all<R: Wait, L: Listen>(
     rt: &R,
     handover: &Handover<Fresh<L::Link>>,
-    is_short: &AtomicBool,
+    signals: &Signals,
     connections: u32,
     workers: u32,
     put: &mut PutPass<Fresh<L::Link>>,
@@ -80,7 +84,7 @@ pub fn accept_all<R: Wait, L: Listen>(
         × Rose (L.faults listen.old) (L.faults listen.new)) }
     ensures events { IfOk result (λ r. L.history listen.new ≡ L.history listen.old ++ accepts (length (links_put put.new)) r) }
 {
-    let is_all = put_all(rt, handover, is_short, connections, put, listen);
+    let is_all = put_all(rt, handover, signals, connections, put, listen);
     finish_all(rt, handover, workers, put);
     is_all
 }

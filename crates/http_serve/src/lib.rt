@@ -16,6 +16,7 @@ mod links;
 mod merging;
 mod served;
 mod serving;
+mod signals;
 mod worker;
 
 pub use links::{LinksFault, serve_links};

@@ -14,6 +14,7 @@ use crate::accepted::Accepted;
 use crate::accepting::accept_all;
 use crate::merging::merge;
 use crate::served::{Fresh, Served};
+use crate::signals::Signals;
 use crate::worker::{Worker, work};
 use http_endpoint::Checks;
 use link_handover::{Handover, PutPass, TakePass};
@@ -21,7 +22,6 @@ use rate_io::{Link, Listen};
 use rate_types::{Items, OutOfMemory};
 use std::alloc::Global;
 use std::sync::Wait;
-use std::sync::atomic::AtomicBool;
 use std::thread;
 use std::thread::{Threads, for_each_mut, join_mut};
 
@@ -68,7 +68,7 @@ fn workers_of<N: Link + Drop, K: Checks + Drop>(
 fn accept_beside<R: Threads + Wait + Sync, L: Listen, W: Send, F: Fn(usize, &mut W) + Sync>(
     rt: &R,
     handover: &Handover<Fresh<L::Link>>,
-    is_short: &AtomicBool,
+    signals: &Signals,
     connections: u32,
     count: u32,
     put: &mut PutPass<Fresh<L::Link>>,
@@ -99,28 +99,30 @@ fn accept_beside<R: Threads + Wait + Sync, L: Listen, W: Send, F: Fn(usize, &mut
             × Rose (L.faults listen.entry.now) (L.faults listen.exit.now)) }
         ensures events { IfOk result (λ r. L.history listen.exit.now ≡ L.history listen.entry.now
             ++ accepts (length (links_put put.exit.now)) r) }
-    { accept_all(rt, handover, is_short, connections, count, put, listen) };
+    { accept_all(rt, handover, signals, connections, count, put, listen) };
     let mut serving = ||
         requires { IsSync R.row × IsSync F.row × IsSend W.row × AcceptsEach F.Fn serve.now workers.now }
         ensures len { length workers.exit.now ≡ length workers.entry.now }
         ensures each { (i : ℕ) (d : _) → i < length workers.entry.now → ChangesAt F.Fn serve.entry.now i
             (slice_index_or workers.entry.now i d) (slice_index_or workers.exit.now i d) }
-    { serve_each(rt, serve, workers) };
+    { serve_each(rt, serve, workers, signals) };
     let (_, is_all) = join_mut(rt, &mut serving, &mut accepting);
     is_all
 }
 
-// Each worker serves in a thread of its own.
+// Tells that serving was begun, and then each worker serves in a thread of its own.
 fn serve_each<R: Threads + Sync, W: Send, F: Fn(usize, &mut W) + Sync>(
     rt: &R,
     serve: &F,
     workers: &mut [W],
+    signals: &Signals,
 )
     requires { AcceptsEach F.Fn serve.now workers.old }
     ensures len { length workers.new ≡ length workers.old }
     ensures each { (i : ℕ) (d : _) → i < length workers.old → ChangesAt F.Fn serve.now i (slice_index_or workers.old i d)
         (slice_index_or workers.new i d) }
 {
+    signals.tell_begun();
     let threads = workers.len().max(1);
     for_each_mut(rt, workers, threads, serve);
 }
@@ -130,7 +132,7 @@ fn serve_beside<R: Threads + Wait + Sync, L: Listen, K: Checks + Send + Drop>(
     rt: &R,
     alloc: Global,
     handover: &Handover<Fresh<L::Link>>,
-    is_short: &AtomicBool,
+    signals: &Signals,
     connections: u32,
     put: &mut PutPass<Fresh<L::Link>>,
     listen: &mut L,
@@ -155,11 +157,11 @@ where
     let serve = |_: usize, worker: &mut Worker<L::Link, K>|
         requires { IsReady handover.now worker.now }
         ensures { HasWorked K.answers handover.entry.now worker.entry.now worker.exit.now }
-    { work(rt, alloc, handover, is_short, worker) };
+    { work(rt, alloc, handover, signals, worker) };
     accept_beside(
         rt,
         handover,
-        is_short,
+        signals,
         connections,
         count,
         put,
@@ -234,12 +236,12 @@ where
     }
     let (handover, mut put, takes) = Handover::make(alloc, checks.len() as u32)?;
     let mut workers = workers_of(alloc, &handover, checks, takes)?;
-    let is_short = AtomicBool::new(false);
+    let signals = Signals::new();
     let is_all = serve_beside(
         rt,
         alloc,
         &handover,
-        &is_short,
+        &signals,
         connections,
         &mut put,
         listen,

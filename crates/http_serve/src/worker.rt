@@ -5,12 +5,12 @@ ghost use Rattle.link_handover.specs.Passes.{TakesFrom, taken_by, is_end};
 ghost use Rattle.http_serve.specs.Working.{HasServed, HasStopped, IsReady, HasWorked};
 
 use crate::served::{Fresh, Served, serve_one};
+use crate::signals::Signals;
 use http_endpoint::{Buffers, Checks};
 use link_handover::{Handover, TakePass, Taken};
 use rate_io::Link;
 use std::alloc::Global;
 use std::sync::Wait;
-use std::sync::atomic::{AtomicBool, Ordering};
 
 /// What takes links for it, its checker, and the links that it served, in order.
 #[derive(Drop)]
@@ -27,14 +27,14 @@ pub struct Worker<N: Link + Drop, K: Checks + Drop> {
 fn give_up<R: Wait, N: Link + Drop>(
     rt: &R,
     handover: &Handover<Fresh<N>>,
-    is_short: &AtomicBool,
+    signals: &Signals,
     take: &mut TakePass<Fresh<N>>,
 )
     requires take { TakesFrom handover.now take.old }
     ensures take { TakesFrom handover.now take.new }
     ensures ended { total is_end (taken_by take.new) ≡ total is_end (taken_by take.old) + 1 }
 {
-    is_short.store(true, Ordering::SeqCst);
+    signals.tell_short();
     for _ in rt.forever() {
         match handover.take(rt, take) {
             Taken::End => return,
@@ -49,7 +49,7 @@ fn serve_next<R: Wait, N: Link + Drop, K: Checks + Drop>(
     rt: &R,
     alloc: Global,
     handover: &Handover<Fresh<N>>,
-    is_short: &AtomicBool,
+    signals: &Signals,
     buffers: &mut Buffers,
     worker: &mut Worker<N, K>,
 ) -> bool
@@ -64,7 +64,7 @@ fn serve_next<R: Wait, N: Link + Drop, K: Checks + Drop>(
             if worker.served.reserve(1).is_err() {
                 drop(link);
                 worker.is_whole = false;
-                give_up(rt, handover, is_short, &mut worker.take);
+                give_up(rt, handover, signals, &mut worker.take);
                 return false;
             }
             let one = serve_one(rt, alloc, &mut worker.checks, number, link, buffers);
@@ -79,7 +79,7 @@ pub fn work<R: Wait, N: Link + Drop, K: Checks + Drop>(
     rt: &R,
     alloc: Global,
     handover: &Handover<Fresh<N>>,
-    is_short: &AtomicBool,
+    signals: &Signals,
     worker: &mut Worker<N, K>,
 )
     requires { IsReady handover.now worker.old }
@@ -87,11 +87,11 @@ pub fn work<R: Wait, N: Link + Drop, K: Checks + Drop>(
 {
     let Ok(mut buffers) = Buffers::make(alloc) else {
         worker.is_whole = false;
-        give_up(rt, handover, is_short, &mut worker.take);
+        give_up(rt, handover, signals, &mut worker.take);
         return;
     };
     for _ in rt.forever() {
-        if !serve_next(rt, alloc, handover, is_short, &mut buffers, worker) {
+        if !serve_next(rt, alloc, handover, signals, &mut buffers, worker) {
             return;
         }
     }
