@@ -97,9 +97,9 @@ fn port_at<R: Net>(rt: &R, alloc: Global, port: u16) -> Option<(Port, u16)>
     Some((had, got))
 }
 
-// Has the poll tell of a stream, which delays no small answer.
+// Has the poll tell of a stream, which delays no small answer where the system takes that wish.
 fn enter(poll: &Poll, stream: &mut TcpStream, place: usize) -> io::Result<()> {
-    stream.set_nodelay(true)?;
+    let _wished = stream.set_nodelay(true);
     let both = Interest::READABLE | Interest::WRITABLE;
     poll.registry().register(stream, Token(place), both)
 }
@@ -175,7 +175,11 @@ impl<R: Net + std::rt::Clock + Clone + Drop> PollListen for MioListen<R> {
         Ok(got)
     }
 
+    // The clock comes first, so that no stream that came is let go for want of one.
     fn poll_accept(&mut self, place: usize) -> Polled<Result<MioLink<HostClock<R>>, Failed>> {
+        let Some(clock) = clock_of(&self.rt) else {
+            return Polled::Ready(Err(self.fail(&ListenCall::AcceptFailed)));
+        };
         let stream = match accept_once(&self.port, place) {
             Accepted::Stream(stream) => stream,
             Accepted::Wait => {
@@ -185,9 +189,6 @@ impl<R: Net + std::rt::Clock + Clone + Drop> PollListen for MioListen<R> {
             Accepted::Failed => {
                 return Polled::Ready(Err(self.fail(&ListenCall::AcceptFailed)));
             }
-        };
-        let Some(clock) = clock_of(&self.rt) else {
-            return Polled::Ready(Err(self.fail(&ListenCall::AcceptFailed)));
         };
         self.history = self.history.and(&ListenCall::Accepted);
         Polled::Ready(Ok(MioLink::new(stream, clock)))

@@ -1,8 +1,8 @@
 // The adapter over a real listener, on the loopback address. What std answers is trusted.
 ghost use Rattle.std.specs.Prelude.{◌≡◌, [], IfSome};
-ghost use Rattle.rate_io.specs.Listeners.{IsPortFor};
+ghost use Rattle.rate_io.specs.Listeners.{IsPortFor, IsNewLink};
 
-use crate::{Failed, HostClock, Listen, ListenCall, ListenHistory, StreamLink};
+use crate::{Failed, HostClock, Link, Listen, ListenCall, ListenHistory, StreamLink};
 use std::net::{Ipv4Addr, Net, OpenListener, OpenStream, TcpListener};
 
 /// A listener of the system on the loopback address. A link is closed where it is given back.
@@ -41,13 +41,13 @@ fn listener_at<R: Net>(rt: &R, port: u16) -> Option<(R::Listener, u16)>
     Some((listener, got))
 }
 
-// The next stream of a listener, which delays no small answer.
+// The next stream of a listener, which delays no small answer where the system takes that wish.
 fn next_stream<L: OpenListener>(listener: &L) -> Option<L::Stream>
 where
     L::Stream: OpenStream,
 {
     let (stream, _) = listener.accept().ok()?;
-    stream.set_nodelay(true).ok()?;
+    let _wished = stream.set_nodelay(true);
     Some(stream)
 }
 
@@ -58,6 +58,22 @@ fn clock_of<R: std::rt::Clock + Clone + Drop>(rt: &R) -> Option<HostClock<R>> {
         return None;
     };
     Some(HostClock::new(rt))
+}
+
+// The next link of a listener, with a clock of its own. What may fail without a stream comes before it, so that none is waited for in vain,
+// and no stream that came is let go.
+fn next_link<R: Net + std::rt::Clock + Clone + Drop>(
+    rt: &R,
+    listener: &Option<R::Listener>,
+) -> Option<StreamLink<R::Stream, HostClock<R>>>
+    ensures { IfSome result (λ link. IsNewLink (⟦<StreamLink<R::Stream, HostClock<R>> as Link>⟧.state link)) }
+{
+    let Some(listener) = listener else {
+        return None;
+    };
+    let clock = clock_of(rt)?;
+    let stream = next_stream(listener)?;
+    Some(StreamLink::new(stream, clock))
 }
 
 impl<R: Net + std::rt::Clock + Clone + Drop> Listen for StreamListen<R> {
@@ -82,18 +98,13 @@ impl<R: Net + std::rt::Clock + Clone + Drop> Listen for StreamListen<R> {
     }
 
     fn accept(&mut self) -> Result<StreamLink<R::Stream, HostClock<R>>, Failed> {
-        let clock = clock_of(&self.rt);
-        let next = match &self.listener {
-            Some(listener) => next_stream(listener),
-            None => None,
-        };
-        let (Some(stream), Some(clock)) = (next, clock) else {
+        let Some(link) = next_link(&self.rt, &self.listener) else {
             self.faults = self.faults.saturating_add(1);
             self.history = self.history.and(&ListenCall::AcceptFailed);
             return Err(Failed);
         };
         self.history = self.history.and(&ListenCall::Accepted);
-        Ok(StreamLink::new(stream, clock))
+        Ok(link)
     }
 
     fn give_back(&mut self, number: u32, link: StreamLink<R::Stream, HostClock<R>>) {
