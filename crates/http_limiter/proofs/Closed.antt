@@ -93,8 +93,8 @@ module _ (cells : ℕ) (limiter : LimiterView) (stats : Option SharedStats) wher
       let m = s.as_many in
       each_led before s.lists asked after (m.0 ∙ e) (m.1 ∙ e) (m.2 ∙ e) s.each
 
-  module _ (before : List PassView) (after : List (Counting Checker)) (old new : List ListenEvent) (services : List Service)
-      (served : AllServed (Counts (AnswersBy cells)) (firsts before) after old new services true) where
+  module _ (before : List PassView) (after : List (Counting Checker)) (old new : List ListenEvent) (services : List Service) (is_all : Bool)
+      (served : AllServed (Counts (AnswersBy cells)) (firsts before) after old new services is_all) where
     -- the passes go with the limiter
     pub same_limiter : (passes : List PassView) → map (λ (p : PassView). p.limiter) passes ≡ map (λ (c : Checker). c.limiter.id) (checks_of after)
         → All (λ (p : PassView). p.limiter ≡ limiter.id) passes
@@ -125,13 +125,13 @@ module _ (cells : ℕ) (limiter : LimiterView) (stats : Option SharedStats) wher
     counted = counted_after (AnswersBy cells) stats (checkers limiter before) served.asked after (led before after services served.asked served.served).2
 
 -- all that was served, by a limiter that was closed
-pub served_all : (config : List DomainTree) (setup : Setup) (old new : List ListenEvent) (services : List Service) (limiter : LimiterView)
+pub served_all : (config : List DomainTree) (setup : Setup) (old new : List ListenEvent) (services : List Service) (is_all : Bool) (limiter : LimiterView)
     (before : List PassView) (stats : Option SharedStats) (after : List (Counting Checker)) (passes : List PassView)
     → IsMade config 0 setup.workers setup.global_shadow limiter before → is_some stats ≡ setup.stats
-    → AllServed (Counts (AnswersBy setup.cells)) (map (begun stats) (checkers limiter before)) after old new services true
+    → AllServed (Counts (AnswersBy setup.cells)) (map (begun stats) (checkers limiter before)) after old new services is_all
     → passes ≡ passes_in (checks_of after) → HasClosed setup.cells limiter 0 passes → HasClosedVersions setup.cells limiter 0 passes
-    → HaveClosed (filter_map (λ (c : Counting Checker). c.stats) after) → ServedByLimiter config setup old new services true
-served_all config setup old new services limiter before stats after passes made kept served is checks versions texts = record {
+    → HaveClosed (filter_map (λ (c : Counting Checker). c.stats) after) → ServedByLimiter config setup old new services is_all
+served_all config setup old new services is_all limiter before stats after passes made kept served is checks versions texts = record {
   limiter = limiter;
   before = before;
   made = made;
@@ -139,6 +139,6 @@ served_all config setup old new services limiter before stats after passes made 
   kept = kept;
   after = after;
   served = served;
-  closed = λ _. closed setup.cells limiter stats before after old new services served config passes made.fresh is checks versions;
-  counted = λ _. counted setup.cells limiter stats before after old new services served texts;
+  closed = closed setup.cells limiter stats before after old new services is_all served config passes made.fresh is checks versions;
+  counted = counted setup.cells limiter stats before after old new services is_all served texts;
 }

@@ -29,8 +29,7 @@ pub record IsInRange (setup : Setup) (connections : ℕ) : Type 0 where
 
 -- A limiter of the configuration, with a pass for each worker, which were new at moment 0, served these links: each once, by one of the
 -- passes, whose checks are steps of the pass, each at the moment that its link was told for it. Where statistics are kept, each worker
--- notes its checks in a new pass of them. Where all links were served, the limiter was closed after the checks of all of them, and so were
--- the statistics.
+-- notes its checks in a new pass of them. The limiter was closed after the checks of all links, and so were the statistics.
 pub record ServedByLimiter (config : List DomainTree) (setup : Setup) (old new : List ListenEvent)
     (services : List Service) (is_all : Bool) : Type 0 where
   pub limiter : LimiterView
@@ -40,8 +39,8 @@ pub record ServedByLimiter (config : List DomainTree) (setup : Setup) (old new :
   pub kept : is_some stats ≡ setup.stats
   pub after : List (Counting Checker)
   pub served : AllServed (Counts (AnswersBy setup.cells)) (map (begun stats) (checkers limiter before)) after old new services is_all
-  pub closed : is_all ≡ true → IsClosedAfter config 0 setup.cells limiter (map checks_in served.asked)
-  pub counted : is_all ≡ true → AreCounted served.asked
+  pub closed : IsClosedAfter config 0 setup.cells limiter (map checks_in served.asked)
+  pub counted : AreCounted served.asked
 
 -- With Ok all links were served, and these are their ends. With Listen an accept failed, and the links before it were served and given
 -- back as well. Want of memory is free.

@@ -10,7 +10,7 @@ use counter_cells::CellNaming;
 use descriptor_tree::Config;
 use http_checks::{LimiterParts, checks_of, close_served, passes_of};
 use http_endpoint::LinkEnd;
-use http_serve::{LinksFault, serve_links};
+use http_serve::{LinksFault, LinksServed, serve_links};
 use rate_io::Listen;
 use std::alloc::Global;
 use std::hash::RandomState;
@@ -31,7 +31,7 @@ pub struct Setup {
     pub stats: bool,
 }
 
-// Serves links by the limiter that these parts make, and closes it and the statistics after the last.
+// Serves links by the limiter that these parts make, and closes it and the statistics after the last, also where an accept failed.
 fn serve_made<N: CellNaming + Send + Sync, R: Threads + Wait + Sync, L: Listen>(
     rt: &R,
     alloc: Global,
@@ -54,21 +54,25 @@ where
     let checks = checks_of(alloc, &limiter, passes)?;
     let (stats, noting) = open_stats(alloc, setup.stats, setup.workers)?;
     let begun = counted(alloc, checks, &stats, noting)?;
-    let (served, ends) = match serve_links(rt, alloc, begun, listen, connections) {
-        Ok(done) => done,
-        Err(LinksFault::Listen) => return Err(LinksFault::Listen),
-        Err(LinksFault::OutOfMemory) => return Err(LinksFault::OutOfMemory),
-    };
-    let (used, noted) = parts_of(alloc, served)?;
+    let LinksServed {
+        checks: after,
+        ends,
+        is_all,
+    } = serve_links(rt, alloc, begun, listen, connections)?;
+    let (used, noted) = parts_of(alloc, after)?;
     let passes = passes_of(alloc, used)?;
     close_served(alloc, limiter, passes)?;
     close_stats(alloc, stats, noted)?;
-    Ok(ends)
+    if is_all {
+        Ok(ends)
+    } else {
+        Err(LinksFault::Listen)
+    }
 }
 
 /// Serves so many links of a listener, each once, by a limiter of this configuration, which starts at moment 0 and is closed after the
-/// last link. Answers how each link ended. The listener has a port. A check is refused where its counters find no cells, or where
-/// [`SERVED_CLAIMS`](http_checks::SERVED_CLAIMS) counters had cells before.
+/// last link, also where an accept failed. Answers how each link ended. The listener has a port. A check is refused where its counters find
+/// no cells, or where [`SERVED_CLAIMS`](http_checks::SERVED_CLAIMS) counters had cells before.
 pub fn serve_limited<R: Threads + Wait + Sync, L: Listen>(
     rt: &R,
     alloc: Global,

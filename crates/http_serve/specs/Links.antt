@@ -1,16 +1,13 @@
 -- What serving the links of a listener comes to.
 use Rattle.std.specs.Prelude.{◌≡◌, ℕ, ◌+◌, ◌<◌, List, [], ◌∷◌, ◌++◌, length, map, replicate, Bool, true, false, Vec}
-use Rattle.std.specs.Prelude.{Result, Ok, Err, ⊤}
+use Rattle.std.specs.Prelude.{Result, Ok, Err}
 use Rattle.std.specs.Prelude.{if◌then◌else◌}
 use Rattle.std.specs.List.{filter_map}
 use Rattle.rate_io.specs.Causes.{Rose}
-use Rattle.rate_io.specs.Events.{Grew}
 use Rattle.rate_io.specs.Listeners.{ListenEvent, accepted, accept_failed, gave_back, accepted_count, number_back}
 use Rattle.http_endpoint.specs.Answers.{CheckStep, Asked}
 use Rattle.http_endpoint.specs.declared.link_end.LinkEnd.{LinkEnd}
 use Rattle.http_serve.specs.Service.{Service, AreServedBy}
-use Rattle.http_serve.specs.declared.links.LinksFault.{LinksFault}
-use Rattle.http_serve.specs.declared.links.LinksFault.TheVariants.{Listen, OutOfMemory}
 
 -- a listener handed out no link so far, and none came back
 pub record IsUnused (events : List ListenEvent) : Type 0 where
@@ -43,11 +40,6 @@ abbrev pub ends_in : {E A : Type 0} → Result (Vec LinkEnd A) E → Result (Lis
 ends_in (Ok ends) = Ok ends.items
 ends_in (Err e) = Err e
 
--- the answer of serving links, as lists
-abbrev pub answer_of : {S E A : Type 0} → Result (Vec S A × Vec LinkEnd A) E → Result (List S × List LinkEnd) E
-answer_of (Ok r) = Ok (r.0.items, r.1.items)
-answer_of (Err e) = Err e
-
 module _ {S : Type 0} (answers : CheckStep S) where
   -- so many links, numbered from 0, each served by one of the checkers, accepted and given back
   pub record AllServed (before after : List S) (old new : List ListenEvent) (services : List Service) (is_all : Bool) : Type 0 where
@@ -56,12 +48,11 @@ module _ {S : Type 0} (answers : CheckStep S) where
     pub served : AreServedBy answers before after services asked
     pub handled : HasHandled old new services is_all
 
-  -- With Ok all links were served, and these are their ends. With Listen an accept failed, and the links before it were served and
-  -- given back as well. Want of memory is free.
-  abbrev pub ServesLinks : ℕ → List S → List ListenEvent → List ListenEvent → ℕ × ℕ → Result (List S × List LinkEnd) LinksFault → Type 0
-  ServesLinks connections before old new faults (Ok r) =
-      (services : List Service) × (length services ≡ connections) × AllServed before r.0 old new services true × (r.1 ≡ ends_of services)
-  ServesLinks connections before old new faults (Err Listen) =
-      (after : List S) × (services : List Service) × (length services < connections) × AllServed before after old new services false
-      × Rose faults.0 faults.1
-  ServesLinks connections before old new faults (Err OutOfMemory) = Grew old new (λ events. ⊤)
+  -- Of so many connections these links were served and given back, all or those before an accept that failed, and these are their ends.
+  pub record ServesLinks (connections : ℕ) (before after : List S) (old new : List ListenEvent) (faults : ℕ × ℕ) (ends : List LinkEnd)
+      (is_all : Bool) : Type 0 where
+    pub services : List Service
+    pub each : AllServed before after old new services is_all
+    pub ends_are : ends ≡ ends_of services
+    pub all : is_all ≡ true → length services ≡ connections
+    pub failed : is_all ≡ false → (length services < connections) × Rose faults.0 faults.1

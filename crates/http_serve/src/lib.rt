@@ -13,6 +13,7 @@ mod accepted;
 mod accepting;
 mod giving;
 mod links;
+mod links_served;
 mod merging;
 mod served;
 mod serving;
@@ -20,5 +21,6 @@ mod signals;
 mod worker;
 
 pub use links::{LinksFault, serve_links};
+pub use links_served::LinksServed;
 pub use merging::filled;
 pub use served::{Fresh, Served};

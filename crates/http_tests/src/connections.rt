@@ -5,7 +5,7 @@ use http_endpoint::{
     Buffers, Checks, LinkCause, LinkEnd, link_end_line, listening_line, serve_link,
 };
 use rate_io::MemLink;
-use rate_types::{OutOfMemory, OwnLimit, Request, Seconds, Unit, Word};
+use rate_types::{OutOfMemory, OwnLimit, Request, RuleId, Seconds, Unit, Word};
 use rls_core::{CheckFault, Code, Count, Reply, Status};
 use std::alloc::Global;
 use std::sync::Wait;
@@ -31,7 +31,7 @@ fn status_after(before: u32, now: Seconds) -> Status {
         }),
         remaining: 1u32.saturating_sub(before),
         reset: 60 - now.get() % 60,
-        rule: None,
+        rule: Some(RuleId(0)),
         count: Count::Before(u64::from(before)),
     }
 }

@@ -2,14 +2,12 @@ ghost use Rattle.std.specs.Prelude.{⊤};
 
 use crate::connections::{CHECK, TwoAMinute};
 use arrayvec::ArrayVec;
-use counted_checks::{CountedChecks, Stats};
+use counted_checks::{counted, open_stats};
 use http_endpoint::{Buffers, Checks, serve_link};
 use rate_io::MemLink;
 use rate_types::{OutOfMemory, OwnLimit, Request, RuleId, Seconds, Unit, Word};
 use rls_core::{CheckFault, Code, Count, Reply, Status};
-use rule_stats::{RuleNumbers, numbers_of};
 use std::alloc::Global;
-use std::process::Abort;
 use std::sync::Wait;
 use std::test::Fail;
 
@@ -71,60 +69,23 @@ impl Checks for FiveAMinute {
     }
 }
 
-// The statuses that were noted, all of rule 0. Where there is no memory the test ends.
-#[derive(Drop)]
-struct Noted<'a, R: Abort> {
-    rt: &'a R,
-    notes: Vec<(u32, Status)>,
-}
-
-// The numbers of all notes together.
-fn sum_of(notes: &[(u32, Status)]) -> RuleNumbers {
-    let mut sum = RuleNumbers::nothing();
-    for (hits, status) in notes {
-        let more = numbers_of(status, *hits);
-        sum.total = sum.total.saturating_add(more.total);
-        sum.within = sum.within.saturating_add(more.within);
-        sum.near = sum.near.saturating_add(more.near);
-        sum.over = sum.over.saturating_add(more.over);
-        sum.seen = sum.seen.saturating_add(more.seen);
-        sum.shadow = sum.shadow.saturating_add(more.shadow);
-    }
-    sum
-}
-
-impl<'a, R: Abort> Stats for Noted<'a, R> {
-    ghost noted = { λ n. n.notes.items };
-
-    ghost is_text = { λ _ _. ⊤ };
-
-    fn note(&mut self, hits: u32, status: &Status) {
-        let Ok(()) = self.notes.push((hits, *status)) else {
-            self.rt.panic("no memory")
-        };
-    }
-
-    fn text(&mut self, alloc: Global) -> Result<Word, OutOfMemory> {
-        let n = sum_of(&self.notes);
-        let text = format!(in alloc;
-            "{{\"rules\":[{{\"near\":{},\"over\":{},\"rule\":0,\"seen\":{},\"shadow\":{},\"total\":{},\"within\":{}}}]}}",
-            n.near, n.over, n.seen, n.shadow, n.total, n.within
-        )?;
-        Ok(Word::of(text))
-    }
-}
-
-// What is written for these bytes.
-fn written_for<R: Wait, K: Checks>(
+// What is written for these bytes, where the checks are counted if statistics are kept.
+fn written_for<R: Wait, K: Checks + Drop>(
     rt: &R,
     alloc: Global,
-    checks: &mut K,
+    checks: K,
+    is_kept: bool,
     bytes: &str,
 ) -> Result<String, Fail> {
+    let (stats, passes) = open_stats(alloc, is_kept, 1)?;
+    let mut plain = Vec::new(alloc);
+    plain.push(checks)?;
+    let mut all = counted(alloc, plain, &stats, passes)?;
+    let mut one = all.pop().ok_or("no checks")?;
     let bytes = Vec::from_slice(alloc, bytes.as_bytes())?;
     let mut link = MemLink::new(alloc, bytes, Vec::new(alloc)).in_pieces(50);
     let mut buffers = Buffers::make(alloc)?;
-    serve_link(rt, alloc, checks, &mut link, &mut buffers);
+    serve_link(rt, alloc, &mut one, &mut link, &mut buffers);
     let written = link.written().ok_or("no memory")?;
     Ok(String::from_utf8(Vec::from_slice(alloc, written)?)?)
 }
@@ -139,16 +100,8 @@ fn each_answered_check_is_counted(rt: HostRuntime) -> Result<(), Fail> {
     let bytes = format!(in alloc;
         "{CHECK}{CHECK}{CHECK}{CHECK}{CHECK}{CHECK}{CHECK}GET /stats HTTP/1.1\r\n\r\n"
     )?;
-    let stats = Noted {
-        rt: &rt,
-        notes: Vec::new(alloc),
-    };
-    let mut checks = CountedChecks::new(FiveAMinute { before: 0 }, stats);
-    let out = written_for(&rt, alloc, &mut checks, &bytes)?;
+    let out = written_for(&rt, alloc, FiveAMinute { before: 0 }, true, &bytes)?;
     assert!(rt; out.as_str().ends_with(SEVEN), "{out}");
-    let (inner, stats) = checks.into_parts();
-    assert_eq!(rt; inner.before, 7);
-    assert_eq!(rt; stats.notes.len(), 7);
     Ok(())
 }
 
@@ -156,12 +109,7 @@ fn each_answered_check_is_counted(rt: HostRuntime) -> Result<(), Fail> {
 fn a_refused_check_is_not_counted(rt: HostRuntime) -> Result<(), Fail> {
     let alloc = rt.alloc();
     let bytes = format!(in alloc; "{CHECK}{CHECK}{CHECK}{CHECK}GET /stats HTTP/1.1\r\n\r\n")?;
-    let stats = Noted {
-        rt: &rt,
-        notes: Vec::new(alloc),
-    };
-    let mut checks = CountedChecks::new(TwoAMinute { before: 0 }, stats);
-    let out = written_for(&rt, alloc, &mut checks, &bytes)?;
+    let out = written_for(&rt, alloc, TwoAMinute { before: 0 }, true, &bytes)?;
     assert!(rt;
         out.as_str().ends_with(
             "\"over\":1,\"rule\":0,\"seen\":0,\"shadow\":0,\"total\":3,\"within\":2}]}"
@@ -172,8 +120,7 @@ fn a_refused_check_is_not_counted(rt: HostRuntime) -> Result<(), Fail> {
 }
 
 const EMPTY: &str =
-    "HTTP/1.1 200 OK\r\nContent-Type: application/json\r\nContent-Length: 81\r\n\r\n\
-    {\"rules\":[{\"near\":0,\"over\":0,\"rule\":0,\"seen\":0,\"shadow\":0,\"total\":0,\"within\":0}]}";
+    "HTTP/1.1 200 OK\r\nContent-Type: application/json\r\nContent-Length: 12\r\n\r\n{\"rules\":[]}";
 
 const NOT_ALLOWED: &str =
     "HTTP/1.1 405 Method Not Allowed\r\nContent-Type: text/plain\r\nContent-Length: 18\r\nAllow: GET\r\n\r\n";
@@ -188,13 +135,8 @@ fn get_alone_is_answered(rt: HostRuntime) -> Result<(), Fail> {
     let bytes = format!(in alloc;
         "{post}HEAD /stats HTTP/1.1\r\n\r\nGET /stats?all HTTP/1.1\r\nContent-Length: 1\r\n\r\n GET /stats HTTP/1.0\r\n\r\n"
     )?;
-    let stats = Noted {
-        rt: &rt,
-        notes: Vec::new(alloc),
-    };
-    let mut checks = CountedChecks::new(FiveAMinute { before: 0 }, stats);
-    let out = written_for(&rt, alloc, &mut checks, &bytes)?;
-    let closing = EMPTY.replace(alloc, "81\r\n", "81\r\nConnection: close\r\n")?;
+    let out = written_for(&rt, alloc, FiveAMinute { before: 0 }, true, &bytes)?;
+    let closing = EMPTY.replace(alloc, "12\r\n", "12\r\nConnection: close\r\n")?;
     let want = format!(in alloc; "{NOT_ALLOWED}Method Not Allowed{NOT_ALLOWED}{EMPTY}{closing}")?;
     assert_eq!(rt; out, want);
     Ok(())
@@ -205,8 +147,7 @@ fn without_statistics_there_is_no_such_target(rt: HostRuntime) -> Result<(), Fai
     let alloc = rt.alloc();
     let bytes =
         "GET /stats HTTP/1.1\r\n\r\nHEAD /stats HTTP/1.1\r\n\r\nPOST /stats?x HTTP/1.1\r\nContent-Length: 1\r\n\r\n.";
-    let mut checks = FiveAMinute { before: 0 };
-    let out = written_for(&rt, alloc, &mut checks, bytes)?;
+    let out = written_for(&rt, alloc, FiveAMinute { before: 0 }, false, bytes)?;
     let want = format!(in alloc; "{NOT_FOUND}Not Found{NOT_FOUND}{NOT_FOUND}Not Found")?;
     assert_eq!(rt; out, want);
     Ok(())

@@ -1,5 +1,5 @@
 -- From links that were served by one checker to the passes with which the limiter and the statistics are closed.
-use Rattle.std.proofs.Common.{◌≡◌, ℕ, List, [], ◌∷◌, ◌++◌, length, map, true, Option, refl, sym, ap, ◌∙◌, subst, arith, length-append}
+use Rattle.std.proofs.Common.{◌≡◌, ℕ, List, [], ◌∷◌, ◌++◌, length, map, Bool, Option, refl, sym, ap, ◌∙◌, subst, arith, length-append}
 use Rattle.std.proofs.lemmas.List.Elements.{All-from_recursion}
 use Rattle.std.specs.Prelude.{All}
 use Rattle.std.specs.List.{filter_map}
@@ -52,7 +52,7 @@ ids id passes k is e same =
     first = cc
 
 module _ (cells : ℕ) (limiter : LimiterView) (before : PassView) (stats : Option SharedStats) (after : Counting Checker) (old new : List ListenEvent)
-    (services : List Service) (served : AllTasksServed (Counts (AnswersBy cells)) (begun stats (checker limiter before)) after old new services true) where
+    (services : List Service) (is_all : Bool) (served : AllTasksServed (Counts (AnswersBy cells)) (begun stats (checker limiter before)) after old new services is_all) where
   abbrev asked : List Asked
   asked = asked_in_turn served.served.made
 
@@ -70,12 +70,12 @@ module _ (cells : ℕ) (limiter : LimiterView) (before : PassView) (stats : Opti
   all_stats = all_given (AnswersBy cells) stats (checker limiter before ∷ []) (asked ∷ []) (after ∷ []) (served.served.lead, tt)
 
 -- all that was served, by a limiter that was closed
-pub served_all : (config : List DomainTree) (setup : TaskSetup) (old new : List ListenEvent) (services : List Service) (limiter : LimiterView) (before : PassView)
+pub served_all : (config : List DomainTree) (setup : TaskSetup) (old new : List ListenEvent) (services : List Service) (is_all : Bool) (limiter : LimiterView) (before : PassView)
     (stats : Option SharedStats) (after : Counting Checker) → IsMade config 0 1 setup.global_shadow limiter (before ∷ []) → is_some stats ≡ setup.stats
-    → AllTasksServed (Counts (AnswersBy setup.cells)) (begun stats (checker limiter before)) after old new services true
+    → AllTasksServed (Counts (AnswersBy setup.cells)) (begun stats (checker limiter before)) after old new services is_all
     → HasClosed setup.cells limiter 0 (after.checks.pass ∷ []) → HasClosedVersions setup.cells limiter 0 (after.checks.pass ∷ [])
-    → HaveClosed (filter_map (λ (c : Counting Checker). c.stats) (after ∷ [])) → TasksServedByLimiter config setup old new services true
-served_all config setup old new services limiter before stats after made kept served checks versions texts = record {
+    → HaveClosed (filter_map (λ (c : Counting Checker). c.stats) (after ∷ [])) → TasksServedByLimiter config setup old new services is_all
+served_all config setup old new services is_all limiter before stats after made kept served checks versions texts = record {
   limiter = limiter;
   before = before;
   made = made;
@@ -83,8 +83,8 @@ served_all config setup old new services limiter before stats after made kept se
   kept = kept;
   after = after;
   served = served;
-  closed = λ _. closed_after setup.cells limiter config 0 (before ∷ []) (checks_in (asked_in_turn served.served.made) ∷ []) (after.checks.pass ∷ []) made.fresh
-      (led setup.cells limiter before stats after old new services served) checks versions;
-  counted = λ _. counted_after (AnswersBy setup.cells) stats (checker limiter before ∷ []) (asked_in_turn served.served.made ∷ []) (after ∷ [])
+  closed = closed_after setup.cells limiter config 0 (before ∷ []) (checks_in (asked_in_turn served.served.made) ∷ []) (after.checks.pass ∷ []) made.fresh
+      (led setup.cells limiter before stats after old new services is_all served) checks versions;
+  counted = counted_after (AnswersBy setup.cells) stats (checker limiter before ∷ []) (asked_in_turn served.served.made ∷ []) (after ∷ [])
       (served.served.lead, tt) texts;
 }

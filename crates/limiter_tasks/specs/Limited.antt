@@ -26,9 +26,8 @@ abbrev pub asked_in_turn : List (ℕ × Asked) → List Asked
 asked_in_turn made = map (λ x. x.1) made
 
 -- A limiter of the configuration, with one pass, which was new at moment 0, served these links: each once, by checks that are steps of the
--- pass, each at the moment that its link was told for it. Where statistics are kept, the checks are noted in a new pass of them. Where all
--- links were served, the limiter was closed after the checks of all of them, which are in the order in which they were made, and so were
--- the statistics.
+-- pass, each at the moment that its link was told for it. Where statistics are kept, the checks are noted in a new pass of them. The limiter
+-- was closed after the checks of all of them, which are in the order in which they were made, and so were the statistics.
 pub record TasksServedByLimiter (config : List DomainTree) (setup : TaskSetup) (old new : List ListenEvent)
     (services : List Service) (is_all : Bool) : Type 0 where
   pub limiter : LimiterView
@@ -38,8 +37,8 @@ pub record TasksServedByLimiter (config : List DomainTree) (setup : TaskSetup) (
   pub kept : is_some stats ≡ setup.stats
   pub after : Counting Checker
   pub served : AllTasksServed (Counts (AnswersBy setup.cells)) (begun stats (checker limiter before)) after old new services is_all
-  pub closed : is_all ≡ true → IsClosedAfter config 0 setup.cells limiter (checks_in (asked_in_turn served.served.made) ∷ [])
-  pub counted : is_all ≡ true → AreCounted (asked_in_turn served.served.made ∷ [])
+  pub closed : IsClosedAfter config 0 setup.cells limiter (checks_in (asked_in_turn served.served.made) ∷ [])
+  pub counted : AreCounted (asked_in_turn served.served.made ∷ [])
 
 -- With Ok all links were served, and these are their ends. With Listen an accept failed, and the links before it were served and given
 -- back as well; or a sleep failed, and of the links nothing is said. Want of memory is free.

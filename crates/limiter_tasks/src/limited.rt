@@ -30,7 +30,7 @@ pub struct TaskSetup {
     pub stats: bool,
 }
 
-// Serves links by the limiter that these parts make, and closes it and the statistics after the last.
+// Serves links by the limiter that these parts make, and closes it and the statistics after the last, also where an accept failed.
 fn serve_made<N: CellNaming, R: Wait, Q: PollListen>(
     rt: &R,
     alloc: Global,
@@ -56,22 +56,28 @@ fn serve_made<N: CellNaming, R: Wait, Q: PollListen>(
     let Some(mut one) = all.pop() else {
         unreachable!()
     };
-    let ends = match serve_tasks(rt, alloc, &mut one, polls, connections, tasks) {
+    let served = match serve_tasks(rt, alloc, &mut one, polls, connections, tasks) {
         Ok(served) => served,
         Err(LinksFault::Listen) => return Err(LinksFault::Listen),
         Err(LinksFault::OutOfMemory) => return Err(LinksFault::OutOfMemory),
     };
+    let is_all = served.is_all;
     all.push_reserved(one);
     let (used, noted) = parts_of(alloc, all)?;
     let passes = passes_of(alloc, used)?;
     close_served(alloc, limiter, passes)?;
     close_stats(alloc, stats, noted)?;
-    Ok(ends)
+    if is_all {
+        Ok(served.ends)
+    } else {
+        Err(LinksFault::Listen)
+    }
 }
 
 /// Serves so many links of a listener, each once and at most `tasks` at a time, on this thread, by a limiter of this configuration, which
-/// starts at moment 0 and is closed after the last link. Answers how each link ended, in the order of accepting. The listener has a port.
-/// A check is refused where its counters find no cells, or where [`SERVED_CLAIMS`](http_checks::SERVED_CLAIMS) counters had cells before.
+/// starts at moment 0 and is closed after the last link, also where an accept failed. Answers how each link ended, in the order of accepting.
+/// The listener has a port. A check is refused where its counters find no cells, or where [`SERVED_CLAIMS`](http_checks::SERVED_CLAIMS)
+/// counters had cells before.
 pub fn serve_limited_tasks<R: Wait, Q: PollListen>(
     rt: &R,
     alloc: Global,

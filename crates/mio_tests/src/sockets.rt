@@ -97,12 +97,12 @@ fn a_slow_connection_holds_up_no_other(rt: HostRuntime) -> Result<(), Fail> {
     let Ok(peers) = thread::spawn(&rt, move || talk(slow, quick).unwrap_or(false)) else {
         return Err("no thread".into());
     };
-    let Ok(ends) = serve_tasks(&rt, alloc, &mut NoRoom, &mut listen, 2, 2) else {
+    let Ok(served) = serve_tasks(&rt, alloc, &mut NoRoom, &mut listen, 2, 2) else {
         return Err("they weren't served".into());
     };
     assert!(rt; peers.join(&rt));
     let cause = LinkCause::Ended;
     let want = [LinkEnd { cause, answers: 2 }, LinkEnd { cause, answers: 3 }];
-    assert!(rt; ends.as_slice() == want.as_slice());
+    assert!(rt; served.is_all && served.ends.as_slice() == want.as_slice());
     Ok(())
 }

@@ -1,10 +1,11 @@
 -- All links were served.
-use Rattle.std.proofs.Common.{◌≡◌, ℕ, zero, suc, ◌+◌, ◌<◌, Bool, true, false, append_assoc, List, [], ◌∷◌, ◌++◌, Option, Some, None, IsSome, get_or, length, map, refl, sym, ap, ◌∙◌, subst, arith}
+use Rattle.std.proofs.Common.{◌≡◌, ℕ, zero, suc, ◌+◌, ◌<◌, Bool, true, false, true≢false, append_assoc, List, [], ◌∷◌, ◌++◌, Option, Some, None, IsSome, get_or, length, map, refl, sym, ap, ◌∙◌, subst, arith}
 use Rattle.std.proofs.lemmas.List.{length-map}
 use Rattle.std.specs.List.{AllByRecursion}
 use Rattle.http_endpoint.specs.Answers.{CheckStep, Asked}
 use Rattle.http_serve.specs.Service.{Service}
 use Rattle.std.specs.Prelude.{Ok}
+use Rattle.rate_io.specs.Causes.{Rose}
 use Rattle.rate_io.specs.Listeners.{ListenEvent}
 use Rattle.http_serve.specs.Links.{AreNumbered, accepts, given_back, HasHandled}
 use Rattle.serve_tasks.specs.Rounds.{EndsRounds}
@@ -91,6 +92,16 @@ pub rounds_done : (connections count live : ℕ) (old new : List ListenEvent) (f
     → (live ≡ 0) × (new ≡ old ++ accepts count b)
 rounds_done connections count live old new faults true x = (x.1, x.2)
 rounds_done connections count live old new faults false x = (x.1, x.2)
+
+pub rounds_all : (connections count live : ℕ) (old new : List ListenEvent) (faults : ℕ × ℕ) (b : Bool) → EndsRounds connections count live old new faults (Ok b)
+    → b ≡ true → count ≡ connections
+rounds_all connections count live old new faults true x e = x.0
+rounds_all connections count live old new faults false x e = absurd (true≢false (sym e))
+
+pub rounds_failed : (connections count live : ℕ) (old new : List ListenEvent) (faults : ℕ × ℕ) (b : Bool) → EndsRounds connections count live old new faults (Ok b)
+    → b ≡ false → (count < connections) × Rose faults.0 faults.1
+rounds_failed connections count live old new faults true x e = absurd (true≢false e)
+rounds_failed connections count live old new faults false x e = (x.0, x.3)
 
 -- accepted, and then given back
 pub handled_all : (old mid new : List ListenEvent) (n : ℕ) (b : Bool) (ss : List Service) → mid ≡ old ++ accepts n b → new ≡ mid ++ given_back ss → n ≡ length ss

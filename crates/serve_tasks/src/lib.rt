@@ -17,8 +17,10 @@ mod numbers;
 mod rounds;
 mod running;
 mod serving;
+mod tasks_served;
 
 pub use accepting::{AcceptWaits, Accepting};
 pub use links::Links;
 pub use running::{Parked, Ran, ServedTask, run_task};
 pub use serving::serve_tasks;
+pub use tasks_served::TasksServed;

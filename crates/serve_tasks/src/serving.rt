@@ -1,19 +1,20 @@
 ghost use Rattle.std.specs.Prelude.{◌≤◌};
 ghost use Rattle.rate_types.specs.declared.limits.TheConstants.{MOST_CONNECTIONS};
-ghost use Rattle.http_serve.specs.Links.{IsUnused, ends_in};
+ghost use Rattle.http_serve.specs.Links.{IsUnused};
 ghost use Rattle.serve_tasks.specs.Served.{ServesTasks};
 
+use crate::TasksServed;
 use crate::giving::give_back;
 use crate::numbers::no_links;
 use crate::rounds::serve_rounds;
 use conn_tasks::PollListen;
-use http_endpoint::{Checks, LinkEnd};
+use http_endpoint::Checks;
 use http_serve::{LinksFault, filled};
 use std::alloc::Global;
 use std::sync::Wait;
 
 /// Accepts so many links and serves each once with the checker, at most `tasks` at a time, on this thread; shuts each and gives all back
-/// under their numbers. Answers how each ended, in the order of accepting. The listener has a port.
+/// under their numbers. Answers how each ended, in the order of accepting, also where an accept failed. The listener has a port.
 pub fn serve_tasks<R: Wait, Q: PollListen, K: Checks>(
     rt: &R,
     alloc: Global,
@@ -21,12 +22,12 @@ pub fn serve_tasks<R: Wait, Q: PollListen, K: Checks>(
     polls: &mut Q,
     connections: u32,
     tasks: u32,
-) -> Result<Vec<LinkEnd>, LinksFault>
+) -> Result<TasksServed, LinksFault>
     requires few { connections ≤ MOST_CONNECTIONS }
     requires some { 1 ≤ tasks }
     requires unused { IsUnused (Q.history polls.old) }
     ensures { ServesTasks K.answers connections checks.old checks.new (Q.history polls.old) (Q.history polls.new)
-        (Q.faults polls.old, Q.faults polls.new) (ends_in result) }
+        (Q.faults polls.old, Q.faults polls.new) result }
 {
     let mut links = no_links(alloc);
     let is_all = serve_rounds(rt, alloc, checks, polls, &mut links, connections, tasks)?;
@@ -34,9 +35,5 @@ pub fn serve_tasks<R: Wait, Q: PollListen, K: Checks>(
     let Ok(ends) = give_back(alloc, polls, served) else {
         return Err(LinksFault::OutOfMemory);
     };
-    if is_all {
-        Ok(ends)
-    } else {
-        Err(LinksFault::Listen)
-    }
+    Ok(TasksServed { ends, is_all })
 }

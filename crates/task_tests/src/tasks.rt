@@ -94,7 +94,7 @@ fn served<R: Wait>(
     let connections = (peers.len().min(most) as u32).min(MOST_CONNECTIONS);
     let mut listen = MemPollListen::new(alloc, peers, Vec::new(alloc), Vec::new(alloc))?;
     let mut checks = TwoAMinute { before: 0 };
-    let Ok(ends) = serve_tasks(
+    let Ok(served) = serve_tasks(
         rt,
         alloc,
         &mut checks,
@@ -104,7 +104,7 @@ fn served<R: Wait>(
     ) else {
         return Err("they weren't served".into());
     };
-    Ok((listen, ends))
+    Ok((listen, served.ends))
 }
 
 // The link of a number ended so.

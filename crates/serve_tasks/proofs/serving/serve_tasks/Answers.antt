@@ -1,4 +1,4 @@
-use Rattle.std.proofs.Common.{◌≡◌, ℕ, true, false, [], Some, length, sym, ap, ◌∙◌, subst, arith, inl, vec_len}
+use Rattle.std.proofs.Common.{◌≡◌, ℕ, [], Some, length, sym, ap, ◌∙◌, subst, arith, vec_len}
 use Rattle.std.proofs.lemmas.List.{length-map}
 use Rattle.std.specs.List.{filter_map}
 use Rattle.rate_io.specs.Causes.{Rose}
@@ -7,7 +7,7 @@ use Rattle.http_serve.proofs.Events.{accepts_count, accepts_back}
 use Rattle.serve_tasks.specs.Links.{standing}
 use Rattle.serve_tasks.proofs.Calls.{grown, grew_more}
 use Rattle.serve_tasks.proofs.Standings.{none_stand}
-use Rattle.serve_tasks.proofs.Ends.{each_served, tasks_served, from_none, rounds_done, handled_all}
+use Rattle.serve_tasks.proofs.Ends.{each_served, tasks_served, from_none, rounds_done, rounds_all, rounds_failed, handled_all}
 use Rattle.serve_tasks.proofs.serving.serve_tasks.Goals as goal
 
 pub filled-requires : goal.filled-requires
@@ -64,27 +64,6 @@ returns-in_default g c =
     (Q.faults c.args.polls.now, Q.faults c.serve_rounds.new.polls) c.in_ok-is_all.is_all c.in_ok-is_all.ensures.ends in
     grew_more old mid (Q.history c.give_back.new.polls) (grown old mid _ done.1) c.give_back.ensures.grew
 
-pub returns-then-is_all : goal.returns-then-is_all
-returns-then-is_all g c =
-    let Q = g.Q.PollListen in
-    let l = c.serve_rounds.new.links in
-    let ss = c.in_ok-served.served.items in
-    let old = Q.history c.args.polls.now in
-    let mid = Q.history c.serve_rounds.new.polls in
-    let e = c.in_ok-is_all.ensures in
-    let none = c.no_links-links.ensures in
-    let r = from_none g.K.Checks.answers c.args.checks.now c.serve_rounds.new.checks (standing c.no_links-links.result) (standing l) e.runs none.0 none.1 in
-    let done = rw c.if-is_all.true at e.ends in
-    let many : vec_len l.tasks ≡ length ss =
-    omega (arith, ap length c.in_ok-served.ensures, length-map ss Some, l.served.ok.0, l.as_many) in
-    let t = tasks_served g.K.Checks.answers c.args.checks.now c.serve_rounds.new.checks l.tasks.items l.served.items ss r (sym l.counted ∙ done.1)
-    c.in_ok-served.ensures in (
-      ss,
-      sym many ∙ done.0,
-      record { numbered = t.0; served = t.1; handled = handled_all old mid (Q.history c.give_back.new.polls) (vec_len l.tasks) true ss done.2 c.in-Ok.ensures.events many },
-      c.in-Ok.ensures.ends,
-    )
-
 pub returns : goal.returns
 returns g c =
     let Q = g.Q.PollListen in
@@ -92,18 +71,21 @@ returns g c =
     let ss = c.in_ok-served.served.items in
     let old = Q.history c.args.polls.now in
     let mid = Q.history c.serve_rounds.new.polls in
+    let is_all = c.in_ok-is_all.is_all in
     let e = c.in_ok-is_all.ensures in
     let none = c.no_links-links.ensures in
     let r = from_none g.K.Checks.answers c.args.checks.now c.serve_rounds.new.checks (standing c.no_links-links.result) (standing l) e.runs none.0 none.1 in
-    let done = rw c.if-is_all.false at e.ends in
+    let faults : ℕ × ℕ = (Q.faults c.args.polls.now, Q.faults c.serve_rounds.new.polls) in
+    let done = rounds_done c.args.connections (vec_len l.tasks) l.live old mid faults is_all e.ends in
     let many : vec_len l.tasks ≡ length ss =
     omega (arith, ap length c.in_ok-served.ensures, length-map ss Some, l.served.ok.0, l.as_many) in
-    let t = tasks_served g.K.Checks.answers c.args.checks.now c.serve_rounds.new.checks l.tasks.items l.served.items ss r (sym l.counted ∙ done.1)
-    c.in_ok-served.ensures in (
-      subst (λ (n : ℕ). Rose (Q.faults c.args.polls.now) n) (sym c.in-Ok.ensures.faults) done.3,
-      inl (
-        ss,
-        omega (arith, many, done.0),
-        record { numbered = t.0; served = t.1; handled = handled_all old mid (Q.history c.give_back.new.polls) (vec_len l.tasks) false ss done.2 c.in-Ok.ensures.events many },
-      ),
-    )
+    let t = tasks_served g.K.Checks.answers c.args.checks.now c.serve_rounds.new.checks l.tasks.items l.served.items ss r (sym l.counted ∙ done.0)
+    c.in_ok-served.ensures in record {
+      services = ss;
+      each = record { numbered = t.0; served = t.1; handled = handled_all old mid (Q.history c.give_back.new.polls) (vec_len l.tasks) is_all ss done.1 c.in-Ok.ensures.events many };
+      ends_are = c.in-Ok.ensures.ends;
+      all = λ e'. sym many ∙ rounds_all c.args.connections (vec_len l.tasks) l.live old mid faults is_all e.ends e';
+      failed = λ e'.
+          let f = rounds_failed c.args.connections (vec_len l.tasks) l.live old mid faults is_all e.ends e' in
+          (omega (arith, many, f.0), subst (λ (n : ℕ). Rose (Q.faults c.args.polls.now) n) (sym c.in-Ok.ensures.faults) f.1);
+    }
