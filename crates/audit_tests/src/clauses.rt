@@ -91,6 +91,9 @@ fn each_clause_is_broken_alone(rt: HostRuntime) -> Result<(), Fail> {
     let invented = vec![in alloc; ticked(1, 0, 0, 5, 5), ticked(2, 0, 0, 9, 3)]?;
     let found = stand(alloc, &lines, &invented)?;
     assert!(rt; found == (true, true, true, false));
+    let another_number = vec![in alloc; ticked(1, 0, 0, 5, 4), ticked(2, 0, 0, 5, 3)]?;
+    let found = stand(alloc, &lines, &another_number)?;
+    assert!(rt; found == (true, true, true, false));
     Ok(())
 }
 

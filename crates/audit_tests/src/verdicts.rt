@@ -69,6 +69,9 @@ const NO_CAUSE: &str =
 const NO_TICK: &str =
     r#"{"counts":[{"before":0}],"line":7,"moment":66,"reply":{"overallCode":"OK","statuses":[{"code":"OK","currentLimit":{"requestsPerUnit":2,"unit":"MINUTE"},"durationUntilReset":"54s","limitRemaining":1}]},"version":1,"worker":0}"#;
 
+// The tick shows another number than its line's.
+const OTHER_TICK: &str = r#"{"line":1,"moment":65,"ticked":64,"version":0,"worker":0}"#;
+
 // What is said of these lines as the run of the script by one worker over 16 cells from moment 0.
 fn verdict(alloc: Global, run: &[&str]) -> Result<Verdict, Fail> {
     let mut files = Vec::new(alloc);
@@ -107,7 +110,7 @@ fn a_printed_run_is_lawful(rt: HostRuntime) -> Result<(), Fail> {
 
 #[test]
 fn tampered_runs_break_their_clause(rt: HostRuntime) -> Result<(), Fail> {
-    let rows: [(&[&str], Clause); 9] = [
+    let rows: [(&[&str], Clause); 10] = [
         (
             &[
                 TICK_1,
@@ -191,6 +194,12 @@ fn tampered_runs_break_their_clause(rt: HostRuntime) -> Result<(), Fail> {
         (
             &[
                 TICK_1, CHECK_2, CHECK_3, CHECK_4, CHECK_5, RELOAD_6, NO_TICK, TOTAL_A, TOTAL_B,
+            ],
+            Clause::MomentsNeverFall,
+        ),
+        (
+            &[
+                OTHER_TICK, CHECK_2, CHECK_3, CHECK_4, CHECK_5, RELOAD_6, CHECK_7, TOTAL_A, TOTAL_B,
             ],
             Clause::MomentsNeverFall,
         ),

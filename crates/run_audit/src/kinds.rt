@@ -43,7 +43,7 @@ fn is_of_kind(line: &Line, outcome: &Outcome) -> bool
         (Line::Reload(_), Outcome::Spent { .. }) => false,
         (Line::Reload(_), Outcome::Ticked(_)) => false,
         (Line::Reload(_), Outcome::Bad(_)) => false,
-        (Line::Tick(now), Outcome::Ticked(shown)) => shown.get() == now.get(),
+        (Line::Tick(_), Outcome::Ticked(_)) => true,
         (Line::Tick(_), Outcome::Checked(_)) => false,
         (Line::Tick(_), Outcome::Full { .. }) => false,
         (Line::Tick(_), Outcome::Spent { .. }) => false,

@@ -7,14 +7,14 @@ use Rattle.script_run.specs.ScriptLine.{ScriptLine, check, reload, tick, bad}
 use Rattle.script_run.specs.Lines.{EachLine}
 
 -- what came of a line is of its kind: only a check is answered or refused for want of cells or claims, only a reload installed or
--- refused for the versions that there are, a tick shows its number, a bad line its own refusal
+-- refused for the versions that there are, only a tick ticked, and a bad line shows its own refusal
 abbrev pub IsOfKind : ScriptLine → Outcome → Type 0
 IsOfKind (check request) (outcome.Checked answer) = ⊤
 IsOfKind (check request) (outcome.Full live held wanted) = ⊤
 IsOfKind (check request) (outcome.Spent claims wanted) = ⊤
 IsOfKind (reload config) outcome.Installed = ⊤
 IsOfKind (reload config) (outcome.VersionsFull versions) = ⊤
-IsOfKind (tick now) (outcome.Ticked shown) = shown ≡ now
+IsOfKind (tick now) (outcome.Ticked shown) = ⊤
 IsOfKind (bad refused) (outcome.Bad shown) = shown ≡ refused
 IsOfKind line other = ⊥
 

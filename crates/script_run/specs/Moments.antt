@@ -1,6 +1,8 @@
 -- Which moments the records of a run may have.
-use Rattle.std.specs.Prelude.{◌≡◌, ℕ, ◌+◌, ◌≤◌, ◌⊎◌, ◌==◌, not, List, [], ◌∷◌, ◌++◌, Bool, max, if◌then◌else◌}
+use Rattle.std.specs.Prelude.{◌≡◌, ℕ, ◌+◌, ◌≤◌, ◌⊎◌, ◌==◌, not, List, [], ◌∷◌, ◌++◌, Bool, max, if◌then◌else◌, ⊤}
 use Rattle.reply_text.specs.declared.record.Record.{Record}
+use Rattle.reply_text.specs.declared.record.Outcome.{Outcome}
+use Rattle.reply_text.specs.declared.record.Outcome.TheVariants.{Ticked}
 use Rattle.script_run.specs.ScriptLine.{ScriptLine, tick}
 use Rattle.script_run.specs.Lines.{EachLine, IsAtLeastEarlier}
 
@@ -33,7 +35,13 @@ pub record IsTimely (start : ℕ) (lines : List ScriptLine) (records : List Reco
   pub source : (r.moment ≡ start) ⊎ ((1 ≤ offers (λ w. not (w == r.worker)) r.moment lines records)
       ⊎ (1 ≤ offers (λ w. w == r.worker) r.moment (before ++ l ∷ []) (earlier ++ r ∷ [])))
 
--- Along the records of one worker the moments never fall, and each has its source.
+-- what came of a tick line shows the number of the line
+abbrev pub ShowsItsTick : ScriptLine → Outcome → Type 0
+ShowsItsTick (tick now) (Ticked shown) = shown ≡ now
+ShowsItsTick line other = ⊤
+
+-- Along the records of one worker the moments never fall, each has its source, and a tick shows its line's number.
 pub record MomentsNeverFall (start : ℕ) (lines : List ScriptLine) (records : List Record) : Type 0 where
   pub never_fall : EachLine lines records (λ before earlier l r. IsAtLeastEarlier (λ s. s.moment) earlier r)
   pub timely : EachLine lines records (λ before earlier l r. IsTimely start lines records before earlier l r)
+  pub shown : EachLine lines records (λ before earlier l r. ShowsItsTick l r.outcome)

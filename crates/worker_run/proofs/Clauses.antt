@@ -13,7 +13,7 @@ use Rattle.reply_text.specs.declared.record.Outcome.TheVariants as outcome
 use Rattle.script_run.specs.ScriptLine.{ScriptLine, check, reload, tick, bad}
 use Rattle.script_run.specs.Lines.{EachLine, IsAtLeastEarlier}
 use Rattle.script_run.specs.Kinds.{IsOfKind, OneRecordPerLine}
-use Rattle.script_run.specs.Moments.{tick_of}
+use Rattle.script_run.specs.Moments.{tick_of, ShowsItsTick}
 use Rattle.worker_run.specs.LineSteps.{LineStep, IsRecordStep}
 use Rattle.worker_run.specs.Journal.{Journal}
 use Rattle.worker_run.specs.Work.{HaveRun}
@@ -26,9 +26,16 @@ kind_of b limiter start (check request) (outcome.Full live held wanted) p q s = 
 kind_of b limiter start (check request) (outcome.Spent claims wanted) p q s = tt
 kind_of b limiter start (reload config) outcome.Installed p q s = tt
 kind_of b limiter start (reload config) (outcome.VersionsFull versions) p q s = tt
-kind_of b limiter start (tick now) (outcome.Ticked shown) p q s = s.0
+kind_of b limiter start (tick now) (outcome.Ticked shown) p q s = tt
 kind_of b limiter start (bad refused) (outcome.Bad shown) p q s = s.0
 kind_of b limiter start l o p q s = absurd s
+
+tick_shown : (b : Bounds) (limiter : LimiterView) (start : ℕ) (l : ScriptLine) (o : Outcome) (p q : PassView) → LineStep b limiter start l p o q → ShowsItsTick l o
+tick_shown b limiter start (tick now) (outcome.Ticked shown) p q s = s.0
+tick_shown b limiter start (check request) o p q s = tt
+tick_shown b limiter start (reload config) o p q s = tt
+tick_shown b limiter start (bad refused) o p q s = tt
+tick_shown b limiter start l o p q s = absurd s
 
 pub tick_least : (b : Bounds) (limiter : LimiterView) (start : ℕ) (l : ScriptLine) (o : Outcome) (p q : PassView) → LineStep b limiter start l p o q → tick_of l ≤ q.cells.moment
 tick_least b limiter start (tick now) (outcome.Ticked shown) p q s = s.1.least
@@ -97,6 +104,14 @@ module _ (b : Bounds) (limiter : LimiterView) (start : ℕ) (lines : List Script
         };
   }
 
+  ticks_show : (i : ℕ) (l : ScriptLine) (r : Record) → slice_get lines i ≡ Some l → slice_get records i ≡ Some r → ShowsItsTick l r.outcome
+  ticks_show i l r el er =
+      let e = to_elem records i r er in
+      let z = located i r e in
+      let s = step_at b limiter start z.worker lines z.first z.journal z.last z.steps z.place r z.found in
+      subst (λ (x : ScriptLine). ShowsItsTick x r.outcome) (line_is i l r el e z.worker s.from s.to s.step)
+      (tick_shown b limiter start s.step.line r.outcome s.from s.to s.step.step)
+
   module _ (f : PassView → ℕ) (shown : Record → ℕ)
       (rises : (w : ℕ) (p : PassView) (r : Record) (q : PassView) → IsRecordStep b limiter start w lines p r q → (f p ≤ f q) × (shown r ≡ f q)) where
     same_worker : (j i : ℕ) (e r : Record) → j < i → get_elem? records j ≡ some e → get_elem? records i ≡ some r → e.worker ≡ r.worker → shown e ≤ shown r
@@ -140,4 +155,5 @@ module _ (b : Bounds) (limiter : LimiterView) (start : ℕ) (lines : List Script
     moments_never_fall = never_falls (λ (p : PassView). p.cells.moment) (λ (r : Record). r.moment)
         (λ w p r q s. (moments_rise b limiter start s.line r.outcome p q s.step, s.at));
     moments_least = least started;
+    ticks_shown = λ i l r el er. ticks_show i l r el er;
   }

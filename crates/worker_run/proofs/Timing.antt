@@ -352,6 +352,7 @@ module _ (b : Bounds) (limiter : LimiterView) (start : ℕ) (lines : List Script
   pub moments_never_fall : (workers : ℕ) → AreInOrder workers start lines records → MomentsNeverFall start lines records
   moments_never_fall workers o = record {
     never_fall = o.moments_never_fall;
+    shown = o.ticks_shown;
     timely = λ i l r el er.
         let least = o.moments_least i l r el er in
         let e = to_elem records i r er in
