@@ -77,9 +77,11 @@ close_stats-requires g c =
     let workers : g.N.CellNaming.setup.passes ≡ c.args.setup.workers = ap (λ (x : cell_setup.Setup). x.passes) c.requires.cells in
     let served = subst (λ (ps : List (Counting Checker)). AllServed (Counts (AnswersBy cells)) ps after old new s.services is_all)
     (c.in_ok-begun.ensures ∙ ap (map (begun stats)) c.in_ok-checks.ensures) s.each in
-    record { passes = all_stats cells limiter stats before after old new s.services is_all served
-    (subst (λ (n : ℕ). HasPasses n stats) (sym (c.in_ok-limiter.ensures.made.as_many ∙ workers)) c.in_ok-stats.ensures.count)
-    c.in_ok-used.noted.items c.in_ok-used.ensures.passes }
+    record {
+      passes = all_stats cells limiter stats before after old new s.services is_all served
+          (subst (λ (n : ℕ). HasPasses n stats) (sym (c.in_ok-limiter.ensures.made.as_many ∙ workers)) c.in_ok-stats.ensures.count)
+          c.in_ok-used.noted.items c.in_ok-used.ensures.passes;
+    }
 
 pub returns-then-is_all : goal.returns-then-is_all
 returns-then-is_all g c =

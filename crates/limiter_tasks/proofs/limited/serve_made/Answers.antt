@@ -72,8 +72,10 @@ close_stats-requires g c =
     (c.in_ok-all.ensures ∙ ap (map (begun stats)) c.in_ok-checks.ensures) c.in-Some.ensures.items in
     let served = subst (λ (p : Counting Checker). AllTasksServed (Counts (AnswersBy cells)) p after old new s.services is_all) t.2 s.each in
     let last : c.push_reserved.new.self.items ≡ after ∷ [] = c.push_reserved.ensures.items ∙ ap (λ (ps : List (Counting Checker)). ps ++ after ∷ []) t.3 in
-    record { passes = all_stats cells limiter t.0 stats after old new s.services is_all served c.in_ok-stats.ensures.count c.in_ok-used.noted.items
-    (subst (λ (cs : List (Counting Checker)). AreGivenBack c.in_ok-used.noted.items (filter_map (λ (k : Counting Checker). k.stats) cs)) last c.in_ok-used.ensures.passes) }
+    record {
+      passes = all_stats cells limiter t.0 stats after old new s.services is_all served c.in_ok-stats.ensures.count c.in_ok-used.noted.items
+          (subst (λ (cs : List (Counting Checker)). AreGivenBack c.in_ok-used.noted.items (filter_map (λ (k : Counting Checker). k.stats) cs)) last c.in_ok-used.ensures.passes);
+    }
 
 pub returns-then-is_all : goal.returns-then-is_all
 returns-then-is_all g c =
