@@ -2,6 +2,8 @@
 #![tactic(auto)]
 
 #[cfg(test)]
+mod prometheus;
+#[cfg(test)]
 mod shared;
 #[cfg(test)]
 mod statuses;

@@ -1,0 +1,4 @@
+mod Escaping
+mod Walking
+mod Spelling
+mod Rows
