@@ -22,8 +22,8 @@ abbrev pub help_of : Metric → List ℕ
 help_of TotalHits = codes "Hits of the rule."
 help_of WithinLimit = codes "Hits with which the counter stood at most at the limit."
 help_of NearLimit = codes "Hits within the limit with which the counter stood above four fifths of it."
-help_of OverLimit = codes "Hits with which the counter stood above the limit."
-help_of OverLimitWithLocalCache = codes "Hits over the limit that were not charged, since the counter was seen above it."
+help_of OverLimit = codes "Hits with which the counter stood above the limit, and hits that were not charged."
+help_of OverLimitWithLocalCache = codes "Hits that were not charged, since the counter was seen above the limit."
 help_of ShadowMode = codes "Hits over the limit that a shadow rule let pass."
 
 -- the number of a rule

@@ -41,9 +41,10 @@ pub(crate) fn help_of(metric: Metric) -> &'static str
         Metric::NearLimit => {
             "Hits within the limit with which the counter stood above four fifths of it."
         }
-        Metric::OverLimit => "Hits with which the counter stood above the limit.",
+        Metric::OverLimit =>
+            "Hits with which the counter stood above the limit, and hits that were not charged.",
         Metric::OverLimitWithLocalCache => {
-            "Hits over the limit that were not charged, since the counter was seen above it."
+            "Hits that were not charged, since the counter was seen above the limit."
         }
         Metric::ShadowMode => "Hits over the limit that a shadow rule let pass.",
     }

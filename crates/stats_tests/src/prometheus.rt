@@ -1,5 +1,6 @@
 // The text that Prometheus reads.
 use config_json::read_config;
+use descriptor_tree::Config;
 use prometheus_text::{labels_of, put_counter, put_gauge, put_metrics};
 use rate_types::{Blob, Blobs};
 use rule_stats::RuleNumbers;
@@ -12,15 +13,20 @@ const FIRST: &str = r#"{"domain":"a \"b\"\\c\nd","descriptors":[
         {"key":"user","rateLimit":{"requestsPerUnit":5,"unit":"MINUTE"}},
         {"key":"user","value":"c:\\n","rateLimit":{"requestsPerUnit":5,"unit":"MINUTE"}}]},
     {"key":"grün","value":"ü*","rateLimit":{"requestsPerUnit":5,"unit":"MINUTE"}}]}"#;
+
 const SECOND: &str =
     r#"{"domain":"plain","descriptors":[{"key":"k","value":"","descriptors":[{"key":"l"}]}]}"#;
 
-fn files(alloc: Global, texts: &[&str]) -> Result<Blobs, Fail> {
+// The configuration of these files.
+fn config_of(alloc: Global, texts: &[&str]) -> Result<Config, Fail> {
     let mut files = Vec::new(alloc);
     for text in texts {
         files.push(Blob::of(Vec::from_slice(alloc, text.as_bytes())?))?;
     }
-    Ok(Blobs::of(files))
+    match read_config(alloc, &Blobs::of(files)) {
+        Ok(config) => Ok(config),
+        Err(_) => Err("the configuration is refused".into()),
+    }
 }
 
 // Numbers that differ, from one on.
@@ -38,10 +44,7 @@ fn numbers_from(first: u64) -> RuleNumbers {
 #[test]
 fn each_node_has_its_domain_and_its_path(rt: HostRuntime) -> Result<(), Fail> {
     let alloc = rt.alloc();
-    let Ok(config) = read_config(alloc, &files(alloc, &[FIRST, SECOND])?) else {
-        unreachable!()
-    };
-    let labels = labels_of(alloc, &config)?;
+    let labels = labels_of(alloc, &config_of(alloc, &[FIRST, SECOND])?)?;
     const ROWS: &[(&str, &str)] = &[
         ("a \"b\"\\c\nd", "path_/a\"b"),
         ("a \"b\"\\c\nd", "path_/a\"b.user"),
@@ -73,12 +76,12 @@ ratelimit_service_rate_limit_within_limit{domain="a \"b\"\\c\nd",path="grün_ü*
 ratelimit_service_rate_limit_near_limit{domain="a \"b\"\\c\nd",path="path_/a\"b"} 102
 ratelimit_service_rate_limit_near_limit{domain="a \"b\"\\c\nd",path="path_/a\"b.user_c:\\n"} 9223372036854775810
 ratelimit_service_rate_limit_near_limit{domain="a \"b\"\\c\nd",path="grün_ü*"} 3
-# HELP ratelimit_service_rate_limit_over_limit Hits with which the counter stood above the limit.
+# HELP ratelimit_service_rate_limit_over_limit Hits with which the counter stood above the limit, and hits that were not charged.
 # TYPE ratelimit_service_rate_limit_over_limit counter
 ratelimit_service_rate_limit_over_limit{domain="a \"b\"\\c\nd",path="path_/a\"b"} 103
 ratelimit_service_rate_limit_over_limit{domain="a \"b\"\\c\nd",path="path_/a\"b.user_c:\\n"} 9223372036854775811
 ratelimit_service_rate_limit_over_limit{domain="a \"b\"\\c\nd",path="grün_ü*"} 4
-# HELP ratelimit_service_rate_limit_over_limit_with_local_cache Hits over the limit that were not charged, since the counter was seen above it.
+# HELP ratelimit_service_rate_limit_over_limit_with_local_cache Hits that were not charged, since the counter was seen above the limit.
 # TYPE ratelimit_service_rate_limit_over_limit_with_local_cache counter
 ratelimit_service_rate_limit_over_limit_with_local_cache{domain="a \"b\"\\c\nd",path="path_/a\"b"} 104
 ratelimit_service_rate_limit_over_limit_with_local_cache{domain="a \"b\"\\c\nd",path="path_/a\"b.user_c:\\n"} 9223372036854775812
@@ -93,10 +96,7 @@ ratelimit_service_rate_limit_shadow_mode{domain="a \"b\"\\c\nd",path="grün_ü*"
 #[test]
 fn the_text_has_the_rules_that_counted_metric_by_metric(rt: HostRuntime) -> Result<(), Fail> {
     let alloc = rt.alloc();
-    let Ok(config) = read_config(alloc, &files(alloc, &[FIRST])?) else {
-        unreachable!()
-    };
-    let labels = labels_of(alloc, &config)?;
+    let labels = labels_of(alloc, &config_of(alloc, &[FIRST])?)?;
     let mut numbers = Vec::new(alloc);
     numbers.push(numbers_from(100))?;
     numbers.push(RuleNumbers::nothing())?;
@@ -112,12 +112,7 @@ fn the_text_has_the_rules_that_counted_metric_by_metric(rt: HostRuntime) -> Resu
 #[test]
 fn a_single_number_has_a_head_and_a_line(rt: HostRuntime) -> Result<(), Fail> {
     let mut text = String::new(rt.alloc());
-    put_gauge(
-        &mut text,
-        "ratelimit_cells_in_use",
-        "Cells in use.",
-        0,
-    )?;
+    put_gauge(&mut text, "ratelimit_cells_in_use", "Cells in use.", 0)?;
     put_counter(
         &mut text,
         "ratelimit_connections_accepted",
