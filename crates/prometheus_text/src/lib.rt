@@ -4,10 +4,11 @@
 //! of rules behind a text: for each metric its two head lines, and a line for each rule that counted anything. [`put_gauge`] and
 //! [`put_counter`] put a metric of one number.
 //!
-//! The promise: the text is exactly that of the numbers that were given (`specs/Text.antt`), and the value of a label reads back as what was
-//! written (`specs/Escapes.antt`), so rules with different labels never share a line. Want of memory alone ends it sooner.
+//! The promise: the text is exactly that of the labels and the numbers that were given (`specs/Text.antt`). The value of a label reads back by
+//! the format's rule (`specs/Escapes.antt`), and labels that differ have different parts of a line. Want of memory alone ends it sooner.
 //!
-//! The limits: two rules whose paths are spelled alike, as a key `a_b` and a key `a` with the value `b`, have the same labels.
+//! The limits: two rules of a domain whose paths are spelled alike, as a key `a_b` and a key `a` with the value `b`, have the same labels.
+//! Whoever has such rules adds their numbers up before, since Prometheus takes a series once.
 #![tactic(auto)]
 
 mod escape;
