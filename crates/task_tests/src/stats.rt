@@ -52,10 +52,10 @@ fn written_for<R: Wait, K: Checks>(
     let mut peers = Vec::new(alloc);
     peers.push(peer)?;
     let mut listen = MemPollListen::new(alloc, peers, Vec::new(alloc), Vec::new(alloc))?;
-    let Ok(ends) = serve_tasks(rt, alloc, checks, &mut listen, 1, 1) else {
+    let Ok(served) = serve_tasks(rt, alloc, checks, &mut listen, 1, 1) else {
         return Err("it wasn't served".into());
     };
-    if !is_end(&ends, 0, LinkCause::Ended, answers) {
+    if !is_end(&served.ends, 0, LinkCause::Ended, answers) {
         return Err("it ended otherwise".into());
     }
     written(alloc, &listen, 0)
