@@ -10,7 +10,7 @@ done <<'GROUPS'
 base keyed_hash rate_types json_text rate_io text_lines proto_json
 counters window_keys told_list config_versions counter_cells counter_directory over_cache line_numbers
 checks descriptor_tree config_json rule_lookup rls_core rule_stats shared_stats prometheus_text rate_limiter reply_text request_tokens run_lines script_run script_lines run_stats script_text worker_run drive_run load_gen run_text run_audit
-connections http_front http_endpoint http_checks http_serve http_limiter link_handover conn_tasks mio_links serve_tasks limiter_tasks
+connections http_front http_endpoint counted_checks http_checks http_serve http_limiter link_handover conn_tasks mio_links serve_tasks limiter_tasks
 quota agenda quota_bucket quota_settings quota_settings_json quota_buckets quota_lines quota_stream quota_pools quota_server
 faces command_words cli_exits cli_lookup cli_quota cli_audit cli_serve cli_drive ratelimit_cli ratelimit
 GROUPS
