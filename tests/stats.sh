@@ -68,7 +68,7 @@ serve() {
     server=$!
     port=
     for _ in $(seq 200); do
-        port=$(sed -n 's/.*127.0.0.1:\([0-9]*\).*/\1/p' "$work/served")
+        port=$(sed -n 's/{"listening":\([0-9]*\)}/\1/p' "$work/served")
         [ -n "$port" ] && break
         sleep 0.05
     done
