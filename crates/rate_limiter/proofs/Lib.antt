@@ -34,3 +34,4 @@ pub mod OpenClaims
 pub mod LawfulClaims
 pub mod RequestCounters
 pub mod WantedCounters
+pub mod Planned

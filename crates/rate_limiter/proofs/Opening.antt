@@ -8,6 +8,8 @@ use Rattle.rate_types.specs.declared.request.Descriptor.{Descriptor}
 use Rattle.descriptor_tree.specs.Trees.{DomainTree}
 use Rattle.rule_lookup.specs.declared.found.Found.{Found}
 use Rattle.config_versions.specs.PassState.{PassState, IsVersion, HasLoaded}
+use Rattle.atomic_table.specs.Seated.{TableId}
+use Rattle.counter_cells.specs.Steps.{ticked}
 use Rattle.counter_cells.specs.declared.view.CellView.{CellView}
 use Rattle.counter_cells.specs.declared.view.OtherGate.{OtherGate}
 use Rattle.counter_cells.specs.declared.answers.Spot.{Spot}
@@ -19,10 +21,12 @@ use Rattle.rate_limiter.specs.Known.{key_of, spot_of, SameSpots, HasCounter, Has
 use Rattle.rate_limiter.specs.Passes.{LimiterView, PassView, KeepsAllButTicks, KeepsAllButVersion}
 use Rattle.rate_limiter.specs.PassStep.{HasRenewed, HasOffered}
 use Rattle.rate_limiter.specs.Pinned.{SameButPins}
-use Rattle.rate_limiter.specs.Sought.{KnowsUnder, IsAt, HasMissCause}
+use Rattle.rate_limiter.specs.Sought.{SameKnown, KnowsUnder, IsAt, HasMissCause}
 use Rattle.rate_limiter.specs.Opens.{IsUpToDate, HasStayedOpen, HasNotCounted, HasOnlyTicked, KnowsFirst, IsCounterAt, Opens}
 use Rattle.rate_limiter.specs.Opening.{refusal_for}
 use Rattle.std.specs.Prelude.{Err}
+use Rattle.rate_limiter.specs.Counters.{CountersView, pass_with}
+use Rattle.rate_limiter.proofs.Planned.{IsPlanned}
 use Rattle.rate_limiter.proofs.Renewing.{shown_renews}
 use Rattle.rate_limiter.proofs.Lists.{map_some}
 use Rattle.rate_limiter.proofs.Noting.{knows_still}
@@ -200,3 +204,31 @@ module _ (now : ℕ) (p p1 p2 : PassView) (loads : KeepsAllButVersion p p1) (off
         subst (λ (l : Entries). spot_of c.0.q l ≡ Some c.0.s) known_kept c.0.known,
         missed_first c.0.s claim c.0.missed,
       )
+
+-- the plan of such a check, from what the calls leave: q is the pass of which the plan takes the parts
+module _ (request : RequestParts) (now : ℕ) (p p1 q : PassView) (versions : TableId) (version : PassState (List DomainTree)) (u v : CountersView) (refused : ℕ)
+    (is : pass_with versions version u refused ≡ q) (loads : KeepsAllButVersion p p1) (offered : HasOffered now p1.cells q.cells) (ticks : KeepsAllButTicks p1 q) where
+  pub offered_so : HasOffered now p1.cells u.cells
+  offered_so = subst (λ (x : PassView). HasOffered now p1.cells x.cells) (sym is) offered
+
+  pub ticks_so : KeepsAllButTicks p1 (pass_with versions version u refused)
+  ticks_so = subst (KeepsAllButTicks p1) (sym is) ticks
+
+  pub planned_open : (moment : ℕ) → q.cells ≡ ticked moment now p1.cells → HasLoaded p.version p1.version
+      → IsVersion p1.version.view.known p1.version.version p1.version.index → p1.version.view.shown ≡ p.version.version + 1 → v ≡ record u { known = v.known }
+      → SameKnown u.known v.known → (fs : List Found) → fs ≡ map (found_for version.index request) request.descriptors
+      → IsPlanned request now p versions version u v refused fs
+  planned_open moment at loaded index newest planned same fs founds =
+      let p2 = pass_with versions version u refused in
+      record {
+        p1 = between now p p1 p2 loads offered_so ticks_so;
+        moment = moment;
+        ticks = ap (λ (x : PassView). x.cells) is ∙ at ∙ ap (ticked moment now) (ap (λ (x : PassView). x.cells) loads);
+        offered = first_offered now p p1 p2 loads offered_so ticks_so;
+        rest = first_ticks now p p1 p2 loads offered_so ticks_so;
+        renewed = open_renews now p p1 p2 loads offered_so ticks_so loaded index newest;
+        kept = then_version now p p1 p2 loads offered_so ticks_so;
+        planned = planned;
+        same = same;
+        founds = founds;
+      }

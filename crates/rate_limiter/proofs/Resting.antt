@@ -14,10 +14,11 @@ use Rattle.over_cache.specs.Entries.{Entries}
 use Rattle.rls_core.specs.Reply.{found_for}
 use Rattle.rate_limiter.specs.Known.{KnowsCounter}
 use Rattle.rate_limiter.specs.Passes.{PassView, KeepsAllButTicks, KeepsAllButVersion}
-use Rattle.rate_limiter.specs.Sought.{SameKnown, KnowsUnder, AreKnownOver}
+use Rattle.rate_limiter.specs.Sought.{KnowsUnder, AreKnownOver}
 use Rattle.atomic_table.specs.Seated.{TableId}
 use Rattle.rate_limiter.specs.Counters.{CountersView, pass_with}
 use Rattle.rate_limiter.specs.Turns.{TakesNoTurn, TriesNoPin, IsKnownOver}
+use Rattle.rate_limiter.proofs.Planned.{IsPlanned}
 use Rattle.rate_limiter.proofs.Lists.{map_some}
 use Rattle.rate_limiter.proofs.AskedCounters.{over_still}
 use Rattle.rate_limiter.proofs.Knowing.{spots_same}
@@ -96,33 +97,32 @@ module _ (request : RequestParts) (moment now : ℕ) (p p1 p2 q : PassView) (tic
         let still = stays (λ i d f a b. then_found (IsKnownOver request) first more is over i d f a b) in
         no_pin_at_all still.0 still.1 first more is over
 
--- a plan asks for the counters, and changes nothing but the order of what is known
-module _ (request : RequestParts) (moment now : ℕ) (p p1 q : PassView) (versions : TableId) (version : PassState (List DomainTree)) (v0 v1 : CountersView) (refused : ℕ)
-    (ticks : p1.cells ≡ ticked moment now p.cells) (rest : KeepsAllButTicks p p1) (renewed : KeepsAllButVersion p1 (pass_with versions version v0 refused))
-    (planned : v1 ≡ record v0 { known = v1.known }) (same : SameKnown v0.known v1.known) (fs : List Found)
-    (are : fs ≡ map (found_for version.index request) request.descriptors) (version_is : q.version ≡ version) (added : List Tick)
-    (then_ticks : q.cells.ticks ≡ v1.cells.ticks ++ added) where
-  cells_planned : v1.cells ≡ v0.cells
-  cells_planned = ap (λ (u : CountersView). u.cells) planned
+-- a plan asks for the counters, and changes nothing but the order of what is known; the check ends with these counters, and ticked after the plan
+module _ (request : RequestParts) (now : ℕ) (p : PassView) (versions : TableId) (version : PassState (List DomainTree)) (u v : CountersView) (refused : ℕ) (fs : List Found)
+    (h : IsPlanned request now p versions version u v refused fs) (x : CountersView) (left : ℕ) (added : List Tick) (ticks : x.cells.ticks ≡ v.cells.ticks ++ added) where
+  cells_planned : v.cells ≡ u.cells
+  cells_planned = ap (λ (y : CountersView). y.cells) h.planned
 
-  ticks_planned : q.cells.ticks ≡ v0.cells.ticks ++ added
-  ticks_planned = then_ticks ∙ ap (λ (u : CellView). u.ticks ++ added) cells_planned
+  ticks_planned : x.cells.ticks ≡ u.cells.ticks ++ added
+  ticks_planned = ticks ∙ ap (λ (y : CellView). y.ticks ++ added) cells_planned
 
-  pub planned_turn : (KnowsUnder (length request.descriptors) request v1.cells.moment v1.known request.descriptors fs → q.cells.others ≡ v1.cells.others
-      → q.claims ≡ v1.claims.claims) → TakesNoTurn request p q
+  pub planned_turn : (KnowsUnder (length request.descriptors) request v.cells.moment v.known request.descriptors fs → x.cells.others ≡ v.cells.others
+      → x.claims.claims ≡ v.claims.claims) → TakesNoTurn request p (pass_with versions version x left)
   planned_turn stays =
-      no_turn request moment now p p1 (pass_with versions version v0 refused) q ticks rest renewed request.descriptors fs refl are version_is added ticks_planned
+      no_turn request h.moment now p h.p1 (pass_with versions version u refused) (pass_with versions version x left) h.ticks h.rest h.kept request.descriptors fs refl h.founds
+      refl added ticks_planned
       (λ knows others.
-      stays (subst (λ (u : CellView). KnowsUnder (length request.descriptors) request u.moment v1.known request.descriptors fs) (sym cells_planned)
-      (knows_still request v0.cells.moment v0.known v1.known (spots_same v0.known v1.known same) request.descriptors fs (length request.descriptors) knows))
-      (others ∙ sym (ap (λ (u : CellView). u.others) cells_planned))
-      ∙ ap (λ (u : CountersView). u.claims.claims) planned)
+      stays (subst (λ (y : CellView). KnowsUnder (length request.descriptors) request y.moment v.known request.descriptors fs) (sym cells_planned)
+      (knows_still request u.cells.moment u.known v.known (spots_same u.known v.known h.same) request.descriptors fs (length request.descriptors) knows))
+      (others ∙ sym (ap (λ (y : CellView). y.others) cells_planned))
+      ∙ ap (λ (y : CountersView). y.claims.claims) h.planned)
 
-  pub planned_pin : (AreKnownOver request v1.cells.moment v1.known request.descriptors fs → (q.cells.pairs ≡ v1.cells.pairs) × (q.cells.others ≡ v1.cells.others))
-      → TriesNoPin request p q
+  pub planned_pin : (AreKnownOver request v.cells.moment v.known request.descriptors fs → (x.cells.pairs ≡ v.cells.pairs) × (x.cells.others ≡ v.cells.others))
+      → TriesNoPin request p (pass_with versions version x left)
   planned_pin stays =
-      no_pin request moment now p p1 (pass_with versions version v0 refused) q ticks rest renewed request.descriptors fs refl are version_is added ticks_planned
+      no_pin request h.moment now p h.p1 (pass_with versions version u refused) (pass_with versions version x left) h.ticks h.rest h.kept request.descriptors fs refl h.founds
+      refl added ticks_planned
       (λ over.
-      let still = stays (subst (λ (u : CellView). AreKnownOver request u.moment v1.known request.descriptors fs) (sym cells_planned)
-      (over_still request v0.cells.moment v0.known v1.known same request.descriptors fs over)) in
-      (still.0 ∙ ap (λ (u : CellView). u.pairs) cells_planned, still.1 ∙ ap (λ (u : CellView). u.others) cells_planned))
+      let still = stays (subst (λ (y : CellView). AreKnownOver request y.moment v.known request.descriptors fs) (sym cells_planned)
+      (over_still request u.cells.moment u.known v.known h.same request.descriptors fs over)) in
+      (still.0 ∙ ap (λ (y : CellView). y.pairs) cells_planned, still.1 ∙ ap (λ (y : CellView). y.others) cells_planned))

@@ -40,6 +40,7 @@ use Rattle.rate_limiter.specs.Asked.{founds}
 use Rattle.rate_limiter.specs.Counted.{SameButCounts, AreCounted, HasAnswered}
 use Rattle.rate_limiter.specs.Counters.{CountersView, pass_with}
 use Rattle.rate_limiter.specs.Pinned.{HasWaited, HasHeld, HasNoPins, fault_of, refused_after}
+use Rattle.rate_limiter.proofs.Planned.{IsPlanned}
 use Rattle.rate_limiter.proofs.Lists.{each_append, each_more, prefix_self, last_then}
 use Rattle.rate_limiter.proofs.Noting.{knows_all}
 use Rattle.rate_limiter.proofs.Showing.{charged_of, seen_of}
@@ -295,37 +296,62 @@ module _ (limiter : LimiterView) (request : RequestParts) (fs : List Found) (rep
       (each_same w.claims.claims.known request w.cells.moment request.descriptors fs reply.statuses.items w.cells h.mid h.counted))
       (leaves_still h.mid x.cells h.left)
 
-  -- it is the step of a pass
-  pub step_of : (now : ℕ) (p p1 p2 : PassView) (offered : HasOffered now p.cells p1.cells) (ticked : KeepsAllButTicks p p1) (rest : KeepsAllButVersion p1 p2)
-      (versions : TableId) (cells : ℕ) (asked : List Asked) (spots : List Spot) (v : CountersView) → HasRenewed p1.version p2.version
-      → fs ≡ map (found_for p2.version.index request) request.descriptors → v.cells ≡ p2.cells → v.claims.claims ≡ p2.claims
-      → HasHeld cells request fs asked spots v w → number ≡ p2.version.version → record { claims = x.claims.list_id; versions = versions } ≡ p2.limiter
-      → IsPassStep limiter request now p reply (pass_with versions p2.version x p2.refused)
-  step_of now p p1 p2 offered ticked rest versions cells asked spots v renewed fs_are cells_are claims_are held number_is same =
+  -- it is the step of a pass whose plan is made
+  pub step_of : (now : ℕ) (p : PassView) (versions : TableId) (version : PassState (List DomainTree)) (u v : CountersView) (refused : ℕ)
+      → IsPlanned request now p versions version u v refused fs → (cells : ℕ) (asked : List Asked) (spots : List Spot) → HasHeld cells request fs asked spots v w
+      → number ≡ version.version → w.claims.list_id ≡ u.claims.list_id → IsPassStep limiter request now p reply (pass_with versions version x refused)
+  step_of now p versions version u v refused plan cells asked spots held number_is same =
       let ds = request.descriptors in
-      let config = p2.version.index in
+      let config = version.index in
       let sts = reply.statuses.items in
       let m = w.cells.moment in
-      let q = pass_with versions p2.version x p2.refused in
+      let q = pass_with versions version x refused in
       let counted : AreCounted w.claims.claims.known request m ds (map (found_for config request) ds) sts w.cells h.mid
-      = subst (λ (l : List Found). AreCounted w.claims.claims.known request m ds l sts w.cells h.mid) fs_are h.counted in
-      let back : Keeps h.mid x.cells = record { looks = ap (λ (u : CellView). u.looks) h.left; charges = ap (λ (u : CellView). u.charges) h.left } in
+      = subst (λ (l : List Found). AreCounted w.claims.claims.known request m ds l sts w.cells h.mid) plan.founds h.counted in
+      let back : Keeps h.mid x.cells = record { looks = ap (λ (y : CellView). y.looks) h.left; charges = ap (λ (y : CellView). y.charges) h.left } in
       let counts : CountsEach w.claims.claims.known config request m ds sts w.cells x.cells
       = each_back w.claims.claims.known request m config ds sts w.cells h.mid x.cells (counts_of w.claims.claims.known request m config ds sts w.cells h.mid counted) back in
       let named : keys_at m (names_under request ds fs) ≡ counters_named config request m
-      = ap (λ (l : List Found). keys_at m (names_under request ds l)) fs_are ∙ keys_named w.claims.claims.known request m config ds in
-      let claimed : HasClaimed (counters_named config request m) m p2.claims w.claims.claims
-      = subst (λ (t : KnownClaims). HasClaimed (counters_named config request m) m t w.claims.claims) claims_are
+      = ap (λ (l : List Found). keys_at m (names_under request ds l)) plan.founds ∙ keys_named w.claims.claims.known request m config ds in
+      let claimed : HasClaimed (counters_named config request m) m u.claims.claims w.claims.claims
+      = subst (λ (t : DirectoryPassView). HasClaimed (counters_named config request m) m t.claims w.claims.claims) (ap (λ (y : CountersView). y.claims) plan.planned)
       (subst (λ ks. HasClaimed ks m v.claims.claims w.claims.claims) named held.claimed) in
       let knows : KnowsUnder (length ds) request m w.known ds fs
       = subst (λ (l : List Found). KnowsUnder (length ds) request m w.known ds l) held.founds_are
       (subst (λ n. KnowsUnder n request m w.known ds (founds asked)) held.asked_are.count
       (knows_of cells request w asked held.asked_are (length asked) held.held.known)) in
-      step_with limiter request now p p1 p2 q offered ticked rest fs w.cells reply renewed fs_are (subst (λ (u : CellView). HasWaited u w.cells) cells_are held.waited)
-      answered_still (subst (λ (t : DirectoryPassView). HasClaimed (counters_named config request m) m p2.claims t.claims) (sym h.claims) claimed)
+      step_with limiter request now p plan.p1 (pass_with versions version u refused) q plan.offered plan.rest plan.kept fs w.cells reply plan.renewed plan.founds
+      (subst (λ (y : CellView). HasWaited y w.cells) (ap (λ (y : CountersView). y.cells) plan.planned) held.waited)
+      answered_still (subst (λ (t : DirectoryPassView). HasClaimed (counters_named config request m) m u.claims.claims t.claims) (sym h.claims) claimed)
       (subst (λ (t : DirectoryPassView). CountsEach t.claims.known config request m ds sts w.cells x.cells) (sym h.claims) counts)
-      (statuses_of w.claims.claims.known request m config ds sts w.cells h.mid counted) h.bare refl same refl (h.version_is ∙ number_is) h.moment_is h.over_is
+      (statuses_of w.claims.claims.known request m config ds sts w.cells h.mid counted) h.bare refl
+      (ap (λ i. record { claims = i; versions = versions }) (ap (λ (t : DirectoryPassView). t.list_id) h.claims ∙ same)) refl (h.version_is ∙ number_is) h.moment_is h.over_is
       w.known h.known.spots knows
+
+-- ---- counters that aren't held
+
+module _ (limiter : LimiterView) (request : RequestParts) (now : ℕ) (p : PassView) (versions : TableId) (version : PassState (List DomainTree)) (u v : CountersView) (refused : ℕ)
+    (fs : List Found) (plan : IsPlanned request now p versions version u v refused fs) where
+  -- what is left of the pass, and the cause
+  pub refused_of : (b : Bounds) (w : CountersView) (fault : AcquireFault) (left : ℕ) (f : CheckFault)
+      → HasNoPins b (names_under request request.descriptors fs) fault v.cells w.cells v.claims.claims w.claims.claims → w.claims.list_id ≡ u.claims.list_id
+      → left ≡ refused_after fault refused → f ≡ fault_of fault
+      → HasRefused now p (but_for_claims f p (pass_with versions version w left)) × HasCause b request p f (pass_with versions version w left)
+  refused_of b w fault left f none list left_is f_is =
+      let q = pass_with versions version w left in
+      let names = names_under request request.descriptors fs in
+      let none_first = subst (λ (y : CountersView). HasNoPins b names fault y.cells w.cells y.claims.claims w.claims.claims) plan.planned none in
+      subst (λ (e : CheckFault). HasRefused now p (but_for_claims e p q) × HasCause b request p e q) (sym f_is)
+      (refusal_of limiter request now p plan.p1 (pass_with versions version u refused) q plan.offered plan.rest plan.kept b names fs w.cells w.claims.claims plan.renewed plan.founds
+      refl fault none_first
+      (λ i. record {
+        limiter = record { claims = list i; versions = versions };
+        version = version;
+        claims = w.claims.claims;
+        cells = w.cells;
+        known = w.known;
+        refused = left_is i;
+      }))
 
 -- for want of memory
 pub early : (b : Bounds) (limiter : LimiterView) (request : RequestParts) (now : ℕ) (p q : PassView) (r : Result (Unit {0}) CheckFault) (reply : Reply)

@@ -1,21 +1,17 @@
-use Rattle.std.proofs.Common.{◌≡◌, ◌∙◌, List, map, refl, sym, subst, ap, arith}
+use Rattle.std.proofs.Common.{◌∙◌, List, refl, sym, subst, ap, arith}
 use Rattle.config_versions.specs.Passes.{pass_state, versions_of}
 use Rattle.counter_cells.specs.declared.view.CellView.{CellView}
-use Rattle.rls_core.specs.Reply.{found_for}
-use Rattle.rls_core.specs.declared.fault.CheckFault.{CheckFault}
+use Rattle.counter_directory.specs.Passes.{DirectoryPassView}
 use Rattle.rule_lookup.specs.declared.found.Found.{Found}
 use Rattle.rate_limiter.specs.Asked.{founds}
 use Rattle.rate_limiter.specs.Counted.{HasAnswered}
-use Rattle.rate_limiter.specs.Counters.{CountersView, pass_with}
-use Rattle.rate_limiter.specs.Names.{names_under}
-use Rattle.rate_limiter.specs.Passes.{LimiterId, PassView, bounds_of, KeepsAllButVersion}
-use Rattle.counter_directory.specs.Passes.{DirectoryPassView}
-use Rattle.rate_limiter.specs.Pinned.{HasNoPins}
-use Rattle.rate_limiter.specs.PassStep.{HasRenewed}
-use Rattle.rate_limiter.specs.Refusals.{HasRefused, HasCause, but_for_claims}
+use Rattle.rate_limiter.specs.Counters.{CountersView}
+use Rattle.rate_limiter.specs.Passes.{LimiterId, PassView, bounds_of}
+use Rattle.rate_limiter.proofs.Planned.{IsPlanned, planned_of, planned_limiter}
 use Rattle.rate_limiter.proofs.Results.{not_both}
 use Rattle.rate_limiter.proofs.Resting.{planned_turn, planned_pin, no_turn_at_all, no_pin_at_all}
-use Rattle.rate_limiter.proofs.Stepping.{early, refused_early, refusal_of, step_of, answered_still}
+use Rattle.rate_limiter.proofs.Stepping.{Still, early, refused_early, refused_of, step_of, answered_still}
+use Rattle.rate_limiter.proofs.limiter.Limiter.check_into.Given.{Over}
 use Rattle.rate_limiter.proofs.limiter.Limiter.check_into.Goals as goal
 
 pub returns-in_err-renew-clause-step : goal.returns-in_err-renew-clause-step
@@ -42,192 +38,84 @@ returns-in_err-renew-clause-pins g c =
 
 pub hold-requires-clause-pass : goal.hold-requires-clause-pass
 hold-requires-clause-pass g c =
-    let limiter = c.args.self.now in
-    let request = c.args.request.now in
-    let p = c.args.pass.now in
-    let p1 = c.tick.new.pass in
-    let inside = c.pass.inside in
-    let version = pass_state inside.version in
-    let versions = versions_of inside.version in
-    let p2 = pass_with versions version inside.counters inside.refused in
-    let rest : KeepsAllButVersion p1 p2 = subst (KeepsAllButVersion p1) (sym c.pass.view_is) c.renew.ensures.rest in
-    let id : p2.limiter ≡ limiter.id
-    = ap (λ (x : PassView). x.limiter) rest ∙ ap (λ (x : PassView). x.limiter) c.tick.ensures.rest ∙ c.requires.pass in
-    ap (λ (u : CountersView). u.claims.list_id) c.plan.ensures.rest ∙ ap (λ (l : LimiterId). l.claims) id
+    ap (λ (u : CountersView). u.claims.list_id) c.plan.ensures.rest ∙ ap (λ (x : PassView). x.limiter.claims) c.pass.view_is
+    ∙ ap (λ (x : PassView). x.limiter.claims) c.renew.ensures.rest ∙ ap (λ (x : PassView). x.limiter.claims) c.tick.ensures.rest ∙ ap (λ (l : LimiterId). l.claims) c.requires.pass
+
+-- where the counters are held
+module _ (g : Over) (c : goal.After-pass-in-Ok-1 g) where
+  abbrev fs : List Found
+  fs = founds c.plan.new.scratch.asked.items
+
+  planned : IsPlanned c.args.request.now c.args.now c.args.pass.now (versions_of c.pass.inside.version) (pass_state c.pass.inside.version) c.pass.inside.counters
+      c.plan.new.counters c.pass.inside.refused fs
+  planned =
+      planned_of c.args.request.now c.args.now c.args.pass.now c.tick.new.pass c.renew.new.pass (versions_of c.pass.inside.version) (pass_state c.pass.inside.version)
+      c.pass.inside.counters c.plan.new.counters c.pass.inside.refused fs c.pass.view_is c.tick.result c.tick.ensures.ticked c.tick.ensures.offered c.tick.ensures.rest
+      c.in_ok-renew.ensures.renewed c.renew.ensures.rest c.plan.ensures.rest c.plan.ensures.same c.index-index.result.now c.index-index.ensures.same c.plan.ensures.founds
+
+  answered : HasAnswered c.args.self.now c.version.result c.args.request.now fs c.answer.new.reply c.hold.new.counters c.answer.new.counters
+  answered =
+      subst (λ (l : List Found). HasAnswered c.args.self.now c.version.result c.args.request.now l c.answer.new.reply c.hold.new.counters c.answer.new.counters)
+      (ap founds c.as_slice.ensures.value ∙ c.in-Ok.ensures.held.founds_are) c.answer.ensures
+
+  still : Still c.hold.new.counters.cells c.answer.new.counters.cells
+  still = answered_still c.args.self.now c.args.request.now fs c.answer.new.reply c.version.result c.hold.new.counters c.answer.new.counters answered
 
 pub returns-in-Ok-clause-step : goal.returns-in-Ok-clause-step
 returns-in-Ok-clause-step g c =
-    let limiter = c.args.self.now in
-    let request = c.args.request.now in
-    let p = c.args.pass.now in
-    let p1 = c.tick.new.pass in
-    let inside = c.pass.inside in
-    let version = pass_state inside.version in
-    let versions = versions_of inside.version in
-    let v = c.plan.new.counters in
-    let w = c.hold.new.counters in
-    let p2 = pass_with versions version inside.counters inside.refused in
-    let rest : KeepsAllButVersion p1 p2 = subst (KeepsAllButVersion p1) (sym c.pass.view_is) c.renew.ensures.rest in
-    let fs = founds c.plan.new.scratch.asked.items in
-    let fs_are : fs ≡ map (found_for version.index request) request.descriptors
-    = c.plan.ensures.founds ∙ (λ i. map (found_for (c.index-index.ensures.same i) request) request.descriptors) in
-    let renewed : HasRenewed p1.version version = subst (λ (x : PassView). HasRenewed p1.version x.version) (sym c.pass.view_is) c.in_ok-renew.ensures.renewed in
-    let cells_are : v.cells ≡ inside.counters.cells = ap (λ (u : CountersView). u.cells) c.plan.ensures.rest in
-    let claims_are : v.claims ≡ inside.counters.claims = ap (λ (u : CountersView). u.claims) c.plan.ensures.rest in
-    let id : p2.limiter ≡ limiter.id
-    = ap (λ (x : PassView). x.limiter) rest ∙ ap (λ (x : PassView). x.limiter) c.tick.ensures.rest ∙ c.requires.pass in
-    let x = c.answer.new.counters in
-    let held = c.in-Ok.ensures.held in
-    let reply = c.answer.new.reply in
-    let number = c.version.result in
-    let answered : HasAnswered limiter number request fs reply w x
-    = subst (λ (l : List Found). HasAnswered limiter number request l reply w x) (ap founds c.as_slice.ensures.value ∙ held.founds_are) c.answer.ensures in
-    let same : record { claims = x.claims.list_id; versions = versions } ≡ p2.limiter
-    = λ i. record {
-      claims = (ap (λ (u : CountersView). u.claims.list_id) (λ j. record w { claims = answered.claims j }) ∙ c.hold.ensures.pass ∙ sym (ap (λ (l : LimiterId). l.claims) id)) i;
-      versions = versions;
-    } in
-    step_of limiter request fs reply number w x answered c.args.now p p1 p2 c.tick.ensures.offered c.tick.ensures.rest rest versions g.N.CellNaming.setup.cells
-    c.hold.new.scratch.asked.items c.hold.new.scratch.acquired.spots.items v renewed fs_are cells_are (ap (λ (t : DirectoryPassView). t.claims) claims_are) held
-    c.version.ensures same
+    let id = planned_limiter c.args.request.now c.args.now c.args.pass.now (versions_of c.pass.inside.version) (pass_state c.pass.inside.version) c.pass.inside.counters
+    c.plan.new.counters c.pass.inside.refused (fs g c) (planned g c) ∙ c.requires.pass in
+    step_of c.args.self.now c.args.request.now (fs g c) c.answer.new.reply c.version.result c.hold.new.counters c.answer.new.counters (answered g c) c.args.now c.args.pass.now
+    (versions_of c.pass.inside.version) (pass_state c.pass.inside.version) c.pass.inside.counters c.plan.new.counters c.pass.inside.refused (planned g c)
+    g.N.CellNaming.setup.cells c.hold.new.scratch.asked.items c.hold.new.scratch.acquired.spots.items c.in-Ok.ensures.held c.version.ensures
+    (c.hold.ensures.pass ∙ sym (ap (λ (l : LimiterId). l.claims) id))
 
 pub returns-in-Ok-clause-turns : goal.returns-in-Ok-clause-turns
 returns-in-Ok-clause-turns g c =
-    let limiter = c.args.self.now in
-    let request = c.args.request.now in
-    let p = c.args.pass.now in
-    let p1 = c.tick.new.pass in
-    let inside = c.pass.inside in
-    let version = pass_state inside.version in
-    let versions = versions_of inside.version in
-    let v = c.plan.new.counters in
-    let w = c.hold.new.counters in
-    let p2 = pass_with versions version inside.counters inside.refused in
-    let rest : KeepsAllButVersion p1 p2 = subst (KeepsAllButVersion p1) (sym c.pass.view_is) c.renew.ensures.rest in
-    let fs = founds c.plan.new.scratch.asked.items in
-    let fs_are : fs ≡ map (found_for version.index request) request.descriptors
-    = c.plan.ensures.founds ∙ (λ i. map (found_for (c.index-index.ensures.same i) request) request.descriptors) in
-    let x = c.answer.new.counters in
-    let held = c.in-Ok.ensures.held in
-    let reply = c.answer.new.reply in
-    let number = c.version.result in
-    let answered : HasAnswered limiter number request fs reply w x
-    = subst (λ (l : List Found). HasAnswered limiter number request l reply w x) (ap founds c.as_slice.ensures.value ∙ held.founds_are) c.answer.ensures in
-    let still = answered_still limiter request fs reply number w x answered in
-    let q = pass_with versions version x inside.refused in
-    planned_turn request c.tick.result c.args.now p p1 q versions version inside.counters v inside.refused c.tick.ensures.ticked c.tick.ensures.rest rest c.plan.ensures.rest
-    c.plan.ensures.same fs fs_are refl held.waited.ticked.added (still.ticks ∙ held.waited.ticked.ticks)
-    (λ knows others. ap (λ (t : DirectoryPassView). t.claims) answered.claims ∙ c.hold.ensures.turns knows (sym still.others ∙ others))
+    let waited = c.in-Ok.ensures.held.waited.ticked in
+    planned_turn c.args.request.now c.args.now c.args.pass.now (versions_of c.pass.inside.version) (pass_state c.pass.inside.version) c.pass.inside.counters c.plan.new.counters
+    c.pass.inside.refused (fs g c) (planned g c) c.answer.new.counters c.pass.inside.refused waited.added ((still g c).ticks ∙ waited.ticks)
+    (λ knows others. ap (λ (t : DirectoryPassView). t.claims) (answered g c).claims ∙ c.hold.ensures.turns knows (sym (still g c).others ∙ others))
 
 pub returns-in-Ok-clause-pins : goal.returns-in-Ok-clause-pins
 returns-in-Ok-clause-pins g c =
-    let limiter = c.args.self.now in
-    let request = c.args.request.now in
-    let p = c.args.pass.now in
-    let p1 = c.tick.new.pass in
-    let inside = c.pass.inside in
-    let version = pass_state inside.version in
-    let versions = versions_of inside.version in
-    let v = c.plan.new.counters in
-    let w = c.hold.new.counters in
-    let p2 = pass_with versions version inside.counters inside.refused in
-    let rest : KeepsAllButVersion p1 p2 = subst (KeepsAllButVersion p1) (sym c.pass.view_is) c.renew.ensures.rest in
-    let fs = founds c.plan.new.scratch.asked.items in
-    let fs_are : fs ≡ map (found_for version.index request) request.descriptors
-    = c.plan.ensures.founds ∙ (λ i. map (found_for (c.index-index.ensures.same i) request) request.descriptors) in
-    let x = c.answer.new.counters in
-    let held = c.in-Ok.ensures.held in
-    let reply = c.answer.new.reply in
-    let number = c.version.result in
-    let answered : HasAnswered limiter number request fs reply w x
-    = subst (λ (l : List Found). HasAnswered limiter number request l reply w x) (ap founds c.as_slice.ensures.value ∙ held.founds_are) c.answer.ensures in
-    let still = answered_still limiter request fs reply number w x answered in
-    let q = pass_with versions version x inside.refused in
-    planned_pin request c.tick.result c.args.now p p1 q versions version inside.counters v inside.refused c.tick.ensures.ticked c.tick.ensures.rest rest c.plan.ensures.rest
-    c.plan.ensures.same fs fs_are refl held.waited.ticked.added (still.ticks ∙ held.waited.ticked.ticks)
+    let waited = c.in-Ok.ensures.held.waited.ticked in
+    planned_pin c.args.request.now c.args.now c.args.pass.now (versions_of c.pass.inside.version) (pass_state c.pass.inside.version) c.pass.inside.counters c.plan.new.counters
+    c.pass.inside.refused (fs g c) (planned g c) c.answer.new.counters c.pass.inside.refused waited.added ((still g c).ticks ∙ waited.ticks)
     (λ over.
     let none = (c.hold.ensures.over over).1 in
-    (still.pins ∙ ap (λ (u : CellView). u.pairs) none, still.others ∙ ap (λ (u : CellView). u.others) none))
+    ((still g c).pins ∙ ap (λ (y : CellView). y.pairs) none, (still g c).others ∙ ap (λ (y : CellView). y.others) none))
+
+-- where they aren't
+module _ (g : Over) (c : goal.After-refuse g) where
+  abbrev rules : List Found
+  rules = founds c.plan.new.scratch.asked.items
+
+  refused_plan : IsPlanned c.args.request.now c.args.now c.args.pass.now (versions_of c.pass.inside.version) (pass_state c.pass.inside.version) c.pass.inside.counters
+      c.plan.new.counters c.pass.inside.refused rules
+  refused_plan =
+      planned_of c.args.request.now c.args.now c.args.pass.now c.tick.new.pass c.renew.new.pass (versions_of c.pass.inside.version) (pass_state c.pass.inside.version)
+      c.pass.inside.counters c.plan.new.counters c.pass.inside.refused rules c.pass.view_is c.tick.result c.tick.ensures.ticked c.tick.ensures.offered c.tick.ensures.rest
+      c.in_ok-renew.ensures.renewed c.renew.ensures.rest c.plan.ensures.rest c.plan.ensures.same c.index-index.result.now c.index-index.ensures.same c.plan.ensures.founds
 
 pub returns-in-Err-clause-step : goal.returns-in-Err-clause-step
 returns-in-Err-clause-step g c =
-    let limiter = c.args.self.now in
-    let request = c.args.request.now in
-    let p = c.args.pass.now in
-    let p1 = c.tick.new.pass in
-    let inside = c.pass.inside in
-    let version = pass_state inside.version in
-    let versions = versions_of inside.version in
-    let v = c.plan.new.counters in
-    let w = c.hold.new.counters in
-    let p2 = pass_with versions version inside.counters inside.refused in
-    let rest : KeepsAllButVersion p1 p2 = subst (KeepsAllButVersion p1) (sym c.pass.view_is) c.renew.ensures.rest in
-    let fs = founds c.plan.new.scratch.asked.items in
-    let fs_are : fs ≡ map (found_for version.index request) request.descriptors
-    = c.plan.ensures.founds ∙ (λ i. map (found_for (c.index-index.ensures.same i) request) request.descriptors) in
-    let renewed : HasRenewed p1.version version = subst (λ (x : PassView). HasRenewed p1.version x.version) (sym c.pass.view_is) c.in_ok-renew.ensures.renewed in
-    let cells_are : v.cells ≡ inside.counters.cells = ap (λ (u : CountersView). u.cells) c.plan.ensures.rest in
-    let claims_are : v.claims ≡ inside.counters.claims = ap (λ (u : CountersView). u.claims) c.plan.ensures.rest in
-    let id : p2.limiter ≡ limiter.id
-    = ap (λ (x : PassView). x.limiter) rest ∙ ap (λ (x : PassView). x.limiter) c.tick.ensures.rest ∙ c.requires.pass in
-    let refused = c.in-Err.ensures.refused in
-    let q = pass_with versions version w c.refuse.new.refused in
-    let list : w.claims.list_id ≡ inside.counters.claims.list_id = c.hold.ensures.pass ∙ sym (ap (λ (l : LimiterId). l.claims) id) in
-    let b = bounds_of g.N.CellNaming.setup.cells limiter in
-    let names = names_under request request.descriptors fs in
-    let none = subst (λ (u : CellView). HasNoPins b names c.in-Err.fault u w.cells inside.counters.claims.claims w.claims.claims) cells_are
-    (subst (λ (t : DirectoryPassView). HasNoPins b names c.in-Err.fault v.cells w.cells t.claims w.claims.claims) claims_are refused) in
-    subst (λ (f : CheckFault). HasRefused c.args.now p (but_for_claims f p q) × HasCause b request p f q) (sym c.refuse.ensures.fault)
-    (refusal_of limiter request c.args.now p p1 p2 q c.tick.ensures.offered c.tick.ensures.rest rest b
-    names fs w.cells w.claims.claims renewed fs_are refl c.in-Err.fault none
-    (λ i. record {
-      limiter = record { claims = list i; versions = versions };
-      version = version;
-      claims = w.claims.claims;
-      cells = w.cells;
-      known = w.known;
-      refused = c.refuse.ensures.refused i;
-    }))
+    let id = planned_limiter c.args.request.now c.args.now c.args.pass.now (versions_of c.pass.inside.version) (pass_state c.pass.inside.version) c.pass.inside.counters
+    c.plan.new.counters c.pass.inside.refused (rules g c) (refused_plan g c) ∙ c.requires.pass in
+    refused_of c.args.self.now c.args.request.now c.args.now c.args.pass.now (versions_of c.pass.inside.version) (pass_state c.pass.inside.version) c.pass.inside.counters
+    c.plan.new.counters c.pass.inside.refused (rules g c) (refused_plan g c) (bounds_of g.N.CellNaming.setup.cells c.args.self.now) c.hold.new.counters c.in-Err.fault
+    c.refuse.new.refused c.refuse.result c.in-Err.ensures.refused (c.hold.ensures.pass ∙ sym (ap (λ (l : LimiterId). l.claims) id)) c.refuse.ensures.refused
+    c.refuse.ensures.fault
 
 pub returns-in-Err-clause-turns : goal.returns-in-Err-clause-turns
 returns-in-Err-clause-turns g c =
-    let limiter = c.args.self.now in
-    let request = c.args.request.now in
-    let p = c.args.pass.now in
-    let p1 = c.tick.new.pass in
-    let inside = c.pass.inside in
-    let version = pass_state inside.version in
-    let versions = versions_of inside.version in
-    let v = c.plan.new.counters in
-    let w = c.hold.new.counters in
-    let p2 = pass_with versions version inside.counters inside.refused in
-    let rest : KeepsAllButVersion p1 p2 = subst (KeepsAllButVersion p1) (sym c.pass.view_is) c.renew.ensures.rest in
-    let fs = founds c.plan.new.scratch.asked.items in
-    let fs_are : fs ≡ map (found_for version.index request) request.descriptors
-    = c.plan.ensures.founds ∙ (λ i. map (found_for (c.index-index.ensures.same i) request) request.descriptors) in
-    let refused = c.in-Err.ensures.refused in
-    let q = pass_with versions version w c.refuse.new.refused in
-    planned_turn request c.tick.result c.args.now p p1 q versions version inside.counters v inside.refused c.tick.ensures.ticked c.tick.ensures.rest rest c.plan.ensures.rest
-    c.plan.ensures.same fs fs_are refl refused.waited.ticked.added refused.waited.ticked.ticks c.hold.ensures.turns
+    let waited = c.in-Err.ensures.refused.waited.ticked in
+    planned_turn c.args.request.now c.args.now c.args.pass.now (versions_of c.pass.inside.version) (pass_state c.pass.inside.version) c.pass.inside.counters c.plan.new.counters
+    c.pass.inside.refused (rules g c) (refused_plan g c) c.hold.new.counters c.refuse.new.refused waited.added waited.ticks c.hold.ensures.turns
 
 pub returns-in-Err-clause-pins : goal.returns-in-Err-clause-pins
 returns-in-Err-clause-pins g c =
-    let limiter = c.args.self.now in
-    let request = c.args.request.now in
-    let p = c.args.pass.now in
-    let p1 = c.tick.new.pass in
-    let inside = c.pass.inside in
-    let version = pass_state inside.version in
-    let versions = versions_of inside.version in
-    let v = c.plan.new.counters in
-    let w = c.hold.new.counters in
-    let p2 = pass_with versions version inside.counters inside.refused in
-    let rest : KeepsAllButVersion p1 p2 = subst (KeepsAllButVersion p1) (sym c.pass.view_is) c.renew.ensures.rest in
-    let fs = founds c.plan.new.scratch.asked.items in
-    let fs_are : fs ≡ map (found_for version.index request) request.descriptors
-    = c.plan.ensures.founds ∙ (λ i. map (found_for (c.index-index.ensures.same i) request) request.descriptors) in
-    let refused = c.in-Err.ensures.refused in
-    let q = pass_with versions version w c.refuse.new.refused in
-    planned_pin request c.tick.result c.args.now p p1 q versions version inside.counters v inside.refused c.tick.ensures.ticked c.tick.ensures.rest rest c.plan.ensures.rest
-    c.plan.ensures.same fs fs_are refl refused.waited.ticked.added refused.waited.ticked.ticks
+    let waited = c.in-Err.ensures.refused.waited.ticked in
+    planned_pin c.args.request.now c.args.now c.args.pass.now (versions_of c.pass.inside.version) (pass_state c.pass.inside.version) c.pass.inside.counters c.plan.new.counters
+    c.pass.inside.refused (rules g c) (refused_plan g c) c.hold.new.counters c.refuse.new.refused waited.added waited.ticks
     (λ over. absurd (not_both c.hold.result c.in-Err.fault c.in-Err.is (c.hold.ensures.over over).0))
