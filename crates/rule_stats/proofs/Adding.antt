@@ -173,7 +173,7 @@ set_at xs i j y d h = by (cases_eq i j)
     by (inr other) = rw (other_number i j other) (get_or-set_other xs i j y d (λ is. other (sym is)))
 
 -- an item that is there, whatever would stand for it
-any_default : {X : Type 0} → (xs : List X) (i : ℕ) (d e : X) → i < length xs → get_or xs i d ≡ get_or xs i e
+pub any_default : {X : Type 0} → (xs : List X) (i : ℕ) (d e : X) → i < length xs → get_or xs i d ≡ get_or xs i e
 any_default [] i d e h = absurd (omega (arith, h))
 any_default (x ∷ xs) zero d e h = refl
 any_default (x ∷ xs) (suc i) d e h = any_default xs i d e (omega (arith, h))

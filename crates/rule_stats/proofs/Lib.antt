@@ -1,3 +1,4 @@
 pub mod Hits
 pub mod Places
 pub mod Adding
+pub mod Merging

@@ -42,7 +42,7 @@ impl RuleNumbers {
     /// These numbers and others, each added to its own. They count so few statuses that no sum is too great.
     pub(crate) fn plus(&self, other: &RuleNumbers) -> RuleNumbers
         requires these { IsBelow (2 ^ 26) self.now }
-        requires others { IsBelow 1 other.now }
+        requires others { IsBelow (2 ^ 26) other.now }
         ensures { result ≡ plus self.now other.now }
     {
         RuleNumbers {

@@ -1,5 +1,6 @@
 // The numbers of the rules of all versions.
 ghost use Rattle.std.specs.Prelude.{◌≡◌, ◌≤◌, ℕ, OnOk, [], get_or, length};
+ghost use Rattle.rule_stats.specs.Sums.{plus, numbers_at, AllBelow};
 
 use crate::numbers::numbers_of;
 use crate::texts::push_versions;
@@ -24,6 +25,24 @@ fn reach_version(
 {
     'places: for _ in versions.len()..wanted {
         versions.push(VersionNumbers::new(alloc))?;
+    }
+    Ok(())
+}
+
+// Adds the numbers of other versions, each to those of the same version.
+fn merge_versions(
+    alloc: Global,
+    versions: &mut Vec<VersionNumbers>,
+    others: &[VersionNumbers],
+) -> Result<(), OutOfMemory>
+    requires these { AllBelow MOST_NOTES versions.old.items }
+    requires others { AllBelow MOST_NOTES others.now }
+    ensures sums { OnOk result ((version rule : ℕ) → numbers_at versions.new.items version rule
+        ≡ plus (numbers_at versions.old.items version rule) (numbers_at others.now version rule)) }
+{
+    reach_version(alloc, versions, others.len())?;
+    'places: for place in 0..others.len() {
+        versions[place].merge(&others[place])?;
     }
     Ok(())
 }
@@ -86,6 +105,26 @@ impl Tally {
         self.versions[version as usize].add(rule.0, numbers)?;
         self.notes += 1;
         Ok(())
+    }
+
+    /// The numbers of both tallies: those of the statuses that were added to this one, and of those that were added to the other.
+    pub fn merge(self, other: &Tally) -> Result<Tally, OutOfMemory>
+        requires room { self.notes + other.now.notes ≤ MOST_NOTES }
+        ensures sums { IfOk result (λ t. (mine others : List Note) → AreSums mine self.versions → AreSums others other.now.versions
+            → AreSums (mine ++ others) t.versions) }
+        ensures notes { IfOk result (λ t. t.notes ≡ self.notes + other.now.notes) }
+    {
+        let Tally {
+            alloc,
+            mut versions,
+            notes,
+        } = self;
+        merge_versions(alloc, &mut versions, &other.versions)?;
+        Ok(Tally {
+            alloc,
+            versions,
+            notes: notes + other.notes,
+        })
     }
 
     /// The texts of the rules that counted anything, by version and then by rule, without line feeds.

@@ -36,6 +36,19 @@ fn reach_rule(rules: &mut Vec<RuleNumbers>, wanted: usize) -> Result<(), OutOfMe
     Ok(())
 }
 
+// Adds numbers to others, each to those at its place.
+fn add_each(rules: &mut [RuleNumbers], others: &[RuleNumbers])
+    requires these { AreBelow MOST_NOTES rules.old }
+    requires others { AreBelow MOST_NOTES others.now }
+    requires there { length others.now ≤ length rules.old }
+    ensures sums { (r : ℕ) → get_or rules.new r nothing ≡ plus (get_or rules.old r nothing) (get_or others.now r nothing) }
+{
+    'places: for place in 0..others.len() {
+        let sum = rules[place].plus(&others[place]);
+        rules[place] = sum;
+    }
+}
+
 impl VersionNumbers {
     /// Numbers of no rule.
     pub(crate) fn new(alloc: Global) -> VersionNumbers
@@ -57,6 +70,17 @@ impl VersionNumbers {
         reach_rule(&mut self.rules, rule as usize + 1)?;
         let sum = self.rules[rule as usize].plus(&numbers);
         self.rules[rule as usize] = sum;
+        Ok(())
+    }
+
+    /// Adds the numbers of the same version in another tally, each to those of its rule.
+    pub(crate) fn merge(&mut self, other: &VersionNumbers) -> Result<(), OutOfMemory>
+        requires these { AreBelow MOST_NOTES self.old }
+        requires others { AreBelow MOST_NOTES other.now }
+        ensures sums { OnOk result ((r : ℕ) → get_or self.new r nothing ≡ plus (get_or self.old r nothing) (get_or other.now r nothing)) }
+    {
+        reach_rule(&mut self.rules, other.rules.len())?;
+        add_each(&mut self.rules, &other.rules);
         Ok(())
     }
 
