@@ -1,12 +1,15 @@
 // `drive`: a script, run by several workers.
-ghost use Rattle.std.specs.Prelude.{◌≡◌, ◌≤◌, IfOk, length, map, string_bytes};
+ghost use Rattle.std.specs.Prelude.{◌≡◌, ◌≤◌, IfOk, List, length, map, string_bytes, true};
 ghost use Rattle.rate_types.specs.declared.limits.TheConstants.{MOST_LINES};
 ghost use Rattle.rate_io.specs.Events.{Grew};
 ghost use Rattle.descriptor_tree.specs.Views.{config_view};
 ghost use Rattle.text_lines.specs.Lines.{cut};
 ghost use Rattle.cli_exits.specs.World.{exit_of};
 ghost use Rattle.cli_exits.specs.Parts.{IsOfOutput};
-ghost use Rattle.script_text.specs.Views.{script_view};
+ghost use Rattle.reply_text.specs.declared.record.Record.{Record};
+ghost use Rattle.rule_stats.specs.Sums.{AreSums};
+ghost use Rattle.run_stats.specs.RunStats.{notes_of};
+ghost use Rattle.script_run.specs.ScriptLine.{ScriptLine};
 ghost use Rattle.cli_drive.specs.Driven.{IsRunText, HasStats};
 
 use crate::run_pieces::RunPieces;
@@ -15,9 +18,8 @@ use descriptor_tree::Config;
 use drive_run::{Setup, drive_script};
 use rate_io::Sink;
 use rate_types::OutOfMemory;
+use rule_stats::Tally;
 use run_lines::RunLines;
-use run_stats::stats_texts;
-use script_run::RunRecords;
 use script_text::{Script, ScriptFault};
 use std::alloc::Global;
 use std::sync::{Arc, Wait};
@@ -25,17 +27,13 @@ use std::thread::Threads;
 use worker_run::Gate;
 
 // The texts of the statistics of a run, where they are asked for.
-fn stats_of(
-    alloc: Global,
-    script: &Script,
-    records: &RunRecords,
-    stats: bool,
-) -> Result<Vec<String>, OutOfMemory>
-    requires { length records.now ≡ length (script_view script.now) }
-    ensures { IfOk result (λ texts. HasStats stats (script_view script.now) records.now (map (λ t. string_bytes t) texts.items)) }
+fn stats_of(alloc: Global, tally: &Tally, stats: bool) -> Result<Vec<String>, OutOfMemory>
+    ensures { IfOk result (λ texts. (lines : List ScriptLine) (records : List Record)
+        → (stats ≡ true → AreSums (notes_of lines records) tally.now.versions)
+        → HasStats stats lines records (map (λ t. string_bytes t) texts.items)) }
 {
     if stats {
-        stats_texts(alloc, script, records)
+        tally.texts()
     } else {
         Ok(Vec::new(alloc))
     }
@@ -61,9 +59,9 @@ fn driven_lines<R: Threads + Wait + Sync, G: Gate>(
         Err(ScriptFault::OutOfMemory) => return Err(OutOfMemory),
     };
     let config = Arc::new(alloc, config)?;
-    let driven = drive_script(rt, alloc, &script, config, setup, gate)?;
+    let driven = drive_script(rt, alloc, &script, config, setup, stats, gate)?;
     let records = driven.records.in_order(alloc)?;
-    let texts = stats_of(alloc, &script, &records, stats)?;
+    let texts = stats_of(alloc, &driven.tally, stats)?;
     let lines = RunLines::make(alloc, records, driven.totals.items(), texts)?;
     Ok(lines)
 }

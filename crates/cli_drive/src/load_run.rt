@@ -40,7 +40,7 @@ pub fn run_load<G: Gate, R: Threads + Wait + Sync>(
         global_shadow: false,
         seed,
     };
-    let driven = drive_script(rt, alloc, &load, config, setup, gate)?;
+    let driven = drive_script(rt, alloc, &load, config, setup, false, gate)?;
     let text = summary(alloc, driven.records)?;
     Ok(text)
 }

@@ -85,6 +85,7 @@ fn run<N: CellNaming + Send + Sync, G: Gate, R: Abort + RandomSource + Threads +
         passes,
         &script,
         Seconds::capped(0),
+        false,
         gate,
     )?;
     let [total] = finished.totals.items() else {

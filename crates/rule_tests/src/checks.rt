@@ -134,7 +134,7 @@ fn run<R: RandomSource + Threads + Wait + Sync>(
     let bytes = bytes_of(alloc, script)?;
     let script = Script::read(alloc, bytes.as_bytes())?;
     let config = config(alloc, limit)?;
-    let driven = drive_script(rt, alloc, &script, config, setup, &Open)?;
+    let driven = drive_script(rt, alloc, &script, config, setup, false, &Open)?;
     told(alloc, driven.records, driven.totals.items())
 }
 

@@ -1,16 +1,13 @@
 -- Statuses of checks and of lines, behind those of the ones before them.
-use Rattle.std.proofs.Common.{◌≡◌, ℕ, zero, suc, ◌+◌, ◌<◌, ◌≤◌, ◌⊎◌, inl, inr, List, [], ◌∷◌, ◌++◌, take, length, get_or, Some, refl, ap, sym, ◌∙◌, arith, append_assoc, slice_get, unwrap_or, subst}
-use Rattle.std.proofs.lemmas.List.{append-nil}
+use Rattle.std.proofs.Common.{◌≡◌, ℕ, zero, suc, ◌+◌, ◌<◌, ◌≤◌, ◌⊎◌, inl, inr, List, [], ◌∷◌, ◌++◌, take, length, get_or, refl, ap, sym, ◌∙◌, arith, append_assoc, unwrap_or, subst}
 use Rattle.rate_types.specs.Requests.{RequestParts}
 use Rattle.rate_types.specs.declared.request.Descriptor.{Descriptor}
 use Rattle.rls_core.specs.Reply.{hits_of}
 use Rattle.rls_core.specs.declared.status.Status.{Status}
-use Rattle.reply_text.specs.declared.record.Record.{Record}
-use Rattle.script_run.specs.ScriptLine.{ScriptLine}
 use Rattle.rule_stats.specs.declared.numbers.RuleNumbers.{RuleNumbers}
 use Rattle.rule_stats.specs.Statistics.{Note}
 use Rattle.rule_stats.specs.Sums.{AreSums}
-use Rattle.run_stats.specs.RunStats.{notes_of_check, notes_shown, notes_of}
+use Rattle.run_stats.specs.RunStats.{notes_of_check}
 
 one_behind : (n : ℕ) → suc n ≡ n + 1
 one_behind n = omega arith
@@ -57,35 +54,3 @@ module _ (version : ℕ) (request : RequestParts) where
       ap (λ (ns : List Note). record { version = version; hits = hits_of request d; status = s } ∷ ns) (all_notes ds ss p (inl (omega (arith, h))))
   all_notes (d ∷ ds) (s ∷ ss) (suc p) (inr h) =
       ap (λ (ns : List Note). record { version = version; hits = hits_of request d; status = s } ∷ ns) (all_notes ds ss p (inr (omega (arith, h))))
-
-some_same : (m l : ScriptLine) → Some m ≡ Some l → m ≡ l
-some_same m l is = cc
-
-next_line : (ls : List ScriptLine) (rs : List Record) (p : ℕ) (l : ScriptLine) (r : Record) → p < length rs → slice_get ls p ≡ Some l
-    → r ≡ get_or rs p r
-    → notes_of (take (suc p) ls) (take (suc p) rs) ≡ notes_of (take p ls) (take p rs) ++ notes_shown l r.version r.outcome
-next_line [] rs zero l r k is this = cc
-next_line [] rs (suc p) l r k is this = cc
-next_line (m ∷ ls) [] p l r k is this = absurd (omega (arith, k))
-next_line (m ∷ ls) (q ∷ rs) zero l r k is this =
-    append-nil (notes_shown m q.version q.outcome) ∙ rw (this, some_same m l is) refl
-next_line (m ∷ ls) (q ∷ rs) (suc p) l r k is this =
-    ap (λ (ns : List Note). notes_shown m q.version q.outcome ++ ns) (next_line ls rs p l r (omega (arith, k)) is this)
-    ∙ sym (append_assoc (notes_shown m q.version q.outcome) (notes_of (take p ls) (take p rs)) (notes_shown l r.version r.outcome))
-
--- One line more: with these its statuses are summed up too.
-pub line_sums : (ls : List ScriptLine) (rs : List Record) (p : ℕ) (l : ScriptLine) (r : Record) → p < length rs → slice_get ls p ≡ Some l
-    → r ≡ get_or rs p r → (versions : List (List RuleNumbers))
-    → AreSums (notes_of (take p ls) (take p rs) ++ notes_shown l r.version r.outcome) versions
-    → AreSums (notes_of (take (p + 1) ls) (take (p + 1) rs)) versions
-line_sums ls rs p l r k is this versions are =
-    subst (λ (n : ℕ). AreSums (notes_of (take n ls) (take n rs)) versions) (one_behind p)
-    (subst (λ (ns : List Note). AreSums ns versions) (sym (next_line ls rs p l r k is this)) are)
-
--- at their end these are all lines
-pub all_lines : (ls : List ScriptLine) (rs : List Record) (p : ℕ) → length ls ≤ p → notes_of (take p ls) (take p rs) ≡ notes_of ls rs
-all_lines [] rs zero h = refl
-all_lines [] rs (suc p) h = refl
-all_lines (l ∷ ls) rs zero h = absurd (omega (arith, h))
-all_lines (l ∷ ls) [] (suc p) h = refl
-all_lines (l ∷ ls) (r ∷ rs) (suc p) h = ap (λ (ns : List Note). notes_shown l r.version r.outcome ++ ns) (all_lines ls rs p (omega (arith, h)))

@@ -36,7 +36,7 @@ fn add_check(
 }
 
 /// Adds what an answered check shows. Another line adds nothing.
-pub(crate) fn add_line(tally: &mut Tally, line: &Line, rec: &Record) -> Result<(), OutOfMemory>
+pub fn add_line(tally: &mut Tally, line: &Line, rec: &Record) -> Result<(), OutOfMemory>
     requires room { tally.old.notes + MOST_DESCRIPTORS ≤ MOST_NOTES }
     ensures sums { OnOk result ((notes : List Note) → AreSums notes tally.old.versions
         → AreSums (notes ++ notes_shown (line_view line.now) rec.now.version rec.now.outcome) tally.new.versions) }

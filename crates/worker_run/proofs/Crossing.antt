@@ -12,6 +12,7 @@ use Rattle.rate_limiter.proofs.Sent.{pass_send, limiter_sync}
 use Rattle.line_numbers.proofs.batch_drawer.BatchDrawer.TheSendSync as drawer
 use Rattle.script_run.proofs.journal.Journal.TheSendSync as journal
 use Rattle.line_numbers.proofs.batches.Batches.TheSendSync as numbers
+use Rattle.rule_stats.proofs.tally.Tally.TheSendSync as tally
 use Rattle.worker_run.specs.contracts.working.Shared as shared
 use Rattle.worker_run.specs.contracts.working.Worker as worker
 use Rattle.worker_run.specs.contracts.working.Worked as worked
@@ -22,7 +23,7 @@ worker_send N naming = declared_send (worker.the_type N naming) (search sendable
 
 -- and come back
 pub worked_send : (N : RattleType) (naming : Ghosts N.Denot) → IsSend (worked.the_row N naming)
-worked_send N naming = declared_send (worked.the_type N naming) (pass_send N naming, (drawer.the_send, (journal.the_send, tt)))
+worked_send N naming = declared_send (worked.the_type N naming) (pass_send N naming, (drawer.the_send, (journal.the_send, (tally.the_send, tt))))
 
 -- threads may share what a run shares
 pub shared_sync : (l : NamedLft) (N L G : RattleType) (naming : Ghosts N.Denot) → IsSync L → IsSync G → IsSync (shared.the_row l N L G naming)
@@ -32,7 +33,7 @@ shared_sync l N L G naming x y = declared_sync (shared.the_type l N L G naming) 
     search (sendable, numbers.the_sync) depth 12,
     (
       search (sendable, x) depth 12,
-      (search (sendable, y) depth 12, (seconds.the_sync, (search sendable, tt))),
+      (search (sendable, y) depth 12, (seconds.the_sync, (search sendable, (search sendable, tt)))),
     ),
   ),
 )

@@ -1,5 +1,5 @@
 -- What workers that are done left together.
-use Rattle.std.proofs.Common.{◌≡◌, ℕ, zero, suc, ◌+◌, ◌-◌, ◌≤◌, ◌<◌, ◌==◌, List, [], ◌∷◌, ◌++◌, length, map, true, Some, None, Option, refl, sym, ap, ◌∙◌, subst, arith}
+use Rattle.std.proofs.Common.{◌≡◌, ℕ, zero, suc, ◌+◌, ◌-◌, ◌≤◌, ◌<◌, ◌==◌, List, [], ◌∷◌, ◌++◌, length, map, true, Bool, Some, None, Option, refl, sym, ap, ◌∙◌, subst, arith}
 use Rattle.std.proofs.Common.{zero-add, eq-eqb, ne_eqb}
 use Rattle.std.specs.Prelude.{All, IfOk, slice_get, slice_index_or, Result, Ok}
 use Rattle.rate_types.specs.declared.memory.OutOfMemory.{OutOfMemory}
@@ -17,6 +17,7 @@ use Rattle.rate_limiter.specs.Passes.{LimiterId, LimiterView, PassView}
 use Rattle.reply_text.specs.declared.record.Record.{Record}
 use Rattle.script_run.specs.ScriptLine.{ScriptLine}
 use Rattle.script_run.specs.Merged.{joined, on_line, EachLineOnce, Merges}
+use Rattle.run_stats.specs.RunStats.{HaveCounted}
 use Rattle.worker_run.specs.Journal.{Journal}
 use Rattle.worker_run.specs.Parts.{IsReady, AreWorkers, IsDone, AreDone}
 use Rattle.worker_run.specs.Work.{HaveRun}
@@ -82,41 +83,42 @@ module _ {N : Type 0} where
   all_ready limiter numbers n [] h = tt
   all_ready limiter numbers n (w ∷ ws) h = (h.1, all_ready limiter numbers (suc n) ws h.2)
 
+module _ {N : Type 0} (stats : Bool) where
   -- workers that are done, where what each gave is there
   pub all_done : (b : Bounds) (limiter : LimiterView) (start : ℕ) (lines : List ScriptLine) (numbers : BatchesId) (ws : List (Worker N)) (vs : List (Worked N))
       (rs : List (Result (Worked N) OutOfMemory)) → map Ok vs ≡ rs → length vs ≡ length ws
       → ((i : ℕ) (d : Result (Worked N) OutOfMemory) (e : Worker N) → i < length ws
-      → IfOk (slice_index_or rs i d) (λ v. IsDone b limiter start lines numbers (slice_index_or ws i e) v))
-      → AreDone b limiter start lines numbers ws vs
+      → IfOk (slice_index_or rs i d) (λ v. IsDone stats b limiter start lines numbers (slice_index_or ws i e) v))
+      → AreDone stats b limiter start lines numbers ws vs
   all_done b limiter start lines numbers ws vs rs same many each =
       done_each ws vs many (subst (λ l. (i : ℕ) (d : Result (Worked N) OutOfMemory) (e : Worker N) → i < length ws
-      → IfOk (slice_index_or l i d) (λ v. IsDone b limiter start lines numbers (slice_index_or ws i e) v)) (sym same) each)
+      → IfOk (slice_index_or l i d) (λ v. IsDone stats b limiter start lines numbers (slice_index_or ws i e) v)) (sym same) each)
     where
       done_each : (us : List (Worker N)) (xs : List (Worked N)) → length xs ≡ length us
           → ((i : ℕ) (d : Result (Worked N) OutOfMemory) (e : Worker N) → i < length us
-          → IfOk (slice_index_or (map Ok xs) i d) (λ v. IsDone b limiter start lines numbers (slice_index_or us i e) v))
-          → AreDone b limiter start lines numbers us xs
+          → IfOk (slice_index_or (map Ok xs) i d) (λ v. IsDone stats b limiter start lines numbers (slice_index_or us i e) v))
+          → AreDone stats b limiter start lines numbers us xs
       done_each [] [] e h = tt
       done_each [] (x ∷ xs) e h = absurd (omega (arith, e))
       done_each (u ∷ us) [] e h = absurd (omega (arith, e))
       done_each (u ∷ us) (x ∷ xs) e h = (h 0 (Ok x) u (omega arith), done_each us xs (omega (arith, e)) (λ i d f lt. h (suc i) d f (omega (arith, lt))))
 
   pub as_many : (b : Bounds) (limiter : LimiterView) (start : ℕ) (lines : List ScriptLine) (numbers : BatchesId) (ws : List (Worker N)) (vs : List (Worked N))
-      → AreDone b limiter start lines numbers ws vs → length vs ≡ length ws
+      → AreDone stats b limiter start lines numbers ws vs → length vs ≡ length ws
   as_many b limiter start lines numbers [] [] h = refl
   as_many b limiter start lines numbers [] (v ∷ vs) h = absurd h
   as_many b limiter start lines numbers (w ∷ ws) [] h = absurd h
   as_many b limiter start lines numbers (w ∷ ws) (v ∷ vs) h = ap suc (as_many b limiter start lines numbers ws vs h.1)
 
   pub drawers_here : (b : Bounds) (limiter : LimiterView) (start : ℕ) (lines : List ScriptLine) (numbers : BatchesId) (ws : List (Worker N)) (vs : List (Worked N))
-      → AreDone b limiter start lines numbers ws vs → AllByRecursion (λ d. (batches_of d ≡ numbers) × (is_done d ≡ true)) (map (λ v. v.drawer) vs)
+      → AreDone stats b limiter start lines numbers ws vs → AllByRecursion (λ d. (batches_of d ≡ numbers) × (is_done d ≡ true)) (map (λ v. v.drawer) vs)
   drawers_here b limiter start lines numbers [] [] h = tt
   drawers_here b limiter start lines numbers [] (v ∷ vs) h = absurd h
   drawers_here b limiter start lines numbers (w ∷ ws) [] h = absurd h
   drawers_here b limiter start lines numbers (w ∷ ws) (v ∷ vs) h = ((h.0.0, h.0.1.told), drawers_here b limiter start lines numbers ws vs h.1)
 
   pub passes_here : (b : Bounds) (limiter : LimiterView) (start : ℕ) (lines : List ScriptLine) (numbers : BatchesId) (ws : List (Worker N)) (vs : List (Worked N))
-      → AreDone b limiter start lines numbers ws vs → AllByRecursion (λ (p : PassView). p.limiter ≡ limiter.id) (map (λ v. v.pass) vs)
+      → AreDone stats b limiter start lines numbers ws vs → AllByRecursion (λ (p : PassView). p.limiter ≡ limiter.id) (map (λ v. v.pass) vs)
   passes_here b limiter start lines numbers [] [] h = tt
   passes_here b limiter start lines numbers [] (v ∷ vs) h = absurd h
   passes_here b limiter start lines numbers (w ∷ ws) [] h = absurd h
@@ -124,7 +126,7 @@ module _ {N : Type 0} where
 
   -- what each worker drew are the lines of its journal
   pub drawn_lines : (b : Bounds) (limiter : LimiterView) (start : ℕ) (lines : List ScriptLine) (numbers : BatchesId) (ws : List (Worker N)) (vs : List (Worked N)) (n : ℕ)
-      → AreDone b limiter start lines numbers ws vs
+      → AreDone stats b limiter start lines numbers ws vs
       → total (λ (d : BatchDrawer). times n (given d)) (map (λ v. v.drawer) vs) ≡ total (on_line (n + 1)) (joined (map (λ v. v.journal) vs))
   drawn_lines b limiter start lines numbers [] [] n h = refl
   drawn_lines b limiter start lines numbers [] (v ∷ vs) n h = absurd h
@@ -137,7 +139,7 @@ module _ {N : Type 0} where
       omega arith
 
   pub all_within : (b : Bounds) (limiter : LimiterView) (start : ℕ) (lines : List ScriptLine) (numbers : BatchesId) (ws : List (Worker N)) (vs : List (Worked N))
-      → AreDone b limiter start lines numbers ws vs → AllByRecursion (λ r. (1 ≤ r.line) × (r.line ≤ length lines)) (joined (map (λ v. v.journal) vs))
+      → AreDone stats b limiter start lines numbers ws vs → AllByRecursion (λ r. (1 ≤ r.line) × (r.line ≤ length lines)) (joined (map (λ v. v.journal) vs))
   all_within b limiter start lines numbers [] [] h = tt
   all_within b limiter start lines numbers [] (v ∷ vs) h = absurd h
   all_within b limiter start lines numbers (w ∷ ws) [] h = absurd h
@@ -147,7 +149,7 @@ module _ {N : Type 0} where
 
   -- each worker's journal
   pub journal_at : (b : Bounds) (limiter : LimiterView) (start : ℕ) (lines : List ScriptLine) (id : LimiterId) (numbers : BatchesId) (n : ℕ) (ws : List (Worker N))
-      (vs : List (Worked N)) → AreWorkers id numbers n ws → AreDone b limiter start lines numbers ws vs → (i : ℕ) (p : PassView) (rs : List Record) (q : PassView)
+      (vs : List (Worked N)) → AreWorkers id numbers n ws → AreDone stats b limiter start lines numbers ws vs → (i : ℕ) (p : PassView) (rs : List Record) (q : PassView)
       → get_elem? (map (λ w. w.pass) ws) i ≡ some p → get_elem? (map (λ v. v.journal) vs) i ≡ some rs → get_elem? (map (λ v. v.pass) vs) i ≡ some q
       → Journal b limiter start (n + i) lines p rs q
   journal_at b limiter start lines id numbers n [] vs a h i p rs q e f k = absurd (some-ne-none p (sym e))
@@ -165,7 +167,7 @@ module _ {N : Type 0} where
 
   -- each line was run once
   pub lines_once : (b : Bounds) (limiter : LimiterView) (start : ℕ) (lines : List ScriptLine) (numbers : BatchesId) (ws : List (Worker N)) (vs : List (Worked N)) (count : ℕ)
-      → AreDone b limiter start lines numbers ws vs → count ≡ length lines → ((n : ℕ) → IsDrawnOnce count n (total (λ (d : BatchDrawer). times n (given d)) (map (λ v. v.drawer) vs)))
+      → AreDone stats b limiter start lines numbers ws vs → count ≡ length lines → ((n : ℕ) → IsDrawnOnce count n (total (λ (d : BatchDrawer). times n (given d)) (map (λ v. v.drawer) vs)))
       → EachLineOnce (length lines) (joined (map (λ v. v.journal) vs))
   lines_once b limiter start lines numbers ws vs count h is once = record {
     once = λ n low high.
@@ -177,7 +179,7 @@ module _ {N : Type 0} where
   }
 
   in_order : (b : Bounds) (limiter : LimiterView) (start : ℕ) (lines : List ScriptLine) (numbers : BatchesId) (ws : List (Worker N)) (vs : List (Worked N))
-      → AreDone b limiter start lines numbers ws vs → (i : ℕ) (rs : List Record) → get_elem? (map (λ v. v.journal) vs) i ≡ some rs → IsRising (map (λ (r : Record). r.line - 1) rs)
+      → AreDone stats b limiter start lines numbers ws vs → (i : ℕ) (rs : List Record) → get_elem? (map (λ v. v.journal) vs) i ≡ some rs → IsRising (map (λ (r : Record). r.line - 1) rs)
   in_order b limiter start lines numbers [] [] h i rs e = absurd (some-ne-none rs (sym e))
   in_order b limiter start lines numbers [] (v ∷ vs) h i rs e = absurd h
   in_order b limiter start lines numbers (w ∷ ws) [] h i rs e = absurd h
@@ -186,7 +188,7 @@ module _ {N : Type 0} where
   in_order b limiter start lines numbers (w ∷ ws) (v ∷ vs) h (suc i) rs e = in_order b limiter start lines numbers ws vs h.1 i rs e
 
   pub have_run : (b : Bounds) (limiter : LimiterView) (start : ℕ) (lines : List ScriptLine) (numbers : BatchesId) (ws : List (Worker N)) (vs : List (Worked N))
-      (records : List Record) → AreWorkers limiter.id numbers 0 ws → AreDone b limiter start lines numbers ws vs → Merges (length lines) (map (λ v. v.journal) vs) records
+      (records : List Record) → AreWorkers limiter.id numbers 0 ws → AreDone stats b limiter start lines numbers ws vs → Merges (length lines) (map (λ v. v.journal) vs) records
       → HaveRun b limiter start lines (map (λ w. w.pass) ws) (map (λ v. v.pass) vs) records
   have_run b limiter start lines numbers ws vs records a h m = record {
     journals = map (λ v. v.journal) vs;
@@ -199,3 +201,11 @@ module _ {N : Type 0} where
     in_order = in_order b limiter start lines numbers ws vs h;
     merges = m;
   }
+
+  -- each worker's tally is that of its journal
+  pub have_counted : (b : Bounds) (limiter : LimiterView) (start : ℕ) (lines : List ScriptLine) (numbers : BatchesId) (ws : List (Worker N)) (vs : List (Worked N))
+      → AreDone stats b limiter start lines numbers ws vs → HaveCounted stats lines (map (λ v. v.journal) vs) (map (λ v. v.tally) vs)
+  have_counted b limiter start lines numbers [] [] h = tt
+  have_counted b limiter start lines numbers [] (v ∷ vs) h = absurd h
+  have_counted b limiter start lines numbers (w ∷ ws) [] h = absurd h
+  have_counted b limiter start lines numbers (w ∷ ws) (v ∷ vs) h = (h.0.2, have_counted b limiter start lines numbers ws vs h.1)

@@ -30,3 +30,4 @@ pub mod OneWorker
 pub mod InTurn
 pub mod Whole
 pub mod Crossing
+pub mod Tallied

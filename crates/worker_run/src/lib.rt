@@ -11,6 +11,9 @@
 //! one record, by one of the workers, and along a worker's records versions and moments never fall. [`run_script`] closes the limiter:
 //! then the records are those of a lawful run (`script_run`'s `specs/Run.antt`), and the totals are those of the records.
 //!
+//! Where statistics are asked for, each worker adds the answered checks of its journal to a tally of its own, and those of all workers are
+//! added up to the numbers of the run (`run_stats`).
+//!
 //! The limits: 1 to 64 workers, 1,048,576 lines. No clause says that workers run beside one another: a test shows it.
 #![tactic(auto)]
 
@@ -18,9 +21,10 @@ mod finishing;
 mod gate;
 mod lines;
 mod running;
+mod tallying;
 mod working;
 
 pub use finishing::{Finished, run_script};
 pub use gate::{Gate, Open};
-pub use running::run_lines;
+pub use running::{Ran, run_lines};
 pub use working::{Shared, Worked, Worker, work};

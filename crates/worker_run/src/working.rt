@@ -1,14 +1,19 @@
 // A worker that runs the lines that it draws.
-ghost use Rattle.std.specs.Prelude.{◌≡◌, ◌≤◌, ◌<◌, ◌+◌, ℕ, IfOk, length, map};
-ghost use Rattle.rate_types.specs.declared.limits.TheConstants.{MOST_LINES};
+ghost use Rattle.std.specs.Prelude.{◌≡◌, ◌≤◌, ◌<◌, ◌+◌, ◌-◌, ◌++◌, ℕ, List, IfOk, length, map, slice_get, true};
+ghost use Rattle.rate_types.specs.declared.limits.TheConstants.{MOST_DESCRIPTORS, MOST_LINES};
 ghost use Rattle.descriptor_tree.specs.Trees.{DomainTree};
 ghost use Rattle.rate_limiter.specs.Passes.{bounds_of};
 ghost use Rattle.line_numbers.specs.Batches.{batches_id, batches_of, lines_in, IsNew};
+ghost use Rattle.rule_stats.specs.declared.tally.TheConstants.{MOST_NOTES};
+ghost use Rattle.rule_stats.specs.Statistics.{Note};
+ghost use Rattle.rule_stats.specs.Sums.{AreSums};
+ghost use Rattle.run_stats.specs.RunStats.{notes_shown_by, HasCounted};
 ghost use Rattle.worker_run.specs.LineSteps.{IsRecordStep};
 ghost use Rattle.worker_run.specs.Journal.{HasWorked};
 
 use crate::gate::Gate;
 use crate::lines::run_line;
+use crate::tallying::count_line;
 use counter_cells::CellNaming;
 use json::Scratch;
 use line_numbers::{BatchDrawer, Batches};
@@ -16,6 +21,7 @@ use rate_limiter::{Limiter, Pass};
 use rate_types::{OutOfMemory, Seconds};
 use reply_text::Record;
 use rls_core::Reply;
+use rule_stats::Tally;
 use script_lines::ScriptLines;
 use script_run::Journal;
 use std::alloc::Global;
@@ -29,12 +35,14 @@ pub struct Worker<N: CellNaming> {
     pub drawer: BatchDrawer,
 }
 
-/// A worker that is done: its pass, its drawer, and the records of the lines that it drew, in order.
+/// A worker that is done: its pass, its drawer, the records of the lines that it drew, in order, and the numbers of the answered checks
+/// among them, where they were asked for.
 #[derive(Drop)]
 pub struct Worked<N: CellNaming> {
     pub pass: Pass<N>,
     pub drawer: BatchDrawer,
     pub journal: Journal,
+    pub tally: Tally,
 }
 
 /// What all workers of a run share.
@@ -46,9 +54,11 @@ pub struct Shared<'a, N: CellNaming, L: ScriptLines, G: Gate> {
     pub start: Seconds,
     /// For how many records a worker's journal has room at first.
     pub room: usize,
+    /// Whether the workers add up the statistics of the rules.
+    pub stats: bool,
 }
 
-// Reads the line with this number, counted from 0, runs it, and answers its record.
+// Reads the line with this number, counted from 0, runs it, and answers its record. Where statistics are asked for, it is counted.
 #[inline(always)]
 fn run_drawn<N: CellNaming, L: ScriptLines, G: Gate, R: Wait>(
     rt: &R,
@@ -58,15 +68,20 @@ fn run_drawn<N: CellNaming, L: ScriptLines, G: Gate, R: Wait>(
     pass: &mut Pass<N>,
     scratch: &mut Scratch,
     reply: &mut Reply,
+    tally: &mut Tally,
     number: u64,
 ) -> Result<Record, OutOfMemory>
     requires pass { pass.old.limiter ≡ run.now.limiter.now.id }
     requires lines { length (L.lines run.now.lines.now) ≤ MOST_LINES }
     requires number { number < length (L.lines run.now.lines.now) }
+    requires room { tally.old.notes + MOST_DESCRIPTORS ≤ MOST_NOTES }
     ensures pass { pass.new.limiter ≡ run.now.limiter.now.id }
     ensures line { IfOk result (λ r. r.line ≡ number + 1) }
     ensures step { IfOk result (λ r. IsRecordStep (bounds_of N.setup.cells run.now.limiter.now) run.now.limiter.now run.now.start worker
         (L.lines run.now.lines.now) pass.old r pass.new) }
+    ensures counted { IfOk result (λ r. run.now.stats ≡ true → (notes : List Note) → AreSums notes tally.old.versions
+        → AreSums (notes ++ notes_shown_by (slice_get (L.lines run.now.lines.now) (r.line - 1)) r) tally.new.versions) }
+    ensures notes { IfOk result (λ r. tally.new.notes ≤ tally.old.notes + MOST_DESCRIPTORS) }
 {
     let index = number as usize;
     let number = number as u32 + 1;
@@ -80,6 +95,7 @@ fn run_drawn<N: CellNaming, L: ScriptLines, G: Gate, R: Wait>(
         moment: pass.moment(),
         outcome,
     };
+    count_line(run.stats, tally, &line, &record)?;
     run.gate.after(worker, &line, &record, pass);
     Ok(record)
 }
@@ -98,6 +114,7 @@ pub fn work<N: CellNaming, L: ScriptLines, G: Gate, R: Wait>(
     ensures worked { IfOk result (λ w. HasWorked (bounds_of N.setup.cells run.now.limiter.now) run.now.limiter.now run.now.start
         worker.number
         (L.lines run.now.lines.now) worker.pass w.journal w.pass w.drawer) }
+    ensures counted { IfOk result (λ w. HasCounted run.now.stats (L.lines run.now.lines.now) w.journal w.tally) }
 {
     let Worker {
         number: worker,
@@ -106,6 +123,7 @@ pub fn work<N: CellNaming, L: ScriptLines, G: Gate, R: Wait>(
     } = worker;
     let mut scratch = Scratch::new(alloc);
     let mut reply = Reply::new();
+    let mut tally = Tally::new(alloc);
     let mut journal = Journal::with_room(alloc, run.room)?;
     'lines: while let Some(number) = run.numbers.draw(&mut drawer) {
         let record = run_drawn(
@@ -116,6 +134,7 @@ pub fn work<N: CellNaming, L: ScriptLines, G: Gate, R: Wait>(
             &mut pass,
             &mut scratch,
             &mut reply,
+            &mut tally,
             number,
         )?;
         journal.push(record)?;
@@ -124,5 +143,6 @@ pub fn work<N: CellNaming, L: ScriptLines, G: Gate, R: Wait>(
         pass,
         drawer,
         journal,
+        tally,
     })
 }

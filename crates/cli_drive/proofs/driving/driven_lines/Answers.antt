@@ -1,10 +1,12 @@
-use Rattle.std.proofs.Common.{◌≡◌, ◌++◌, ℕ, List, String, Bool, map, length, string_bytes, ap, sym, ◌∙◌, subst}
+use Rattle.std.proofs.Common.{◌≡◌, ◌++◌, ℕ, List, String, true, map, string_bytes, ap, ◌∙◌, subst}
 use Rattle.std.specs.Arc.{arc_value}
 use Rattle.std.specs.declared.alloc.Global.{Global}
 use Rattle.descriptor_tree.specs.Trees.{DomainTree}
 use Rattle.descriptor_tree.specs.Views.{config_view}
 use Rattle.reply_text.specs.declared.record.Record.{Record}
 use Rattle.script_run.specs.ScriptLine.{ScriptLine}
+use Rattle.rule_stats.specs.Sums.{AreSums}
+use Rattle.run_stats.specs.RunStats.{notes_of}
 use Rattle.script_text.specs.Script.{script_of}
 use Rattle.script_text.specs.Views.{script_view}
 use Rattle.script_run.specs.Run.{IsRun}
@@ -12,10 +14,6 @@ use Rattle.script_run.specs.Totals.{AreTotalsOf}
 use Rattle.cli_exits.specs.Output.{with_line_feed}
 use Rattle.cli_drive.specs.Driven.{lines_of, HasStats}
 use Rattle.cli_drive.proofs.driving.driven_lines.Goals as goal
-
-pub stats_of-requires : goal.stats_of-requires
-stats_of-requires g c =
-    ap (λ (rs : List Record). length rs) c.in_ok-records.ensures ∙ c.in_ok-driven.ensures.run.one_record_per_line.as_many
 
 pub returns : goal.returns
 returns g c =
@@ -36,8 +34,9 @@ returns g c =
       sums = subst (λ (ls : List ScriptLine). AreTotalsOf c.args.setup.start ls c.in_ok-driven.driven.records c.in_ok-driven.driven.totals) script
           c.in_ok-driven.ensures.totals;
       numbers = texts;
-      counted = subst (λ (ls : List ScriptLine). HasStats c.args.stats ls c.in_ok-driven.driven.records texts) script
-          (subst (λ (rs : List Record). HasStats c.args.stats (script_view c.in-Ok.script) rs texts) records c.in_ok-texts.ensures);
+      counted = c.in_ok-texts.ensures (script_of c.args.bytes.now) c.in_ok-driven.driven.records
+          (subst (λ (ls : List ScriptLine). c.args.stats ≡ true → AreSums (notes_of ls c.in_ok-driven.driven.records) c.in_ok-driven.driven.tally.versions) script
+          c.in_ok-driven.ensures.counted);
       texts = c.in_ok-lines.ensures
           ∙ ap (λ (rs : List Record). lines_of rs c.items.result.now ++ map with_line_feed texts) records
           ∙ ap (λ ts. lines_of c.in_ok-driven.driven.records ts ++ map with_line_feed texts) c.items.ensures;

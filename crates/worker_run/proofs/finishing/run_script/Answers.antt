@@ -12,10 +12,10 @@ use Rattle.worker_run.proofs.finishing.run_script.Goals as goal
 pub returns-clause-run : goal.returns-clause-run
 returns-clause-run g c =
     let passes = c.args.passes.items in
-    let after = c.in_ok-records.passes.items in
+    let after = c.in_ok-records.field-0.passes.items in
     let closed = c.in_ok-closed.closed in
     let told = c.in_ok-closed.ensures in
-    is_run g.N.CellNaming.setup.cells c.args.limiter c.args.start (g.L.ScriptLines.lines c.args.lines.now) passes after c.in_ok-records.records c.in_ok-records.ensures.run
+    is_run g.N.CellNaming.setup.cells c.args.limiter c.args.start (g.L.ScriptLines.lines c.args.lines.now) passes after c.in_ok-records.field-0.records c.in_ok-records.ensures.run
     (first_version passes) (index_all (λ (p : PassView). IsNewPass (first_version passes) c.args.start p) passes c.requires.fresh)
     (c.requires.cells ∙ ap (λ (n : ℕ). new_passes n c.args.start) c.args.passes.ok.0) closed.moment
     (subst (λ (n : ℕ). TicksAreLawful n closed.moment (ticks_of (cells_of after))) (sym c.requires.start) told.ticks) closed.claims
@@ -27,10 +27,10 @@ returns-clause-run g c =
 pub returns-clause-totals : goal.returns-clause-totals
 returns-clause-totals g c =
     let passes = c.args.passes.items in
-    let after = c.in_ok-records.passes.items in
+    let after = c.in_ok-records.field-0.passes.items in
     let closed = c.in_ok-closed.closed in
     let told = c.in_ok-closed.ensures in
-    totals g.N.CellNaming.setup.cells c.args.limiter c.args.start (g.L.ScriptLines.lines c.args.lines.now) passes after c.in_ok-records.records c.in_ok-records.ensures.run
+    totals g.N.CellNaming.setup.cells c.args.limiter c.args.start (g.L.ScriptLines.lines c.args.lines.now) passes after c.in_ok-records.field-0.records c.in_ok-records.ensures.run
     (first_version passes) (index_all (λ (p : PassView). IsNewPass (first_version passes) c.args.start p) passes c.requires.fresh)
     (c.requires.cells ∙ ap (λ (n : ℕ). new_passes n c.args.start) c.args.passes.ok.0) closed.moment
     (subst (λ (n : ℕ). TicksAreLawful n closed.moment (ticks_of (cells_of after))) (sym c.requires.start) told.ticks) closed.claims

@@ -18,6 +18,6 @@ returns g c =
     let rs = c.in_ok-done.done.items in
     let many = sym (length-map vs Ok) ∙ ap length c.in_ok-workers.ensures.same ∙ sym c.in_ok-done.done.ok.0 ∙ c.in_ok-done.ensures.len ∙ c.args.workers.ok.0 in
     record {
-      done = all_done (bounds_of g.N.CellNaming.setup.cells run.limiter.now) run.limiter.now run.start (g.L.ScriptLines.lines run.lines.now) (batches_id run.numbers.now) ws vs rs
+      done = all_done run.stats (bounds_of g.N.CellNaming.setup.cells run.limiter.now) run.limiter.now run.start (g.L.ScriptLines.lines run.lines.now) (batches_id run.numbers.now) ws vs rs
           c.in_ok-workers.ensures.same many (λ i d e lt. c.in_ok-done.ensures.each i d e (omega (arith, lt, c.args.workers.ok.0)));
     }
