@@ -11,12 +11,12 @@ use Rattle.http_front.specs.declared.answer.HttpAnswer.{HttpAnswer}
 use Rattle.http_front.specs.declared.front.Front.{Front}
 use Rattle.http_front.specs.declared.asks.Method.{Method}
 use Rattle.http_front.specs.declared.front.Front.TheVariants.{Fixed, Check, Stats}
-use Rattle.http_endpoint.specs.Answers.{Asked, check, statistics, statistics_asked, Turn, closing, IsTurn}
+use Rattle.http_endpoint.specs.Answers.{Asked, check, statistics, statistics_asked, Turn, closing, IsTurn, WantsMemory}
 use Rattle.http_endpoint.specs.Printing.{Prints, PrintsResult, PrintsStats, PrintsTurn, printed_closes}
 use Rattle.http_endpoint.specs.Steps.{Tells}
 use Rattle.http_endpoint.specs.declared.turn.Printed.{Printed}
 use Rattle.http_endpoint.specs.declared.turn.Printed.TheVariants.{Text, NoMemory}
-use Rattle.http_endpoint.proofs.TurnLemmas.{may_not, given_closes, stats_sends, stats_closes, tells_none, tells_stats}
+use Rattle.http_endpoint.proofs.TurnLemmas.{may_not, given_closes, stats_sends, stats_json, stats_closes, tells_none, tells_stats}
 
 -- the turn of a front whose answer is printed
 pub record Printing (is_last : Bool) (front : Front) (asked : Option Asked) (out : List ℕ) (printed : Printed) : Type 0 where
@@ -40,7 +40,7 @@ fixed_turn is_last fixed used out (NoMemory sends_body) p = record {
   t = record { front = Fixed fixed used; asked = None; answer = plain 500 None sends_body true };
   front_is = refl;
   asked_is = refl;
-  turn = inr (record { may_ask = tt; answer = ap (λ s. plain 500 None s true) p });
+  turn = inr (record { may_ask = tt; wants = inl p.1; answer = ap (λ s. plain 500 None s true) p.0 });
   prints = record { bytes = refl; closes = refl };
 }
 
@@ -59,7 +59,7 @@ check_turn is_last request closes used now result out (NoMemory sends_body) p = 
   t = record { front = Check request closes used; asked = Some (check (record { request = request; now = now; result = result })); answer = plain 500 None sends_body true };
   front_is = refl;
   asked_is = refl;
-  turn = inr (record { may_ask = refl; answer = ap (λ s. plain 500 None s true) p });
+  turn = inr (record { may_ask = refl; wants = p.1; answer = ap (λ s. plain 500 None s true) p.0 });
   prints = record { bytes = refl; closes = refl };
 }
 
@@ -82,25 +82,25 @@ stats_turn is_last method closes used (Ok text) out (NoMemory sent) p = record {
   t = record { front = Stats method closes used; asked = Some (statistics text); answer = plain 500 None sent true };
   front_is = refl;
   asked_is = refl;
-  turn = inr (record { may_ask = tt; answer = ap (λ s. plain 500 None s true) (p ∙ stats_sends method text (closes || is_last)) });
+  turn = inr (record { may_ask = tt; wants = stats_json method text (closes || is_last) closes p.1; answer = ap (λ s. plain 500 None s true) (p.0 ∙ stats_sends method text (closes || is_last)) });
   prints = record { bytes = refl; closes = refl };
 }
 stats_turn is_last method closes used (Err e) out printed p = rw p (record {
   t = record { front = Stats method closes used; asked = None; answer = plain 500 None (sends_body method) true };
   front_is = refl;
   asked_is = refl;
-  turn = inr (record { may_ask = tt; answer = refl });
+  turn = inr (record { may_ask = tt; wants = tt; answer = refl });
   prints = record { bytes = refl; closes = refl };
 })
 
 -- 500 where memory ran out over a front
 pub memory_turn : (is_last : Bool) (front : Front) (out : List ℕ) (sends_body : Bool) → sends_body ≡ sends front
-    → Printing is_last front None out (NoMemory sends_body)
-memory_turn is_last front out sends_body same = record {
+    → WantsMemory front None → Printing is_last front None out (NoMemory sends_body)
+memory_turn is_last front out sends_body same wants = record {
   t = record { front = front; asked = None; answer = plain 500 None sends_body true };
   front_is = refl;
   asked_is = refl;
-  turn = inr (record { may_ask = may_not front; answer = ap (λ s. plain 500 None s true) same });
+  turn = inr (record { may_ask = may_not front; wants = wants; answer = ap (λ s. plain 500 None s true) same });
   prints = record { bytes = refl; closes = refl };
 }
 

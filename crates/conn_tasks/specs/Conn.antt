@@ -1,5 +1,5 @@
 -- Inside: what is seen of the parts of a connection.
-use Rattle.std.specs.Prelude.{◌≡◌, ℕ, List, [], Bool, true, false, Option, Some, None, ⊤, string_bytes}
+use Rattle.std.specs.Prelude.{◌≡◌, ℕ, List, [], Bool, true, false, Option, Some, None, ⊤}
 use Rattle.conn_tasks.specs.State.{TaskState}
 use Rattle.conn_tasks.specs.declared.poll_link.PollLink.{Ghosts}
 use Rattle.conn_tasks.specs.declared.conn.Conn.{Conn}
@@ -14,7 +14,7 @@ kept_in (Some room) = room.inbox
 
 abbrev pub text_in : Option Room → List ℕ
 text_in None = []
-text_in (Some room) = string_bytes room.out
+text_in (Some room) = room.out
 
 -- in the midst of an answer it has a room
 abbrev pub needs_room : Mode → Bool
@@ -49,7 +49,7 @@ module _ {N : Type 0} {link : Ghosts N} where
 
   -- while a room is lent to it
   abbrev pub seen_in : Conn N link → Room → TaskState
-  seen_in c room = seen_with c room.inbox (string_bytes room.out)
+  seen_in c room = seen_with c room.inbox room.out
 
   -- between its turns
   abbrev pub seen : Conn N link → TaskState

@@ -2,6 +2,7 @@
 use Rattle.std.specs.Prelude.{◌≡◌, ℕ, ◌<◌, ◌≤◌, Bool, true, false, List, [], ◌++◌, length, drop, if◌then◌else◌}
 use Rattle.rate_io.specs.Causes.{Rose}
 use Rattle.rate_io.specs.Events.{Event, given}
+use Rattle.http_front.specs.Head.{head_max}
 use Rattle.http_front.specs.Front.{IsFront, is_waiting, sends, used_of}
 use Rattle.http_front.specs.Part.{Stands}
 use Rattle.http_front.specs.declared.front.Front.{Front}
@@ -35,11 +36,11 @@ pub record IsAwaited (bytes : List ℕ) (total : ℕ) (sends_body : Bool) : Type
   pub later : (more : List ℕ) → total ≤ length (bytes ++ more)
       → (front : Front) × Stands (bytes ++ more) front × (used_of front ≡ total) × (sends_body ≡ sends front)
 
--- these are the bytes behind the last answer, of which those are kept
+-- These are the bytes behind the last answer, of which those are kept. Only a request of more bytes than a head may have isn't kept.
 abbrev pub Holds : List ℕ → Awaited → List ℕ → Type 0
 Holds bytes Head kept = bytes ≡ kept
 Holds bytes (Body total sends_body) kept = (bytes ≡ kept) × IsAwaited bytes total sends_body
-Holds bytes (Dropped have total sends_body) kept = (length bytes ≡ have) × IsAwaited bytes total sends_body
+Holds bytes (Dropped have total sends_body) kept = (length bytes ≡ have) × IsAwaited bytes total sends_body × (head_max < total)
 
 -- what is found without reading
 abbrev pub Looks : List ℕ → Awaited → List ℕ → Look → Type 0

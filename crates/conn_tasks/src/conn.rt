@@ -112,7 +112,7 @@ impl<N: PollLink + Drop> Conn<N> {
         ensures mode { StandsAfter result self.new.mode }
         ensures waits { self.old.link.waits ≤ self.new.link.waits }
     {
-        let piece = self.printed.bytes(&room.out);
+        let piece = self.printed.bytes(room.out.text());
         match put_on(&mut self.link, piece, &mut self.sent) {
             Put::Wait => Step::Wait,
             Put::Failed => {

@@ -1,4 +1,4 @@
-use http_endpoint::Inbox;
+use http_endpoint::{Inbox, Page};
 use rate_types::OutOfMemory;
 use std::alloc::Global;
 
@@ -6,17 +6,17 @@ use std::alloc::Global;
 #[derive(Drop)]
 pub struct Room {
     pub inbox: Inbox,
-    pub out: String,
+    pub out: Page,
 }
 
 impl Room {
-    ghost use Rattle.std.specs.Prelude.{◌≡◌, [], true, IfOk, string_bytes};
+    ghost use Rattle.std.specs.Prelude.{◌≡◌, [], true, IfOk};
     ghost use Rattle.std.specs.Option.{is_some};
 
     /// An empty one.
     pub fn make(alloc: Global) -> Result<Room, OutOfMemory> {
         let inbox = Inbox::make(alloc)?;
-        let out = String::with_capacity(alloc, 1_024)?;
+        let out = Page::make(alloc)?;
         Ok(Room { inbox, out })
     }
 
@@ -33,7 +33,7 @@ impl Room {
     /// Nothing is in it.
     pub fn clear(&mut self)
         ensures inbox { self.new.inbox ≡ [] }
-        ensures out { string_bytes self.new.out ≡ [] }
+        ensures out { self.new.out ≡ [] }
     {
         self.inbox.clear();
         self.out.clear();

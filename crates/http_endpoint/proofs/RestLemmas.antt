@@ -1,12 +1,14 @@
 -- What comes of a request whose rest is still to come.
-use Rattle.std.proofs.Common.{◌≡◌, ℕ, ◌+◌, ◌<◌, Bool, true, false, List, [], ◌++◌, length, refl, sym, ap, ◌∙◌, subst, append-nil, length-append, arith, if◌then◌else◌}
+use Rattle.std.proofs.Common.{◌≡◌, ℕ, ◌+◌, ◌<◌, ◌≤◌, Bool, true, false, List, [], ◌++◌, length, refl, sym, ap, ◌∙◌, subst, append-nil, length-append, arith, if◌then◌else◌, Option, None, inl, inr}
 use Rattle.std.proofs.lemmas.List.{drop_all}
 use Rattle.rate_io.specs.Events.{Event, given}
 use Rattle.rate_io.specs.Links.{LinkState}
-use Rattle.http_front.specs.Front.{IsFront, is_waiting, used_of}
+use Rattle.http_front.specs.Head.{head_max}
+use Rattle.http_front.specs.Front.{IsFront, is_waiting, has_json, used_of}
 use Rattle.http_front.specs.Part.{Stands, EndsAt, NeedsMemory}
 use Rattle.http_front.specs.declared.front.Front.{Front}
-use Rattle.http_front.specs.declared.front.Front.TheVariants.{Ended, CutShort}
+use Rattle.http_front.specs.declared.front.Front.TheVariants.{Ended, CutShort, Fixed, Check, Stats}
+use Rattle.http_endpoint.specs.Answers.{WantsMemory}
 use Rattle.http_endpoint.specs.Order.{Waits}
 use Rattle.http_endpoint.specs.Steps.{WaitsUntil, Drew, Awaits, IsWhole, Comes, ComesTo, Finds, FoundEnd, HeadFinds}
 use Rattle.http_endpoint.specs.declared.next.Next.{Next}
@@ -23,9 +25,32 @@ pub head_end : (bytes : List ℕ) (old new : LinkState) (events : List Event) (i
 head_end bytes old new events true p e = (p, e)
 head_end bytes old new events false p e = (p, e)
 
+-- a JSON body takes memory
+json_wants : (front : Front) → has_json front ≡ true → WantsMemory front None
+json_wants (Fixed fixed used) x = inl x
+json_wants (Check request closes used) x = tt
+json_wants (Stats method closes used) x = absurd (cc)
+json_wants Ended x = absurd (cc)
+json_wants CutShort x = absurd (cc)
+
+-- so does a request of more bytes than a head may have
+pub long_wants : (front : Front) → is_waiting front ≡ false → head_max < used_of front → WantsMemory front None
+long_wants (Fixed fixed used) settled x = inr x
+long_wants (Check request closes used) settled x = tt
+long_wants (Stats method closes used) settled x = tt
+long_wants Ended settled x = absurd (cc)
+long_wants CutShort settled x = absurd (cc)
+
 -- want of memory over a JSON body
 pub memory_awaits : (bytes : List ℕ) → NeedsMemory bytes → Awaits bytes true
-memory_awaits bytes x = (x.0, x.1, sym x.3)
+memory_awaits bytes x = (x.0, x.1, sym x.3, json_wants x.0 x.2)
+
+-- a request that isn't whole is cut short where the input ends
+pub short_body : (bytes : List ℕ) (total : ℕ) (sent : Bool) → EndsAt bytes total sent → total ≤ 16384 → IsFront bytes CutShort × (length bytes < head_max)
+short_body bytes total sent e few = (
+  subst (λ (ys : List ℕ). IsFront ys CutShort) (append-nil bytes) (e.until [] (omega (arith, e.short, length-append bytes []))),
+  omega (arith, e.short, few),
+)
 
 -- ---- a request that is whole
 
@@ -73,13 +98,14 @@ rest_comes bytes unread old new events next.ReadFault p = absurd p
 
 -- it came and was not kept
 pub rest_dropped : (old unread : List ℕ) (total : ℕ) (sent : Bool) (a b : LinkState) (events : List Event) (found : Next)
-    → EndsAt old total sent → ComesTo total (length old + length (given events)) sent a b events found → Finds (old ++ given events) unread a b events found
-rest_dropped old unread total sent a b events (next.NoMemory said) e p =
-    let f = e.later (given events) (omega (arith, p.0, length-append old (given events))) in (f.0, f.1, p.1 ∙ f.3)
-rest_dropped old unread total sent a b events next.CutShort e p = (e.until (given events) (omega (arith, p.1, length-append old (given events))), p.0)
-rest_dropped old unread total sent a b events next.ReadFault e p = p
-rest_dropped old unread total sent a b events next.Ended e p = absurd p
-rest_dropped old unread total sent a b events (next.Front front) e p = absurd p
+    → EndsAt old total sent → head_max < total → ComesTo total (length old + length (given events)) sent a b events found → Finds (old ++ given events) unread a b events found
+rest_dropped old unread total sent a b events (next.NoMemory said) e long p =
+    let f = e.later (given events) (omega (arith, p.0, length-append old (given events))) in
+    (f.0, f.1, p.1 ∙ f.3, long_wants f.0 f.1.settled (omega (arith, f.2, long)))
+rest_dropped old unread total sent a b events next.CutShort e long p = (e.until (given events) (omega (arith, p.1, length-append old (given events))), p.0)
+rest_dropped old unread total sent a b events next.ReadFault e long p = p
+rest_dropped old unread total sent a b events next.Ended e long p = absurd p
+rest_dropped old unread total sent a b events (next.Front front) e long p = absurd p
 
 -- it ended before
 pub rest_cut : (old read : List ℕ) (total : ℕ) (sent : Bool) → EndsAt old total sent → length old + length read < total → IsFront (old ++ read) CutShort

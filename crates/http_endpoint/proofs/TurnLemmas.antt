@@ -8,7 +8,7 @@ use Rattle.rls_core.specs.declared.reply.Reply.{Reply}
 use Rattle.rls_core.specs.declared.fault.CheckFault.{CheckFault}
 use Rattle.rls_core.specs.declared.fault.CheckFault.TheVariants as fault
 use Rattle.std.specs.Prelude.{Ok, Err, IfOk, OnErr}
-use Rattle.http_front.specs.Front.{used_of, plain, sends_body, stats_answer}
+use Rattle.http_front.specs.Front.{used_of, plain, sends_body, stats_answer, is_json}
 use Rattle.http_front.specs.Part.{Stands}
 use Rattle.http_front.specs.declared.answer.HttpAnswer.{HttpAnswer}
 use Rattle.http_front.specs.declared.front.Front.{Front}
@@ -70,7 +70,7 @@ fixed_turn answers is_last fixed used a checks out (Text closes) p = record {
 fixed_turn answers is_last fixed used a checks out (NoMemory sends_body) p = record {
   t = record { front = Fixed fixed used; asked = None; answer = plain 500 None sends_body true };
   front_is = refl;
-  turn = inr (record { may_ask = tt; answer = ap (λ s. plain 500 None s true) p });
+  turn = inr (record { may_ask = tt; wants = inl p.1; answer = ap (λ s. plain 500 None s true) p.0 });
   prints = record { bytes = refl; closes = refl };
   tells = tells_none a;
   lead = refl;
@@ -80,13 +80,13 @@ fixed_turn answers is_last fixed used a checks out (NoMemory sends_body) p = rec
 pub full_prints : (closes : Bool) (moment live held wanted : ℕ) (out : List ℕ) (printed : Printed)
     → Prints (plain 503 None true closes) out printed → PrintsResult closes (Err (fault.CountersFull moment live held wanted)) out printed
 full_prints closes moment live held wanted out (Text closed) p = (plain 503 None true closes, refl, p.0, p.1)
-full_prints closes moment live held wanted out (NoMemory sends_body) p = p
+full_prints closes moment live held wanted out (NoMemory sends_body) p = absurd (let not = p.1 in cc)
 
 -- or where the claims are spent
 pub spent_prints : (closes : Bool) (claims wanted : ℕ) (out : List ℕ) (printed : Printed)
     → Prints (plain 503 None true closes) out printed → PrintsResult closes (Err (fault.ClaimsSpent claims wanted)) out printed
 spent_prints closes claims wanted out (Text closed) p = (plain 503 None true closes, refl, p.0, p.1)
-spent_prints closes claims wanted out (NoMemory sends_body) p = p
+spent_prints closes claims wanted out (NoMemory sends_body) p = absurd (let not = p.1 in cc)
 
 -- of a check
 pub check_turn : {S : Type 0} (answers : CheckStep S) (is_last : Bool) (request : RequestParts) (closes : Bool) (used now : ℕ)
@@ -104,7 +104,7 @@ check_turn answers is_last request closes used now result a b checks after out (
 check_turn answers is_last request closes used now result a b checks after out (NoMemory sends_body) offered step p = record {
   t = record { front = Check request closes used; asked = Some (check (record { request = request; now = now; result = result })); answer = plain 500 None sends_body true };
   front_is = refl;
-  turn = inr (record { may_ask = refl; answer = ap (λ s. plain 500 None s true) p });
+  turn = inr (record { may_ask = refl; wants = p.1; answer = ap (λ s. plain 500 None s true) p.0 });
   prints = record { bytes = refl; closes = refl };
   tells = tells_one a b (record { request = request; now = now; result = result }) offered;
   lead = (after, step, refl);
@@ -125,6 +125,15 @@ stats_closes Head (Some text) closes = refl
 stats_closes Post (Some text) closes = refl
 stats_closes Other (Some text) closes = refl
 
+-- whether it is JSON doesn't hang on what comes after it
+pub stats_json : (method : Method) (text : Option (List ℕ)) (closes other : Bool)
+    → is_json (stats_answer method text closes).body ≡ true → is_json (stats_answer method text other).body ≡ true
+stats_json method None closes other x = x
+stats_json Get (Some text) closes other x = x
+stats_json Head (Some text) closes other x = x
+stats_json Post (Some text) closes other x = x
+stats_json Other (Some text) closes other x = x
+
 -- of statistics
 pub stats_turn : {S : Type 0} (answers : CheckStep S) (is_last : Bool) (method : Method) (closes : Bool) (used : ℕ)
     (came : Result (Option (List ℕ)) OutOfMemory) (a : LinkState) (checks after : S) (out : List ℕ) (printed : Printed)
@@ -141,7 +150,7 @@ stats_turn answers is_last method closes used (Ok text) a checks after out (Text
 stats_turn answers is_last method closes used (Ok text) a checks after out (NoMemory sends) step same p = record {
   t = record { front = Stats method closes used; asked = Some (statistics text); answer = plain 500 None sends true };
   front_is = refl;
-  turn = inr (record { may_ask = tt; answer = ap (λ s. plain 500 None s true) (p ∙ stats_sends method text (closes || is_last)) });
+  turn = inr (record { may_ask = tt; wants = stats_json method text (closes || is_last) closes p.1; answer = ap (λ s. plain 500 None s true) (p.0 ∙ stats_sends method text (closes || is_last)) });
   prints = record { bytes = refl; closes = refl };
   tells = tells_stats a text;
   lead = (after, step, refl);
@@ -149,7 +158,7 @@ stats_turn answers is_last method closes used (Ok text) a checks after out (NoMe
 stats_turn answers is_last method closes used (Err e) a checks after out printed step same p = rw p (record {
   t = record { front = Stats method closes used; asked = None; answer = plain 500 None (sends_body method) true };
   front_is = refl;
-  turn = inr (record { may_ask = tt; answer = refl });
+  turn = inr (record { may_ask = tt; wants = tt; answer = refl });
   prints = record { bytes = refl; closes = refl };
   tells = tells_none a;
   lead = same;
@@ -184,7 +193,7 @@ pub memory_turn : {S : Type 0} (answers : CheckStep S) (is_last : Bool) (bytes u
 memory_turn answers is_last bytes unread a checks out sends_body f = record {
   t = record { front = f.0; asked = None; answer = plain 500 None sends_body true };
   stands = f.1;
-  turn = inr (record { may_ask = may_not f.0; answer = ap (λ s. plain 500 None s true) f.2 });
+  turn = inr (record { may_ask = may_not f.0; wants = f.3; answer = ap (λ s. plain 500 None s true) f.2 });
   prints = record { bytes = refl; closes = refl };
   tells = tells_none a;
   lead = refl;

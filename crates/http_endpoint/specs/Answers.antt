@@ -1,5 +1,5 @@
 -- The answers of a connection, front by front.
-use Rattle.std.specs.Prelude.{◌≡◌, ℕ, ◌+◌, Bool, true, false, ◌||◌, ◌==◌, List, [], ◌∷◌, drop, Option, Some, None, option_to_list}
+use Rattle.std.specs.Prelude.{◌≡◌, ℕ, ◌+◌, ◌<◌, Bool, true, false, ◌||◌, ◌==◌, List, [], ◌∷◌, drop, Option, Some, None, option_to_list}
 use Rattle.std.specs.Prelude.{if◌then◌else◌, ◌⊎◌, ⊤, Result, Ok, Err}
 use Rattle.std.specs.List.{flat_map}
 use Rattle.rate_types.specs.Requests.{RequestParts}
@@ -8,7 +8,8 @@ use Rattle.rls_core.specs.declared.reply.Reply.{Reply}
 use Rattle.rls_core.specs.declared.fault.CheckFault.{CheckFault}
 use Rattle.rls_core.specs.declared.fault.CheckFault.TheVariants as fault
 use Rattle.reply_text.specs.Texts.{reply_text_of}
-use Rattle.http_front.specs.Front.{IsFront, is_waiting, sends, used_of, plain, json, stats_answer}
+use Rattle.http_front.specs.Head.{head_max}
+use Rattle.http_front.specs.Front.{IsFront, is_waiting, sends, used_of, plain, json, stats_answer, is_json}
 use Rattle.http_front.specs.Printed.{answer_bytes}
 use Rattle.http_front.specs.declared.answer.HttpAnswer.{HttpAnswer}
 use Rattle.http_front.specs.declared.front.Front.{Front}
@@ -84,9 +85,30 @@ MayAsk (Fixed fixed used) (Some asked) = ⊥
 MayAsk Ended (Some asked) = ⊥
 MayAsk CutShort (Some asked) = ⊥
 
--- 500 in the place of an answer, which closes; its body is sent just where that answer's would be
+-- a check that came to this may be answered 500: with a reply, since its text takes memory, and where memory was wanting for the check
+abbrev pub ResultWantsMemory : Result Reply CheckFault → Type 0
+ResultWantsMemory (Ok reply) = ⊤
+ResultWantsMemory (Err (fault.CountersFull moment live held wanted)) = ⊥
+ResultWantsMemory (Err (fault.ClaimsSpent claims wanted)) = ⊥
+ResultWantsMemory (Err fault.OutOfMemory) = ⊤
+
+-- The answer to a front takes memory: where it has a JSON body, where its request's JSON body is read, and where a request of more bytes
+-- than a head may have is kept. So no refusal takes any by its head alone, and of the others only that of a longer request.
+abbrev pub WantsMemory : Front → Option Asked → Type 0
+WantsMemory (Fixed fixed used) asked = (is_json fixed.body ≡ true) ⊎ (head_max < used)
+WantsMemory (Check request closes used) None = ⊤
+WantsMemory (Check request closes used) (Some (check c)) = ResultWantsMemory c.result
+WantsMemory (Check request closes used) (Some (statistics text)) = ⊥
+WantsMemory (Stats method closes used) None = ⊤
+WantsMemory (Stats method closes used) (Some (statistics text)) = is_json (stats_answer method text closes).body ≡ true
+WantsMemory (Stats method closes used) (Some (check c)) = ⊥
+WantsMemory Ended asked = ⊥
+WantsMemory CutShort asked = ⊥
+
+-- 500 in the place of an answer that takes memory, which closes; its body is sent just where that answer's would be
 pub record IsNoMemory (t : Turn) : Type 0 where
   pub may_ask : MayAsk t.front t.asked
+  pub wants : WantsMemory t.front t.asked
   pub answer : t.answer ≡ plain 500 None (sends t.front) true
 
 -- an answer of a connection, the last that may come or an earlier one

@@ -1,20 +1,23 @@
 -- Inside: what the steps of serving a connection say, whether they wait for its peer or are polled.
-use Rattle.std.specs.Prelude.{◌≡◌, ℕ, ◌+◌, ◌<◌, ◌≤◌, ◌==◌, Bool, true, false, List, [], ◌∷◌, ◌++◌, length, drop, Option}
-use Rattle.std.specs.Prelude.{option_to_list}
+use Rattle.std.specs.Prelude.{◌≡◌, ℕ, ◌+◌, ◌<◌, ◌≤◌, ◌==◌, Bool, true, false, List, [], ◌∷◌, ◌++◌, length, drop, Option, None}
+use Rattle.std.specs.Prelude.{option_to_list, if◌then◌else◌}
 use Rattle.std.specs.Io.KnownBytes.{Consumes, IsAtEnd}
 use Rattle.rate_io.specs.Causes.{Rose}
 use Rattle.rate_io.specs.Events.{Event, given, has_ended, has_failed, has_write_failed, pieces_written}
 use Rattle.rate_io.specs.Links.{LinkState, StaysLink}
 use Rattle.http_endpoint.specs.Order.{Waits, ReadsOn, told_for, OffersWithin, Calls}
+use Rattle.http_front.specs.Head.{head_max}
 use Rattle.http_front.specs.Front.{IsFront, sends, used_of}
 use Rattle.http_front.specs.Part.{Stands, EndsAt}
 use Rattle.http_front.specs.declared.front.Front.{Front}
 use Rattle.http_front.specs.declared.front.Front.TheVariants.{Ended as FrontEnded, CutShort as FrontCutShort}
-use Rattle.http_endpoint.specs.Answers.{answers_max, Asked, Turn, IsTurn, CheckStep, Lead, asked_in}
+use Rattle.http_endpoint.specs.Answers.{answers_max, Asked, Turn, IsTurn, WantsMemory, CheckStep, Lead, asked_in}
 use Rattle.http_endpoint.specs.Printing.{PrintsTurn}
 use Rattle.http_endpoint.specs.Served.{Wrote}
 use Rattle.http_endpoint.specs.declared.inbox.Filled.{Filled}
 use Rattle.http_endpoint.specs.declared.inbox.Filled.TheVariants.{More, End, Failed}
+use Rattle.http_endpoint.specs.declared.next.HeadLook.{HeadLook}
+use Rattle.http_endpoint.specs.declared.next.HeadLook.TheVariants as look
 use Rattle.http_endpoint.specs.declared.next.HeadRead.{HeadRead}
 use Rattle.http_endpoint.specs.declared.next.HeadRead.TheVariants as head
 use Rattle.http_endpoint.specs.declared.next.Next.{Next}
@@ -64,18 +67,25 @@ Completes total count old new events Failed = FailedToRead old new events
 
 -- ---- fronts
 
--- some front stands at these bytes, and the body of its answer is sent or not
+-- a front that takes memory stands at these bytes, and the body of its answer is sent or not
 abbrev pub Awaits : List ℕ → Bool → Type 0
-Awaits bytes sends_body = (front : Front) × Stands bytes front × (sends_body ≡ sends front)
+Awaits bytes sends_body = (front : Front) × Stands bytes front × (sends_body ≡ sends front) × WantsMemory front None
 
 -- a front stands at these bytes and uses them all
 abbrev pub IsWhole : List ℕ → Type 0
 IsWhole bytes = (front : Front) × Stands bytes front × (used_of front ≡ length bytes)
 
+-- what stands at these bytes; where more are read, they are fewer than a head may have
+abbrev pub Looks : List ℕ → HeadLook → Type 0
+Looks bytes (look.Whole front) = Stands bytes front
+Looks bytes (look.Long total sends_body) = EndsAt bytes total sends_body × (head_max < total)
+Looks bytes (look.NoMemory sends_body) = Awaits bytes sends_body
+Looks bytes (look.Short is_blank) = IsFront bytes (if is_blank then FrontEnded else FrontCutShort) × (length bytes < head_max)
+
 -- what the reading of a head came to, over these bytes
 abbrev pub HeadFinds : List ℕ → LinkState → LinkState → List Event → HeadRead → Type 0
 HeadFinds bytes old new events (head.Whole front) = Stands bytes front
-HeadFinds bytes old new events (head.NoBody total sends_body) = EndsAt bytes total sends_body
+HeadFinds bytes old new events (head.NoBody total sends_body) = EndsAt bytes total sends_body × (head_max < total)
 HeadFinds bytes old new events (head.NoMemory sends_body) = Awaits bytes sends_body
 HeadFinds bytes old new events head.Ended = IsFront bytes FrontEnded × FoundEnd new events
 HeadFinds bytes old new events head.CutShort = IsFront bytes FrontCutShort × FoundEnd new events

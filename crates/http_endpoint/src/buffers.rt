@@ -1,6 +1,6 @@
 ghost use Rattle.std.specs.Prelude.{◌≡◌, [], IfOk};
 
-use crate::inbox::Inbox;
+use crate::{Inbox, Page};
 use rate_types::OutOfMemory;
 use std::alloc::Global;
 use std::marker::Model;
@@ -10,7 +10,7 @@ use std::marker::Model;
 #[derive(Drop)]
 pub struct Buffers {
     pub(crate) inbox: Inbox,
-    pub(crate) out: String,
+    pub(crate) out: Page,
 }
 
 impl Model for Buffers {
@@ -27,7 +27,7 @@ impl Buffers {
         ensures { IfOk result (λ b. b ≡ []) }
     {
         let inbox = Inbox::make(alloc)?;
-        let out = String::with_capacity(alloc, 1024)?;
+        let out = Page::make(alloc)?;
         Ok(Buffers { inbox, out })
     }
 }

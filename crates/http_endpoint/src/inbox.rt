@@ -10,7 +10,7 @@ use std::alloc::Global;
 use std::marker::Model;
 
 /// The most bytes of a head.
-const ROOM: usize = 16_384;
+pub const ROOM: usize = 16_384;
 
 /// The most bytes of one read.
 const PIECE: usize = 4_096;

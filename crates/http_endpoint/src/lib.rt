@@ -8,7 +8,9 @@
 //!
 //! `listening_line` and `link_end_line` are the lines that serving prints (`specs/ServeLines.antt`).
 //!
-//! The limits: at most 1,024 answers a connection; where memory is wanting, 500 stands in the place of an answer and closes.
+//! The limits: at most 1,024 answers a connection; where memory is wanting, 500 stands in the place of an answer
+//! that takes some (`WantsMemory`) and closes. No other answer does: a refusal by a request's head, and 503 for a check that has no counter, are
+//! printed into room that is kept.
 //! A connection of n bytes costs a time in proportion to n and to the number of reads times the bytes of a head.
 #![tactic(auto)]
 
@@ -19,6 +21,7 @@ mod inbox;
 mod lines;
 mod link_end;
 mod next;
+mod page;
 mod serve;
 mod turn;
 
@@ -27,5 +30,6 @@ pub use checks::Checks;
 pub use inbox::Inbox;
 pub use lines::{link_end_line, listening_line};
 pub use link_end::{LinkCause, LinkEnd};
+pub use page::Page;
 pub use serve::serve_link;
 pub use turn::{Printed, answer_fixed, closes_after, print_result, print_stats};

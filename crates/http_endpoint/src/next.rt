@@ -1,11 +1,11 @@
 // What comes next on a connection.
-ghost use Rattle.std.specs.Prelude.{◌≡◌, ◌≤◌, ◌+◌, ◌++◌, List, length, if◌then◌else◌, IfSome, vec_capacity};
+ghost use Rattle.std.specs.Prelude.{ℕ, ◌≡◌, ◌≤◌, ◌<◌, ◌+◌, ◌++◌, List, length, if◌then◌else◌, IfSome, vec_capacity};
 ghost use Rattle.rate_io.specs.Events.{Event, given};
 ghost use Rattle.http_front.specs.Part.{EndsAt};
-ghost use Rattle.http_endpoint.specs.Steps.{WaitsUntil, Drew, HeadFinds, IsWhole, Comes, ComesTo, Finds};
+ghost use Rattle.http_endpoint.specs.Steps.{WaitsUntil, Drew, Looks, HeadFinds, IsWhole, Comes, ComesTo, Finds};
 
 use crate::body::{drop_body, keep_body};
-use crate::inbox::{Filled, Inbox, fill};
+use crate::inbox::{Filled, Inbox, ROOM, fill};
 use http_front::{Front, Part, read_front};
 use rate_io::Link;
 use rate_types::OutOfMemory;
@@ -26,12 +26,46 @@ pub enum Next {
 #[derive(Drop)]
 pub enum HeadRead {
     Whole(Front),
-    /// The head of a request of `total` bytes, more than are there.
+    /// The head of a request of `total` bytes, more than are there and than a head may have.
     NoBody { total: usize, sends_body: bool },
     NoMemory { sends_body: bool },
     Ended,
     CutShort,
     ReadFault,
+}
+
+/// What the bytes of a head are, before more are read.
+#[derive(Drop)]
+pub enum HeadLook {
+    Whole(Front),
+    /// The head of a request of `total` bytes, more than are there and than a head may have.
+    Long { total: usize, sends_body: bool },
+    NoMemory { sends_body: bool },
+    /// A request that isn't whole, or none.
+    Short { is_blank: bool },
+}
+
+// A request of `total` bytes, more than are there.
+fn rest_of(total: usize, sends_body: bool) -> HeadLook
+    ensures { (bytes : List ℕ) → EndsAt bytes total sends_body → Looks bytes result }
+{
+    if total > ROOM {
+        HeadLook::Long { total, sends_body }
+    } else {
+        HeadLook::Short { is_blank: false }
+    }
+}
+
+// What stands at the bytes. A request that has no more bytes than a head may have is awaited as a head is.
+fn look_head(alloc: Global, bytes: &[u8]) -> HeadLook
+    ensures { Looks bytes.now result }
+{
+    match read_front(alloc, bytes) {
+        Ok(Part::Whole(front)) => HeadLook::Whole(front),
+        Ok(Part::NoBody { total, sends_body }) => rest_of(total, sends_body),
+        Ok(Part::NoHead { is_blank }) => HeadLook::Short { is_blank },
+        Err(OutOfMemory) => HeadLook::NoMemory { sends_body: true },
+    }
 }
 
 // The input ends where no head stands.
@@ -45,19 +79,17 @@ fn ended(is_blank: bool) -> HeadRead
     }
 }
 
-// Reads on until a head stands there.
+// Reads on until a head stands there, and a request that has no more bytes than a head may have.
 fn read_head<L: Link>(alloc: Global, inbox: &mut Inbox, link: &mut L) -> HeadRead
     ensures { (events : List Event) × Drew inbox.old (L.state link.old) (L.state link.new) events × (inbox.new ≡ inbox.old ++ given events)
         × HeadFinds (inbox.old ++ given events) (L.state link.old) (L.state link.new) events result }
 {
     'turns: loop {
-        let is_blank = match read_front(alloc, inbox.unread()) {
-            Ok(Part::Whole(front)) => return HeadRead::Whole(front),
-            Ok(Part::NoBody { total, sends_body }) => {
-                return HeadRead::NoBody { total, sends_body };
-            }
-            Err(OutOfMemory) => return HeadRead::NoMemory { sends_body: true },
-            Ok(Part::NoHead { is_blank }) => is_blank,
+        let is_blank = match look_head(alloc, inbox.unread()) {
+            HeadLook::Whole(front) => return HeadRead::Whole(front),
+            HeadLook::Long { total, sends_body } => return HeadRead::NoBody { total, sends_body },
+            HeadLook::NoMemory { sends_body } => return HeadRead::NoMemory { sends_body },
+            HeadLook::Short { is_blank } => is_blank,
         };
         match fill(inbox, link) {
             Filled::More => {}
@@ -120,7 +152,8 @@ fn rest_front<L: Link>(
     total: usize,
     sends_body: bool,
 ) -> Next
-    requires { EndsAt inbox.old total sends_body }
+    requires ends { EndsAt inbox.old total sends_body }
+    requires long { 16384 < total }
     ensures { (events : List Event) × Drew inbox.old (L.state link.old) (L.state link.new) events
         × Finds (inbox.old ++ given events) inbox.new (L.state link.old) (L.state link.new) events result }
 {

@@ -1,5 +1,5 @@
 // A connection, served from its first byte to its end.
-ghost use Rattle.std.specs.Prelude.{◌≡◌, ◌≤◌, ◌++◌, List, string_bytes};
+ghost use Rattle.std.specs.Prelude.{◌≡◌, ◌≤◌, ◌++◌, List};
 ghost use Rattle.rate_io.specs.Events.{Event, given};
 ghost use Rattle.rate_io.specs.Links.{LinkState};
 ghost use Rattle.http_endpoint.specs.Served.{Serves};
@@ -8,7 +8,7 @@ ghost use Rattle.http_endpoint.specs.Steps.{Drew, Takes};
 use crate::inbox::Inbox;
 use crate::next::{Next, next_front};
 use crate::turn::{Printed, answer_front};
-use crate::{Buffers, Checks, LinkCause, LinkEnd};
+use crate::{Buffers, Checks, LinkCause, LinkEnd, Page};
 use rate_io::Link;
 use std::alloc::Global;
 use std::sync::Wait;
@@ -32,10 +32,10 @@ fn next_answer<R: Wait, N: Link, K: Checks>(
     link: &mut N,
     is_last: bool,
     inbox: &mut Inbox,
-    out: &mut String,
+    out: &mut Page,
 ) -> NextAnswer
     ensures { (events : List Event) × (mid : LinkState) × Drew inbox.old (N.state link.old) mid events
-        × Takes K.answers is_last (inbox.old ++ given events) inbox.new (N.state link.old) mid (N.state link.new) events checks.old checks.new (string_bytes out.new) result }
+        × Takes K.answers is_last (inbox.old ++ given events) inbox.new (N.state link.old) mid (N.state link.new) events checks.old checks.new out.new result }
 {
     match next_front(alloc, inbox, link) {
         Next::Front(front) => {
@@ -81,7 +81,7 @@ pub fn serve_link<R: Wait, N: Link, K: Checks>(
                 answers,
             },
         };
-        let Ok(()) = link.write(printed.bytes(out)) else {
+        let Ok(()) = link.write(printed.bytes(out.text())) else {
             return LinkEnd {
                 cause: LinkCause::WriteFault,
                 answers,

@@ -1,15 +1,13 @@
 // The answer to one front.
-ghost use Rattle.std.specs.Prelude.{◌≡◌, ◌||◌, false, true, None, Ok, Err, IfOk, string_bytes, if◌then◌else◌};
+ghost use Rattle.std.specs.Prelude.{◌≡◌, ◌||◌, false, true, None, Ok, Err, IfOk, if◌then◌else◌};
 ghost use Rattle.http_front.specs.Front.{is_waiting, plain};
 ghost use Rattle.http_endpoint.specs.Answers as answers;
 ghost use Rattle.http_endpoint.specs.Printing as printing;
 ghost use Rattle.http_endpoint.specs.Steps as steps;
 
-use crate::Checks;
+use crate::{Checks, Page};
 use http::StatusCode;
-use http_front::{
-    Front, HttpAnswer, Method, out_of_memory_answer, print_answer, sends_body, stats_answer,
-};
+use http_front::{Front, HttpAnswer, Method, out_of_memory_answer, sends_body, stats_answer};
 use rate_io::Link;
 use rate_types::{OutOfMemory, Request, Word};
 use reply_text::{Statuses, reply_body};
@@ -47,10 +45,10 @@ impl Printed {
 }
 
 // The answer printed, or want of memory in its place.
-fn print(out: &mut String, answer: &HttpAnswer) -> Printed
-    ensures { printing.Prints answer.now (string_bytes out.new) result }
+fn print(out: &mut Page, answer: &HttpAnswer) -> Printed
+    ensures { printing.Prints answer.now out.new result }
 {
-    match print_answer(out, answer) {
+    match out.print(answer) {
         Ok(()) => Printed::Text {
             closes: answer.closes,
         },
@@ -80,8 +78,8 @@ fn reply_answer(alloc: Global, reply: &Reply, closes: bool) -> Result<HttpAnswer
     Ok(HttpAnswer::json(status_of(reply), Word::of(text), closes))
 }
 
-fn print_reply(alloc: Global, out: &mut String, reply: &Reply, closes: bool) -> Printed
-    ensures { printing.PrintsResult closes (Ok reply.now) (string_bytes out.new) result }
+fn print_reply(alloc: Global, out: &mut Page, reply: &Reply, closes: bool) -> Printed
+    ensures { printing.PrintsResult closes (Ok reply.now) out.new result }
 {
     match reply_answer(alloc, reply, closes) {
         Ok(answer) => print(out, &answer),
@@ -90,8 +88,8 @@ fn print_reply(alloc: Global, out: &mut String, reply: &Reply, closes: bool) -> 
 }
 
 // The answer where the counters are full.
-fn print_full(out: &mut String, closes: bool) -> Printed
-    ensures { printing.Prints (plain 503 None true closes) (string_bytes out.new) result }
+fn print_full(out: &mut Page, closes: bool) -> Printed
+    ensures { printing.Prints (plain 503 None true closes) out.new result }
 {
     let answer = HttpAnswer::plain(StatusCode::SERVICE_UNAVAILABLE, true, closes);
     print(out, &answer)
@@ -99,8 +97,8 @@ fn print_full(out: &mut String, closes: bool) -> Printed
 
 // The answer to a check that was refused.
 #[tactic(auto, using(crate::proofs::TurnLemmas::full_prints, crate::proofs::TurnLemmas::spent_prints))]
-fn print_fault(out: &mut String, fault: CheckFault, closes: bool) -> Printed
-    ensures { printing.PrintsResult closes (Err fault) (string_bytes out.new) result }
+fn print_fault(out: &mut Page, fault: CheckFault, closes: bool) -> Printed
+    ensures { printing.PrintsResult closes (Err fault) out.new result }
 {
     match fault {
         CheckFault::CountersFull { .. } => print_full(out, closes),
@@ -112,11 +110,11 @@ fn print_fault(out: &mut String, fault: CheckFault, closes: bool) -> Printed
 /// The answer to what came of a check, printed into the text.
 pub fn print_result(
     alloc: Global,
-    out: &mut String,
+    out: &mut Page,
     came: Result<Reply, CheckFault>,
     closes: bool,
 ) -> Printed
-    ensures { printing.PrintsResult closes came (string_bytes out.new) result }
+    ensures { printing.PrintsResult closes came out.new result }
 {
     match came {
         Ok(reply) => print_reply(alloc, out, &reply, closes),
@@ -126,12 +124,12 @@ pub fn print_result(
 
 /// The answer to a request for the statistics that came to this, printed into the text.
 pub fn print_stats(
-    out: &mut String,
+    out: &mut Page,
     method: Method,
     came: Result<Option<Word>, OutOfMemory>,
     closes: bool,
 ) -> Printed
-    ensures { printing.PrintsStats method closes came (string_bytes out.new) result }
+    ensures { printing.PrintsStats method closes came out.new result }
 {
     match came {
         Ok(text) => print(out, &stats_answer(method, text, closes)),
@@ -149,8 +147,8 @@ pub fn closes_after(closes: bool, is_last: bool) -> bool
 }
 
 /// The answer to a fixed front, printed into the text.
-pub fn answer_fixed(out: &mut String, mut answer: HttpAnswer, is_last: bool) -> Printed
-    ensures { printing.Prints (answers.closing is_last answer) (string_bytes out.new) result }
+pub fn answer_fixed(out: &mut Page, mut answer: HttpAnswer, is_last: bool) -> Printed
+    ensures { printing.Prints (answers.closing is_last answer) out.new result }
 {
     answer.closes = closes_after(answer.closes, is_last);
     print(out, &answer)
@@ -165,10 +163,10 @@ pub fn answer_front<R: Wait, N: Link, K: Checks>(
     link: &mut N,
     front: Front,
     is_last: bool,
-    out: &mut String,
+    out: &mut Page,
 ) -> Printed
     requires { is_waiting front ≡ false }
-    ensures { steps.TurnsOut K.answers is_last front (N.state link.old) (N.state link.new) checks.old checks.new (string_bytes out.new) result }
+    ensures { steps.TurnsOut K.answers is_last front (N.state link.old) (N.state link.new) checks.old checks.new out.new result }
 {
     match front {
         Front::Fixed { answer, .. } => answer_fixed(out, answer, is_last),

@@ -1,13 +1,14 @@
 // The bytes of an answer.
-ghost use Rattle.std.specs.Prelude.{◌≡◌, ◌++◌, true, None, length, OnOk, string_bytes};
-ghost use Rattle.http_front.specs.Front.{plain};
+ghost use Rattle.std.specs.Prelude.{◌≡◌, ◌≤◌, ◌<◌, ◌+◌, ◌++◌, [], true, None, ℕ, length as size, decimal, OnOk, OnErr, if◌then◌else◌, string_bytes, string_len, string_capacity};
+ghost use Rattle.std.specs.List.{flat_map};
+ghost use Rattle.http_front.specs.Front.{plain, is_json};
 ghost use Rattle.http_front.specs.Printed as printed;
 
 use crate::{Allow, Body, HttpAnswer};
 use http::StatusCode;
+use itoa::Buffer;
 use rate_types::OutOfMemory;
 use std::alloc::AllocError;
-use std::fmt::Write;
 
 fn phrase(status: StatusCode) -> &'static str
     ensures { result.now ≡ printed.phrase status }
@@ -50,44 +51,86 @@ fn close_line(closes: bool) -> &'static str
     if closes { "Connection: close\r\n" } else { "" }
 }
 
-#[tactic(auto, unfolding(crate::specs::Printed::head_lines))]
-fn write_head(
-    out: &mut String,
-    status: &str,
-    phrase: &str,
-    kind: &str,
-    length: usize,
-    allow: &str,
-    close: &str,
-) -> Result<(), AllocError>
-    ensures { OnOk result (string_bytes out.new
-        ≡ string_bytes out.old ++ printed.head_lines status.now phrase.now kind.now length allow.now close.now) }
+// Pieces behind what the text says. Where they don't fit, there may be no memory for them.
+fn push_all(out: &mut String, pieces: &[&str]) -> Result<(), AllocError>
+    ensures text { OnOk result (string_bytes out.new ≡ string_bytes out.old ++ flat_map (λ piece. piece.now) pieces.now) }
+    ensures capacity { string_capacity out.old ≤ string_capacity out.new }
+    ensures full { OnErr result (string_capacity out.old < string_len out.old + size (flat_map (λ piece. piece.now) pieces.now)) }
 {
-    write!(
-        out,
-        "HTTP/1.1 {status} {phrase}\r\nContent-Type: {kind}\r\nContent-Length: {length}\r\n{allow}{close}\r\n"
-    )
+    let Some((first, rest)) = pieces.split_first() else {
+        return Ok(());
+    };
+    out.push_str(first)?;
+    push_all(out, rest)
 }
 
-/// Prints an answer in place of what the text says.
+// The body, where it is sent.
+fn sent_text<'a>(answer: &'a HttpAnswer) -> &'a str
+    ensures { result.now ≡ (if answer.now.sends_body then printed.body_bytes answer.now.status answer.now.body else []) }
+{
+    if answer.sends_body {
+        body_text(answer.status, &answer.body)
+    } else {
+        ""
+    }
+}
+
+// The lines of the head, and the body.
+#[tactic(auto, unfolding(crate::specs::Printed::head_lines))]
+fn print_pieces<'a>(
+    out: &mut String,
+    status: &'a str,
+    phrase: &'a str,
+    kind: &'a str,
+    length: &'a str,
+    allow: &'a str,
+    close: &'a str,
+    body: &'a str,
+) -> Result<(), AllocError>
+    ensures text { (count : ℕ) → length.now ≡ decimal count → OnOk result (string_bytes out.new
+        ≡ string_bytes out.old ++ (printed.head_lines status.now phrase.now kind.now count allow.now close.now ++ body.now)) }
+    ensures capacity { string_capacity out.old ≤ string_capacity out.new }
+    ensures full { OnErr result (string_capacity out.old < string_len out.old + (57 + (size status.now + (size phrase.now
+        + (size kind.now + (size length.now + (size allow.now + (size close.now + size body.now)))))))) }
+{
+    let pieces = [
+        "HTTP/1.1 ",
+        status,
+        " ",
+        phrase,
+        "\r\nContent-Type: ",
+        kind,
+        "\r\nContent-Length: ",
+        length,
+        "\r\n",
+        allow,
+        close,
+        "\r\n",
+        body,
+    ];
+    push_all(out, &pieces)
+}
+
+/// Prints an answer in place of what the text says. Where the text has room for 256 bytes, want of memory comes only over a JSON body.
 pub fn print_answer(out: &mut String, answer: &HttpAnswer) -> Result<(), OutOfMemory>
-    ensures { OnOk result (string_bytes out.new ≡ printed.answer_bytes answer.now) }
+    ensures text { OnOk result (string_bytes out.new ≡ printed.answer_bytes answer.now) }
+    ensures capacity { string_capacity out.old ≤ string_capacity out.new }
+    ensures memory { OnErr result (256 ≤ string_capacity out.old → is_json answer.now.body ≡ true) }
 {
     let status = answer.status;
-    let body = body_text(status, &answer.body);
+    let mut buffer = Buffer::new();
+    let length = buffer.format(body_text(status, &answer.body).len());
     out.clear();
-    write_head(
+    print_pieces(
         out,
         status.as_str(),
         phrase(status),
         content_type(&answer.body),
-        body.len(),
+        length,
         allow_line(answer.allow),
         close_line(answer.closes),
+        sent_text(answer),
     )?;
-    if answer.sends_body {
-        out.push_str(body)?;
-    }
     Ok(())
 }
 

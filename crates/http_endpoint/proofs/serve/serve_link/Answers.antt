@@ -59,7 +59,7 @@ returns-in_default g c =
     let t = x.3 in
     let goes = grown g.K.Checks.answers c.args.checks.now c.answers.checks (g.N.Link.state c.args.link.now)
     (g.N.Link.state c.answers.link) x.1 c.answers.answers c.answers.inbox x.0 c.answers.invariant.goes x.2 in
-    let piece : c.bytes.result.now ≡ turn_bytes t.t = c.bytes.ensures ∙ (ap (λ (bs : List ℕ). printed_bytes bs c.in-Answer.printed) c.deref.ensures ∙ t.prints.bytes) in
+    let piece : c.bytes.result.now ≡ turn_bytes t.t = c.bytes.ensures ∙ (ap (λ (bs : List ℕ). printed_bytes bs c.in-Answer.printed) c.text.ensures ∙ t.prints.bytes) in
     record {
       serves = serves_failed g.K.Checks.answers c.args.checks.now c.answers.checks c.next_answer.new.checks
           (g.N.Link.state c.args.link.now) x.1 (g.N.Link.state c.write.new.self) c.answers.answers (c.answers.inbox ++ given x.0)
@@ -74,7 +74,7 @@ returns-then-closes g c =
     let t = x.3 in
     let goes = grown g.K.Checks.answers c.args.checks.now c.answers.checks (g.N.Link.state c.args.link.now)
     (g.N.Link.state c.answers.link) x.1 c.answers.answers c.answers.inbox x.0 c.answers.invariant.goes x.2 in
-    let piece : c.bytes.result.now ≡ turn_bytes t.t = c.bytes.ensures ∙ (ap (λ (bs : List ℕ). printed_bytes bs c.in-Answer.printed) c.deref.ensures ∙ t.prints.bytes) in
+    let piece : c.bytes.result.now ≡ turn_bytes t.t = c.bytes.ensures ∙ (ap (λ (bs : List ℕ). printed_bytes bs c.in-Answer.printed) c.text.ensures ∙ t.prints.bytes) in
     let closes : t.t.answer.closes ≡ true = sym t.prints.closes ∙ (sym c.closes.ensures ∙ c.if-closes.true) in
     record {
       serves = serves_closed g.K.Checks.answers c.args.checks.now c.answers.checks c.next_answer.new.checks
@@ -90,7 +90,7 @@ answers-preserved g c =
     let t = x.3 in
     let goes = grown g.K.Checks.answers c.args.checks.now c.answers.checks (g.N.Link.state c.args.link.now)
     (g.N.Link.state c.answers.link) x.1 c.answers.answers c.answers.inbox x.0 c.answers.invariant.goes x.2 in
-    let piece : c.bytes.result.now ≡ turn_bytes t.t = c.bytes.ensures ∙ (ap (λ (bs : List ℕ). printed_bytes bs c.in-Answer.printed) c.deref.ensures ∙ t.prints.bytes) in
+    let piece : c.bytes.result.now ≡ turn_bytes t.t = c.bytes.ensures ∙ (ap (λ (bs : List ℕ). printed_bytes bs c.in-Answer.printed) c.text.ensures ∙ t.prints.bytes) in
     let stays : t.t.answer.closes ≡ false = sym t.prints.closes ∙ (sym c.closes.ensures ∙ c.if-closes.false) in
     record {
       goes = goes_on g.K.Checks.answers c.args.checks.now c.answers.checks c.next_answer.new.checks

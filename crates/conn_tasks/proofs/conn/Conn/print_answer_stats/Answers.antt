@@ -1,4 +1,4 @@
-use Rattle.std.proofs.Common.{◌+◌, ◌==◌, refl, sym, ◌∙◌, string_bytes}
+use Rattle.std.proofs.Common.{◌+◌, ◌==◌, refl, sym, ◌∙◌}
 use Rattle.http_endpoint.specs.Answers.{answers_max, statistics_asked}
 use Rattle.http_front.specs.declared.front.Front.TheVariants.{Stats}
 use Rattle.conn_tasks.proofs.Turns.{stats_turn, stats_still, tells_statistics}
@@ -11,12 +11,12 @@ invariant_of-self g c = record {
   awaits_few = c.args.self.now.awaits_few;
   few = c.args.self.now.few;
   last_closes = λ still. c.args.self.now.last_closes (stats_still c.args.method c.args.self.now.closes c.args.came
-      (string_bytes c.print_stats-self.new.out) c.print_stats-self.result c.print_stats-self.ensures (sym c.closes-self.ensures ∙ still));
+      c.print_stats-self.new.out c.print_stats-self.result c.print_stats-self.ensures (sym c.closes-self.ensures ∙ still));
 }
 
 pub returns-clause-answered : goal.returns-clause-answered
 returns-clause-answered g c = λ first asked k.
-    let p = stats_turn (c.args.self.now.answers + 1 == answers_max) c.args.method k.asks_close k.used c.args.came (string_bytes c.print_stats-self.new.out)
+    let p = stats_turn (c.args.self.now.answers + 1 == answers_max) c.args.method k.asks_close k.used c.args.came c.print_stats-self.new.out
     c.print_stats-self.result (rw k.closes at c.print_stats-self.ensures) in
     let link = c.args.self.now.link.link in
     starts_writing first link asked _ k.turns k.rest (Stats c.args.method k.asks_close k.used) (statistics_asked c.args.came)

@@ -1,4 +1,4 @@
-use Rattle.std.proofs.Common.{◌+◌, ◌==◌, None, refl, string_bytes}
+use Rattle.std.proofs.Common.{◌+◌, ◌==◌, None, refl}
 use Rattle.http_endpoint.specs.Answers.{answers_max}
 use Rattle.http_endpoint.proofs.TurnLemmas.{tells_none}
 use Rattle.conn_tasks.proofs.Turns.{memory_turn}
@@ -36,7 +36,7 @@ returns-in-Front-clause-steps g c = λ first asked r.
 pub returns-in-NoMemory-clause-steps : goal.returns-in-NoMemory-clause-steps
 returns-in-NoMemory-clause-steps g c = λ first asked r.
     let x = c.in-NoMemory.ensures.nexts first r.turns r.rest r.so_far r.holds in
-    let p = memory_turn (c.args.self.now.answers + 1 == answers_max) x.2.0 (string_bytes c.args.room.now.out) c.in-NoMemory.sends_body x.2.2 in
+    let p = memory_turn (c.args.self.now.answers + 1 == answers_max) x.2.0 c.args.room.now.out c.in-NoMemory.sends_body x.2.2 x.2.3 in
     none_asked first asked _ (starts_writing first c.next_front.new.link.link asked _ r.turns x.0 x.2.0 None x.1
     (tells_none c.next_front.new.link.link) x.2.1 p refl refl (λ still. absurd (cc)) r.count r.asked_is)
 

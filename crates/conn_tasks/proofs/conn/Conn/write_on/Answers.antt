@@ -1,4 +1,4 @@
-use Rattle.std.proofs.Common.{◌≡◌, ◌≤◌, List, ℕ, length, take, drop, refl, sym, ap, ◌∙◌, subst, string_bytes}
+use Rattle.std.proofs.Common.{◌≡◌, ◌≤◌, List, ℕ, length, take, drop, refl, sym, ap, ◌∙◌, subst}
 use Rattle.http_endpoint.specs.Answers.{turn_bytes}
 use Rattle.conn_tasks.specs.Conn.{seen_in}
 use Rattle.conn_tasks.specs.Lawful.{MayWrite}
@@ -16,7 +16,7 @@ put_on-requires g c =
     let x = stands_writing s c.requires.going c.requires.mode in
     let w = x.3 in
     let piece : c.bytes-piece.result.now ≡ turn_bytes w.t =
-    c.bytes-piece.ensures ∙ (ap (λ (bs : List ℕ). printed_bytes bs c.args.self.now.printed) c.deref.ensures ∙ w.prints.bytes) in
+    c.bytes-piece.ensures ∙ (ap (λ (bs : List ℕ). printed_bytes bs c.args.self.now.printed) c.text.ensures ∙ w.prints.bytes) in
     record {
       within = subst (λ (ys : List ℕ). c.args.self.now.sent ≤ length ys) (sym piece) w.within;
       may = subst (λ (ys : List ℕ). MayWrite c.args.self.now.link.link.history (drop c.args.self.now.sent ys)) (sym piece)
@@ -28,7 +28,7 @@ returns-in-Wait-clause-steps g c = λ first asked w.
     let old = c.args.self.now.link in
     let new = c.put_on.new.link in
     let piece : c.bytes-piece.result.now ≡ turn_bytes w.t =
-    c.bytes-piece.ensures ∙ (ap (λ (bs : List ℕ). printed_bytes bs c.args.self.now.printed) c.deref.ensures ∙ w.prints.bytes) in
+    c.bytes-piece.ensures ∙ (ap (λ (bs : List ℕ). printed_bytes bs c.args.self.now.printed) c.text.ensures ∙ w.prints.bytes) in
     let s = subst (λ (ys : List ℕ). Sends w.mid old.link w.t.asked (take c.args.self.now.sent ys)) (sym piece) w.sends in
     let x = subst (λ (ys : List ℕ). Puts w.mid w.t.asked ys old new c.put_on.new.sent put.Wait) piece
     (c.in-Wait.ensures.puts w.mid w.t.asked s) in (
@@ -57,7 +57,7 @@ returns-in-Failed-clause-steps g c = λ first asked w.
     let old = c.args.self.now.link in
     let new = c.put_on.new.link in
     let piece : c.bytes-piece.result.now ≡ turn_bytes w.t =
-    c.bytes-piece.ensures ∙ (ap (λ (bs : List ℕ). printed_bytes bs c.args.self.now.printed) c.deref.ensures ∙ w.prints.bytes) in
+    c.bytes-piece.ensures ∙ (ap (λ (bs : List ℕ). printed_bytes bs c.args.self.now.printed) c.text.ensures ∙ w.prints.bytes) in
     let s = subst (λ (ys : List ℕ). Sends w.mid old.link w.t.asked (take c.args.self.now.sent ys)) (sym piece) w.sends in
     let x = subst (λ (ys : List ℕ). Puts w.mid w.t.asked ys old new c.put_on.new.sent put.Failed) piece
     (c.in-Failed.ensures.puts w.mid w.t.asked s) in
@@ -69,12 +69,12 @@ returns-in-Done-clause-steps g c = λ first asked w.
     let old = c.args.self.now.link in
     let new = c.put_on.new.link in
     let piece : c.bytes-piece.result.now ≡ turn_bytes w.t =
-    c.bytes-piece.ensures ∙ (ap (λ (bs : List ℕ). printed_bytes bs c.args.self.now.printed) c.deref.ensures ∙ w.prints.bytes) in
+    c.bytes-piece.ensures ∙ (ap (λ (bs : List ℕ). printed_bytes bs c.args.self.now.printed) c.text.ensures ∙ w.prints.bytes) in
     let s = subst (λ (ys : List ℕ). Sends w.mid old.link w.t.asked (take c.args.self.now.sent ys)) (sym piece) w.sends in
     let x = subst (λ (ys : List ℕ). Puts w.mid w.t.asked ys old new c.put_on.new.sent put.Done) piece
     (c.in-Done.ensures.puts w.mid w.t.asked s) in
     steps_earlier first asked old.waits new.waits _ c.go_on.result c.in-Done.ensures.waits
-    (c.go_on.ensures.steps first asked c.args.room.now.inbox (string_bytes c.args.room.now.out)
+    (c.go_on.ensures.steps first asked c.args.room.now.inbox c.args.room.now.out
     (record {
       turns = w.turns;
       rest = w.rest;
