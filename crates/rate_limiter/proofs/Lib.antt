@@ -35,3 +35,5 @@ pub mod LawfulClaims
 pub mod RequestCounters
 pub mod WantedCounters
 pub mod Planned
+pub mod Using
+pub mod FirstUses

@@ -25,7 +25,7 @@ use Rattle.rate_limiter.proofs.Knowing.{spots_same}
 use Rattle.rate_limiter.proofs.Noting.{knows_still}
 
 -- lists that are equal behind equal ones
-rest_same : {A : Type 0} (xs ys zs : List A) → xs ++ ys ≡ xs ++ zs → ys ≡ zs
+pub rest_same : {A : Type 0} (xs ys zs : List A) → xs ++ ys ≡ xs ++ zs → ys ≡ zs
 rest_same [] ys zs e = e
 rest_same (x ∷ xs) ys zs e = rest_same xs ys zs (ap (tail xs ys) e)
   where
@@ -33,7 +33,7 @@ rest_same (x ∷ xs) ys zs e = rest_same xs ys zs (ap (tail xs ys) e)
     tail xs ys [] = xs ++ ys
     tail xs ys (z ∷ l) = l
 
-first_same : {A : Type 0} (x y : A) (xs ys : List A) → x ∷ xs ≡ y ∷ ys → x ≡ y
+pub first_same : {A : Type 0} (x y : A) (xs ys : List A) → x ∷ xs ≡ y ∷ ys → x ≡ y
 first_same x y xs ys e = ap (head x) e
   where
     head : {A : Type 0} → A → List A → A

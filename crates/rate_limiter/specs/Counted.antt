@@ -21,7 +21,9 @@ use Rattle.over_cache.specs.declared.known.Known.{Known}
 use Rattle.rate_limiter.specs.Counters.{CountersView}
 use Rattle.rate_limiter.specs.Counts.{CountsOne}
 use Rattle.rate_limiter.specs.Known.{spot_in, seen_in}
+use Rattle.rate_limiter.specs.Names.{names_under, name_keys}
 use Rattle.rate_limiter.specs.Passes.{LimiterView}
+use Rattle.rate_limiter.specs.Used.{HasUsed}
 use Rattle.rate_limiter.specs.Values.{HasValue}
 
 -- ---- one cell
@@ -101,6 +103,7 @@ pub record HasAnswered (limiter : LimiterView) (version : ℕ) (request : Reques
   pub bare : w.cells.good ≡ []
   pub claims : w.claims ≡ v.claims
   pub known : HaveRisen v.known w.known
+  pub uses : HasUsed [] (name_keys v.cells.moment (names_under request request.descriptors fs)) v.known w.known
   pub version_is : reply.version ≡ version
   pub moment_is : reply.moment ≡ v.cells.moment
   pub over_is : reply.over ≡ (list_any (λ s. is_over_limit s.code) reply.statuses.items && not limiter.global_shadow)

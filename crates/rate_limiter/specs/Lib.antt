@@ -14,6 +14,7 @@ pub mod Counted
 pub mod Pinned
 pub mod Sought
 pub mod Replied
+pub mod Used
 pub mod Opens
 pub mod Opening
 pub mod Versions

@@ -6,7 +6,9 @@ ghost use Rattle.counter_directory.specs.Spots.{Bound, LeavesAllButPins};
 ghost use Rattle.counter_directory.specs.declared.acquired.AcquireFault.TheVariants.{OutOfMemory as NoMemory};
 ghost use Rattle.rate_limiter.specs.Counters.{Holds};
 ghost use Rattle.rate_limiter.specs.Known.{pins_under};
+ghost use Rattle.rate_limiter.specs.Names.{name_keys};
 ghost use Rattle.rate_limiter.specs.Sought.{AreNoted};
+ghost use Rattle.rate_limiter.specs.Used.{HasUsed};
 
 use crate::Limiter;
 use crate::names::{names_of, one_name};
@@ -30,6 +32,7 @@ fn note_each<N: CellNaming>(
     requires bound { Bound counters.old.claims.claims.known (keys_at counters.old.cells.moment names.now) spots.now }
     requires had { All (λ s. 1 ≤ pins_under s.cell s.claim counters.old.cells.pairs) spots.now }
     ensures rest { counters.new ≡ record counters.old { known = counters.new.known } }
+    ensures uses { HasUsed [] (name_keys counters.old.cells.moment names.now) counters.old.known counters.new.known }
     ensures noted { OnOk result (AreNoted names.now counters.old.cells.moment counters.new.known) }
 {
     'names: for place in 0..names.len() {
@@ -53,6 +56,7 @@ fn note_pinned<N: CellNaming>(
     ensures claims { counters.new.claims ≡ counters.old.claims }
     ensures left { LeavesAllButPins counters.old.cells counters.new.cells }
     ensures same { OnOk result (counters.new.cells ≡ counters.old.cells) }
+    ensures uses { HasUsed [] (name_keys counters.old.cells.moment names.now) counters.old.known counters.new.known }
     ensures noted { OnOk result (AreNoted names.now counters.old.cells.moment counters.new.known) }
     ensures fault { IfErr result (λ f. f ≡ NoMemory) }
     ensures bare { OnErr result (counters.new.cells.good ≡ []) }
@@ -73,8 +77,9 @@ impl<N: CellNaming> Limiter<N> {
     ghost use Rattle.rate_limiter.specs.Counters.{Holds};
     ghost use Rattle.rate_limiter.specs.Known.{AreClaimedOnce};
     ghost use Rattle.rate_limiter.specs.Pinned.{HasPins, HasNoPins};
-    ghost use Rattle.rate_limiter.specs.Names.{names_under};
+    ghost use Rattle.rate_limiter.specs.Names.{names_under, name_keys};
     ghost use Rattle.rate_limiter.specs.Sought.{AreNoted};
+    ghost use Rattle.rate_limiter.specs.Used.{HasUsed};
 
     // Pins the counters of the names by the directory, and notes them, so that the pass knows each then.
     fn acquire_names<R: Wait>(
@@ -89,6 +94,7 @@ impl<N: CellNaming> Limiter<N> {
         requires names { (1 ≤ length names.now) × (length names.now ≤ MOST_PINS) }
         ensures pass { counters.new.claims.list_id ≡ self.now.id.claims }
         ensures once { AreClaimedOnce counters.new.claims.claims.known }
+        ensures uses { HasUsed [] (name_keys counters.new.cells.moment names.now) counters.old.known counters.new.known }
         ensures others { length counters.old.cells.others ≤ length counters.new.cells.others }
         ensures holds { OnOk result (Holds N.setup.cells acquired.new.spots.items counters.new.cells) }
         ensures noted { OnOk result (AreNoted names.now counters.new.cells.moment counters.new.known) }
@@ -129,6 +135,8 @@ impl<N: CellNaming> Limiter<N> {
         requires some { 1 ≤ length (names_under request.now request.now.descriptors rules.now) }
         ensures pass { counters.new.claims.list_id ≡ self.now.id.claims }
         ensures once { OnOk result (AreClaimedOnce counters.new.claims.claims.known) }
+        ensures uses { HasUsed [] (name_keys counters.new.cells.moment (names_under request.now request.now.descriptors rules.now))
+            counters.old.known counters.new.known }
         ensures others { length counters.old.cells.others ≤ length counters.new.cells.others }
         ensures holds { OnOk result (Holds N.setup.cells acquired.new.spots.items counters.new.cells) }
         ensures noted { OnOk result

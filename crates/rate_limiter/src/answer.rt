@@ -1,12 +1,14 @@
 // The counters that are held are counted, and the reply is written.
-ghost use Rattle.std.specs.Prelude.{◌≡◌, ◌≤◌, false, length};
+ghost use Rattle.std.specs.Prelude.{◌≡◌, ◌≤◌, [], false, length};
 ghost use mathlib.Core.Option.{some};
 ghost use lib.ListN.{get_elem?};
 ghost use Rattle.rate_types.specs.declared.request.Descriptor.{Descriptor as DescriptorValue};
 ghost use Rattle.rate_types.specs.declared.limits.TheConstants.{MOST_DESCRIPTORS};
 ghost use Rattle.rate_limiter.specs.Asked.{known_for, IsReady, AreReady, AreKnown, founds};
 ghost use Rattle.rate_limiter.specs.Counted.{AreCounted, HaveRisen};
+ghost use Rattle.rate_limiter.specs.Names.{name_under, names_under, name_keys};
 ghost use Rattle.rate_limiter.specs.Sought.{SameKnown};
+ghost use Rattle.rate_limiter.specs.Used.{HasUsed};
 
 use crate::Limiter;
 use crate::asked::Asked;
@@ -33,6 +35,8 @@ fn asked_now<N: CellNaming>(
     ensures rest { counters.new ≡ record counters.old { known = counters.new.known } }
     ensures same { SameKnown counters.old.known counters.new.known }
     ensures kept { is_noted ≡ false → counters.new.known ≡ counters.old.known }
+    ensures uses { HasUsed [] (name_keys counters.old.cells.moment (name_under request.now descriptor.now asked.now.found))
+        counters.old.known counters.new.known }
     ensures found { result.found ≡ asked.now.found }
     ensures hits { result.hits ≡ asked.now.hits }
     ensures known { result.known
@@ -65,6 +69,8 @@ fn count_each<N: CellNaming>(
         (founds asked.now) statuses.new.items counters.old.cells counters.new.cells }
     ensures claims { counters.new.claims ≡ counters.old.claims }
     ensures risen { HaveRisen counters.old.known counters.new.known }
+    ensures uses { HasUsed [] (name_keys counters.old.cells.moment (names_under request.now request.now.descriptors (founds asked.now)))
+        counters.old.known counters.new.known }
 {
     empty(statuses);
     let descriptors = request.descriptors();

@@ -17,6 +17,7 @@ impl<N: CellNaming> Limiter<N> {
     ghost use Rattle.rate_limiter.specs.Refusals.{Checks};
     ghost use Rattle.rate_limiter.specs.Turns.{TakesNoTurn, TriesNoPin};
     ghost use Rattle.rate_limiter.specs.Replied.{replied};
+    ghost use Rattle.rate_limiter.specs.Used.{ChecksKnown};
 
     /// Answers a request in the windows of a moment that is the pass's afterwards, and no earlier than `now`. It may wait for
     /// other calls on this limiter. It asks the directory for nothing where the pass knows all counters of the request and their
@@ -33,6 +34,7 @@ impl<N: CellNaming> Limiter<N> {
         ensures pass { pass.new.limiter ≡ self.now.id }
         ensures few { length request.now.descriptors ≤ MOST_DESCRIPTORS }
         ensures step { Checks (bounds_of N.setup.cells self.now) self.now request.now now pass.old result pass.new }
+        ensures known { ChecksKnown request.now pass.old result pass.new }
         ensures turns { TakesNoTurn request.now pass.old pass.new }
         ensures pins { TriesNoPin request.now pass.old pass.new }
     {
@@ -56,6 +58,7 @@ impl<N: CellNaming> Limiter<N> {
         ensures pass { pass.new.limiter ≡ self.now.id }
         ensures few { length request.now.descriptors ≤ MOST_DESCRIPTORS }
         ensures step { Checks (bounds_of N.setup.cells self.now) self.now request.now now pass.old (replied result reply.new) pass.new }
+        ensures known { ChecksKnown request.now pass.old (replied result reply.new) pass.new }
         ensures turns { TakesNoTurn request.now pass.old pass.new }
         ensures pins { TriesNoPin request.now pass.old pass.new }
         ensures kept { OnErr result (reply.new ≡ reply.old) }

@@ -13,6 +13,7 @@ impl<N: CellNaming> Limiter<N> {
     ghost use Rattle.rate_limiter.specs.Opens.{Opens};
     ghost use Rattle.rate_limiter.specs.Turns.{TriesNoPin};
     ghost use Rattle.rate_limiter.specs.Replied.{replied};
+    ghost use Rattle.rate_limiter.specs.Used.{UsesKnown};
 
     /// Answers a request as [`Limiter::check`] does, where no newer version is installed, the pass knows each counter of the
     /// request at its moment, and their cells are theirs still. It takes no lock and no memory, and waits for nobody. Where the pass
@@ -30,6 +31,7 @@ impl<N: CellNaming> Limiter<N> {
         ensures pass { pass.new.limiter ≡ self.now.id }
         ensures few { length request.now.descriptors ≤ MOST_DESCRIPTORS }
         ensures step { Opens self.now request.now now pass.old result pass.new }
+        ensures known { UsesKnown request.now pass.old pass.new }
         ensures pins { TriesNoPin request.now pass.old pass.new }
     {
         let mut reply = Reply::new();
@@ -50,6 +52,7 @@ impl<N: CellNaming> Limiter<N> {
         ensures pass { pass.new.limiter ≡ self.now.id }
         ensures few { length request.now.descriptors ≤ MOST_DESCRIPTORS }
         ensures step { Opens self.now request.now now pass.old (replied result reply.new) pass.new }
+        ensures known { UsesKnown request.now pass.old pass.new }
         ensures pins { TriesNoPin request.now pass.old pass.new }
         ensures kept { OnErr result (reply.new ≡ reply.old) }
     {

@@ -99,9 +99,11 @@ fn note_value(
 }
 
 impl<N: CellNaming> PassCounters<N> {
-    ghost use Rattle.std.specs.Prelude.{◌≡◌, false};
+    ghost use Rattle.std.specs.Prelude.{◌≡◌, [], false};
     ghost use Rattle.rate_limiter.specs.Asked.{IsReady, known_for};
     ghost use Rattle.rate_limiter.specs.Counted.{IsCounted, HaveRisen};
+    ghost use Rattle.rate_limiter.specs.Names.{name_under, name_keys};
+    ghost use Rattle.rate_limiter.specs.Used.{HasUsed};
 
     /// Counts what is asked for a descriptor, notes what it has seen of its counter, and answers its status.
     pub(crate) fn count(
@@ -117,6 +119,8 @@ impl<N: CellNaming> PassCounters<N> {
             result.status self.old.cells self.new.cells }
         ensures claims { self.new.claims ≡ self.old.claims }
         ensures risen { HaveRisen self.old.known self.new.known }
+        ensures uses { HasUsed [] (name_keys self.old.cells.moment (name_under request.now descriptor.now asked.now.found))
+            self.old.known self.new.known }
         ensures same { result.is_noted ≡ false → self.new.known ≡ self.old.known }
     {
         let moment = self.cells.moment();

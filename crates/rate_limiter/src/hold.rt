@@ -110,10 +110,11 @@ pub(crate) fn hold_known<N: CellNaming>(
 impl<N: CellNaming> Limiter<N> {
     ghost use Rattle.std.specs.Prelude.{◌≡◌, [], length, IsOk, OnOk, IfErr};
     ghost use Rattle.rate_limiter.specs.Asked.{AreAsked, founds};
-    ghost use Rattle.rate_limiter.specs.Names.{names_under};
+    ghost use Rattle.rate_limiter.specs.Names.{names_under, name_keys};
     ghost use Rattle.rate_limiter.specs.Passes.{bounds_of};
     ghost use Rattle.rate_limiter.specs.Pinned.{HasHeld, HasNoPins};
     ghost use Rattle.rate_limiter.specs.Sought.{KnowsUnder, AreKnownOver};
+    ghost use Rattle.rate_limiter.specs.Used.{HasUsed};
 
     /// Pins the counters of all descriptors that have a limit: without a turn at the directory where the pass knows each and its cell is
     /// the counter's still; else by the directory, so that the pass knows each then. Nothing is pinned where what the pass has seen leaves
@@ -136,6 +137,8 @@ impl<N: CellNaming> Limiter<N> {
         ensures refused { IfErr result (λ f. HasNoPins (bounds_of N.setup.cells self.now)
             (names_under request.now request.now.descriptors (founds scratch.old.asked.items)) f counters.old.cells counters.new.cells
             counters.old.claims.claims counters.new.claims.claims) }
+        ensures uses { HasUsed [] (name_keys counters.new.cells.moment
+            (names_under request.now request.now.descriptors (founds scratch.old.asked.items))) counters.old.known counters.new.known }
         ensures turns { KnowsUnder (length request.now.descriptors) request.now counters.old.cells.moment counters.old.known
             request.now.descriptors (founds scratch.old.asked.items) → counters.new.cells.others ≡ counters.old.cells.others
             → counters.new.claims.claims ≡ counters.old.claims.claims }

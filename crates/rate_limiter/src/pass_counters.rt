@@ -30,14 +30,14 @@ impl<N: CellNaming> Model for PassCounters<N> {
 }
 
 impl<N: CellNaming> PassCounters<N> {
-    ghost use Rattle.std.specs.Prelude.{◌≡◌, ◌≤◌, ◌<◌, ◌+◌, [], length, IsOk, OnOk, IfErr, IfSome};
+    ghost use Rattle.std.specs.Prelude.{◌≡◌, ◌≤◌, ◌<◌, ◌+◌, [], length, IsOk, OnOk, OnErr, IfErr, IfSome};
     ghost use Rattle.rate_types.specs.declared.limits.TheConstants.{MOST_PINS};
     ghost use Rattle.window_keys.specs.Counter.{counter_of};
     ghost use Rattle.counter_cells.specs.Steps.{ticked};
     ghost use Rattle.counter_cells.specs.declared.answers.Spot.{Spot as SpotValue};
     ghost use Rattle.counter_directory.specs.Passes.{knows};
     ghost use Rattle.counter_directory.specs.Spots.{LeavesAllButPins};
-    ghost use Rattle.over_cache.specs.Entries.{known_of, noted};
+    ghost use Rattle.over_cache.specs.Entries.{known_of, asked, noted};
     ghost use Rattle.counter_directory.specs.Keys.{key_at};
     ghost use Rattle.rate_limiter.specs.Asked.{IsThere};
     ghost use Rattle.rate_limiter.specs.Counters.{IsPinned, Holds};
@@ -98,6 +98,8 @@ impl<N: CellNaming> PassCounters<N> {
         ensures same { SameKnown self.old.known self.new.known }
         ensures found { result
             ≡ known_of (key_of (counter_of request.now.domain descriptor.now unit self.old.cells.moment)) self.old.known }
+        ensures order { self.new.known
+            ≡ asked (key_of (counter_of request.now.domain descriptor.now unit self.old.cells.moment)) self.old.known }
         ensures own { IfSome result (λ k. IsOwnSpot N.setup.cells self.old.claims.claims.known self.old.cells.pairs
             (counter_of request.now.domain descriptor.now unit self.old.cells.moment) k.spot) }
     {
@@ -113,6 +115,7 @@ impl<N: CellNaming> PassCounters<N> {
         ensures rest { self.new ≡ record self.old { known = self.new.known } }
         ensures noted { OnOk result
             (self.new.known ≡ noted (key_of (key_at self.old.cells.moment name.now)) spot 0 self.old.known) }
+        ensures refused { OnErr result (self.new.known ≡ self.old.known) }
     {
         let moment = self.cells.moment();
         self.known

@@ -3,7 +3,9 @@ ghost use Rattle.std.specs.Prelude.{◌≡◌, ◌≤◌, map, length};
 ghost use Rattle.rate_types.specs.declared.limits.TheConstants.{MOST_DESCRIPTORS};
 ghost use Rattle.rls_core.specs.Reply.{found_for};
 ghost use Rattle.rate_limiter.specs.Asked.{known_for, IsOwn, AreAsked, founds};
+ghost use Rattle.rate_limiter.specs.Names.{name_under, names_under, name_keys};
 ghost use Rattle.rate_limiter.specs.Sought.{SameKnown};
+ghost use Rattle.rate_limiter.specs.Used.{asked_each};
 
 use crate::asked::Asked;
 use crate::emptied::empty;
@@ -25,6 +27,8 @@ pub(crate) fn known_for<N: CellNaming>(
 ) -> Option<Known>
     ensures rest { counters.new ≡ record counters.old { known = counters.new.known } }
     ensures same { SameKnown counters.old.known counters.new.known }
+    ensures order { counters.new.known ≡ asked_each (name_keys counters.old.cells.moment (name_under request.now descriptor.now found))
+        counters.old.known }
     ensures known { result ≡ known_for request.now counters.old.cells.moment counters.old.known descriptor.now found }
     ensures own { IsOwn N.setup.cells counters.old.claims.claims.known counters.old.cells.pairs request.now counters.old.cells.moment
         descriptor.now found result }
@@ -46,6 +50,8 @@ pub(crate) fn ask_each<N: CellNaming>(
     requires rules { length rules.now ≡ length request.now.descriptors }
     ensures rest { counters.new ≡ record counters.old { known = counters.new.known } }
     ensures same { SameKnown counters.old.known counters.new.known }
+    ensures order { counters.new.known ≡ asked_each
+        (name_keys counters.old.cells.moment (names_under request.now request.now.descriptors rules.now)) counters.old.known }
     ensures founds { founds asked.new.items ≡ rules.now }
     ensures asked { AreAsked N.setup.cells request.now counters.new asked.new.items }
 {
@@ -72,6 +78,9 @@ pub(crate) fn plan<N: CellNaming>(
     requires all { descriptors.now ≡ request.now.descriptors }
     ensures rest { counters.new ≡ record counters.old { known = counters.new.known } }
     ensures same { SameKnown counters.old.known counters.new.known }
+    ensures order { counters.new.known ≡ asked_each
+        (name_keys counters.old.cells.moment (names_under request.now request.now.descriptors (founds scratch.new.asked.items)))
+        counters.old.known }
     ensures founds { founds scratch.new.asked.items ≡ map (found_for index.now request.now) request.now.descriptors }
     ensures rules { scratch.new.rules.items ≡ founds scratch.new.asked.items }
     ensures asked { AreAsked N.setup.cells request.now counters.new scratch.new.asked.items }

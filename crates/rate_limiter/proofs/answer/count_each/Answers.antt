@@ -10,12 +10,15 @@ use Rattle.rls_core.specs.declared.status.Status.{Status}
 use Rattle.rate_limiter.specs.Asked.{known_for, ReadyAt, founds}
 use Rattle.rate_limiter.specs.Counted.{IsCounted, AreCounted}
 use Rattle.rate_limiter.specs.Counters.{CountersView}
+use Rattle.rate_limiter.specs.Names.{name_under, names_under, name_keys}
+use Rattle.rate_limiter.specs.Used.{HasUsed}
 use Rattle.rate_limiter.specs.declared.asked.Asked.{Asked}
 use Rattle.rate_limiter.proofs.AskedCounters.{no_ask, known_later, neither}
 use Rattle.rate_limiter.proofs.CountedCounters.{ready_still, risen_self, risen_then, risen_same}
 use Rattle.rate_limiter.proofs.Counting.{same_counts_then, same_of, counted_next}
 use Rattle.rate_limiter.proofs.Lists.{map_some}
 use Rattle.rate_limiter.proofs.Totalling.{item_at}
+use Rattle.rate_limiter.proofs.Using.{among_under, uses_none, uses_then, uses_more}
 use Rattle.rate_limiter.proofs.answer.count_each.Goals as goal
 
 pub asked-init : goal.asked-init
@@ -26,6 +29,8 @@ asked-init g c = record {
       c.args.counters.now.cells c.args.counters.now.cells) (sym c.empty.ensures) refl;
   same = same_of c.args.counters.now.cells c.args.counters.now.cells refl;
   risen = risen_self c.args.counters.now.known;
+  uses = uses_none (name_keys c.args.counters.now.cells.moment (names_under c.args.request.now c.args.request.now.descriptors (founds c.args.asked.now)))
+      c.args.counters.now.known c.args.counters.now.known refl;
   fresh = λ _. refl;
 }
 
@@ -150,6 +155,16 @@ asked-preserved g c =
           (omega (arith, many, c.requires.count)) lt (sym c.index-descriptors-place.is) f_is c.push.ensures.items before.counted one;
       same = same_counts_then v.cells w.cells y.cells before.same one.same;
       risen = risen_then v.known x.known y.known (risen_then v.known w.known x.known before.risen (risen_same w.known x.known called.same)) did.risen;
+      uses =
+          let m = v.cells.moment in
+          let keys = name_keys m (names_under r r.descriptors fs) in
+          let more = among_under r m r.descriptors fs i d a.found in_ds (map_some (λ (b : Asked). b.found) xs i a at) in
+          let mine = name_keys m (name_under r d a.found) in
+          uses_then keys v.known w.known y.known before.uses (uses_then keys w.known x.known y.known
+          (uses_more mine keys w.known x.known more (subst (λ n. HasUsed [] (name_keys n (name_under r d a.found)) w.known x.known) before.same.moment called.uses))
+          (uses_more mine keys x.known y.known more (subst (λ n. HasUsed [] (name_keys n (name_under r d a.found)) x.known y.known) before.same.moment
+          (subst (λ (u : CountersView). HasUsed [] (name_keys u.cells.moment (name_under r d a.found)) x.known y.known) called.rest
+          (subst (λ (f : Found). HasUsed [] (name_keys x.cells.moment (name_under r d f)) x.known y.known) called.found did.uses)))));
       fresh = λ none. let no = neither c.asked.is_noted c.count-answered.result.is_noted none in did.same no.1 ∙ called.kept no.0 ∙ before.fresh no.0;
     }
 

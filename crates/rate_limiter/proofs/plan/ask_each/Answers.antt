@@ -9,6 +9,9 @@ use Rattle.rule_lookup.specs.declared.found.Found.TheVariants.{NoRule}
 use Rattle.rate_limiter.specs.Asked.{known_for, IsOwn, IsAsked, founds}
 use Rattle.rate_limiter.specs.Counters.{CountersView}
 use Rattle.rate_limiter.specs.declared.asked.Asked.{Asked}
+use Rattle.rate_limiter.specs.Names.{name_under, names_under, name_keys}
+use Rattle.rate_limiter.specs.Used.{asked_each}
+use Rattle.rate_limiter.proofs.Using.{asked_next}
 use Rattle.rate_limiter.proofs.AskedCounters.{known_later, asked_later}
 use Rattle.rate_limiter.specs.Known.{PinsGrow}
 use Rattle.rate_limiter.proofs.Knowing.{grow_self}
@@ -20,6 +23,7 @@ pub descriptors-init : goal.descriptors-init
 descriptors-init g c = record {
   rest = refl;
   same = λ key. refl;
+  order = refl;
   count = ap length c.empty.ensures;
   founds = ap founds c.empty.ensures;
   each = λ i d a in_ds at. absurd (some-ne-none a (sym (subst (λ (l : List Asked). get_elem? l i ≡ some a) c.empty.ensures at)));
@@ -51,6 +55,9 @@ descriptors-preserved g c =
     record {
       rest = called.rest ∙ (λ j. record (before.rest j) { known = x.known });
       same = same_known_then v.known w.known x.known before.same called.same;
+      order = asked_next r v.cells.moment ds fs d NoRule i (omega arith) (omega (arith, ap length c.descriptors-descriptors.ensures.all, c.requires.rules)) v.known w.known x.known before.order
+          (subst (λ (u : CountersView). x.known ≡ asked_each (name_keys u.cells.moment (name_under r (get_or ds i d) f)) w.known) before.rest
+          (subst (λ (e : Descriptor). x.known ≡ asked_each (name_keys w.cells.moment (name_under r e f)) w.known) c.index-descriptors-place.is called.order));
       count = omega (arith, c.push.ensures.len, before.count);
       founds =
           ap founds c.push.ensures.items ∙ map-append (λ (b : Asked). b.found) items (a ∷ []) ∙ ap (λ (l : List Found). l ++ f ∷ []) before.founds
@@ -79,3 +86,16 @@ returns-clause-asked g c =
     })
     w (ap (λ (u : CountersView). u.claims) before.rest) before.same (ap (λ (u : CountersView). u.cells.moment) before.rest)
     (subst (λ (u : CountersView). PinsGrow v.cells.pairs u.cells.pairs) (sym before.rest) (grow_self v.cells.pairs))
+
+pub returns-clause-order : goal.returns-clause-order
+returns-clause-order g c =
+    let ds = c.descriptors-descriptors.result.now in
+    let fs = c.args.rules.now in
+    let r = c.args.request.now in
+    let i = c.descriptors.place in
+    let v = c.args.counters.now in
+    let all = c.descriptors-descriptors.ensures.all in
+    let many = ap length all in
+    c.descriptors.invariant.order
+    ∙ (λ j. asked_each (name_keys v.cells.moment (names_under r (take_all i ds (omega (arith, many, c.requires.rules)) j) (take_all i fs (omega (arith, many, c.requires.rules)) j))) v.known)
+    ∙ ap (λ (l : List Descriptor). asked_each (name_keys v.cells.moment (names_under r l fs)) v.known) all

@@ -14,6 +14,9 @@ use Rattle.rate_limiter.specs.Passes.{LimiterView, bounds_of}
 use Rattle.rate_limiter.specs.PassStep.{HasClaimed}
 use Rattle.rate_limiter.specs.Pinned.{HasPins, HasNoPins}
 use Rattle.rate_limiter.specs.Sought.{AreNoted}
+use Rattle.rate_limiter.specs.Names.{name_keys}
+use Rattle.rate_limiter.specs.Used.{HasUsed}
+use Rattle.rate_limiter.proofs.Using.{uses_none}
 use Rattle.rate_limiter.proofs.ConsistentCounters.{turned_consistent}
 use Rattle.rate_limiter.proofs.HeldCounters.{waited_left}
 use Rattle.rate_limiter.proofs.Knowing.{claimed_prefix}
@@ -206,3 +209,15 @@ returns-in-Ok-clause-refused g c =
     err_both (λ (f : AcquireFault). f ≡ OutOfMemory) (λ (f : AcquireFault). HasNoPins most names f first.cells x.cells first.claims.claims x.claims.claims) c.note_pinned.result
     (λ f (is : f ≡ OutOfMemory) (bare : x.cells.good ≡ []). subst (λ (y : AcquireFault). HasNoPins most names y first.cells x.cells first.claims.claims x.claims.claims) (sym is) (none bare))
     c.note_pinned.ensures.fault c.note_pinned.ensures.bare
+
+pub returns-in-Err-clause-uses : goal.returns-in-Err-clause-uses
+returns-in-Err-clause-uses g c =
+    uses_none (name_keys c.acquire.new.cell_pass.moment c.args.names.now) c.args.counters.now.known c.counters.inside.known (ap (λ (y : CountersView). y.known) c.counters.view_is)
+
+pub returns-in-Ok-clause-uses : goal.returns-in-Ok-clause-uses
+returns-in-Ok-clause-uses g c =
+    let names = c.args.names.now in
+    let x = c.note_pinned.new.counters in
+    let moment = ap (λ (y : CellView). y.moment) c.note_pinned.ensures.left in
+    subst (λ (y : CountersView). HasUsed [] (name_keys x.cells.moment names) y.known x.known) c.counters.view_is
+    (subst (λ m. HasUsed [] (name_keys m names) c.counters.inside.known x.known) (sym moment) c.note_pinned.ensures.uses)

@@ -1,16 +1,20 @@
-use Rattle.std.proofs.Common.{◌∙◌, List, refl, sym, subst, ap, arith}
+use Rattle.std.proofs.Common.{◌∙◌, List, [], refl, sym, subst, ap, arith}
 use Rattle.config_versions.specs.Passes.{pass_state, versions_of}
 use Rattle.counter_cells.specs.declared.view.CellView.{CellView}
 use Rattle.counter_directory.specs.Passes.{DirectoryPassView}
 use Rattle.rule_lookup.specs.declared.found.Found.{Found}
 use Rattle.rate_limiter.specs.Asked.{founds}
 use Rattle.rate_limiter.specs.Counted.{HasAnswered}
-use Rattle.rate_limiter.specs.Counters.{CountersView}
+use Rattle.rate_limiter.specs.Counters.{CountersView, pass_with}
+use Rattle.rate_limiter.specs.Names.{names_under, name_keys}
 use Rattle.rate_limiter.specs.Passes.{LimiterId, PassView, bounds_of}
+use Rattle.rate_limiter.specs.Used.{HasUsed}
+use Rattle.rate_limiter.proofs.FirstUses.{planned_uses, refused_uses, early_uses}
 use Rattle.rate_limiter.proofs.Planned.{IsPlanned, planned_of, planned_limiter}
 use Rattle.rate_limiter.proofs.Results.{not_both}
 use Rattle.rate_limiter.proofs.Resting.{planned_turn, planned_pin, no_turn_at_all, no_pin_at_all}
 use Rattle.rate_limiter.proofs.Stepping.{Still, early, refused_early, refused_of, step_of, answered_still}
+use Rattle.rate_limiter.proofs.Using.{uses_then}
 use Rattle.rate_limiter.proofs.limiter.Limiter.check_into.Given.{Over}
 use Rattle.rate_limiter.proofs.limiter.Limiter.check_into.Goals as goal
 
@@ -35,6 +39,11 @@ pub returns-in_err-renew-clause-pins : goal.returns-in_err-renew-clause-pins
 returns-in_err-renew-clause-pins g c =
     no_pin_at_all c.args.request.now c.tick.result c.args.now c.args.pass.now c.tick.new.pass c.renew.new.pass c.renew.new.pass c.tick.ensures.ticked c.tick.ensures.rest
     c.renew.ensures.rest refl refl
+
+pub returns-in_err-renew-clause-known : goal.returns-in_err-renew-clause-known
+returns-in_err-renew-clause-known g c =
+    early_uses c.args.request.now c.args.pass.now c.renew.new.pass c.from_residual.result c.args.reply.now c.from_residual.ensures
+    (ap (λ (y : PassView). y.known) c.renew.ensures.rest ∙ ap (λ (y : PassView). y.known) c.tick.ensures.rest)
 
 pub hold-requires-clause-pass : goal.hold-requires-clause-pass
 hold-requires-clause-pass g c =
@@ -86,6 +95,20 @@ returns-in-Ok-clause-pins g c =
     let none = (c.hold.ensures.over over).1 in
     ((still g c).pins ∙ ap (λ (y : CellView). y.pairs) none, (still g c).others ∙ ap (λ (y : CellView). y.others) none))
 
+pub returns-in-Ok-clause-known : goal.returns-in-Ok-clause-known
+returns-in-Ok-clause-known g c =
+    let request = c.args.request.now in
+    let waited = c.in-Ok.ensures.held.waited.ticked in
+    let v = c.plan.new.counters in
+    let w = c.hold.new.counters in
+    let x = c.answer.new.counters in
+    let names = names_under request request.descriptors (fs g c) in
+    let moment = sym (still g c).moment in
+    planned_uses request c.args.now c.args.pass.now (versions_of c.pass.inside.version) (pass_state c.pass.inside.version) c.pass.inside.counters v c.pass.inside.refused (fs g c)
+    (planned g c) x c.pass.inside.refused waited.added ((still g c).ticks ∙ waited.ticks) c.plan.ensures.order
+    (uses_then (name_keys x.cells.moment names) v.known w.known x.known (subst (λ m. HasUsed [] (name_keys m names) v.known w.known) moment c.hold.ensures.uses)
+    (subst (λ m. HasUsed [] (name_keys m names) w.known x.known) moment (answered g c).uses))
+
 -- where they aren't
 module _ (g : Over) (c : goal.After-refuse g) where
   abbrev rules : List Found
@@ -119,3 +142,14 @@ returns-in-Err-clause-pins g c =
     planned_pin c.args.request.now c.args.now c.args.pass.now (versions_of c.pass.inside.version) (pass_state c.pass.inside.version) c.pass.inside.counters c.plan.new.counters
     c.pass.inside.refused (rules g c) (refused_plan g c) c.hold.new.counters c.refuse.new.refused waited.added waited.ticks
     (λ over. absurd (not_both c.hold.result c.in-Err.fault c.in-Err.is (c.hold.ensures.over over).0))
+
+pub returns-in-Err-clause-known : goal.returns-in-Err-clause-known
+returns-in-Err-clause-known g c =
+    let request = c.args.request.now in
+    let versions = versions_of c.pass.inside.version in
+    let version = pass_state c.pass.inside.version in
+    let waited = c.in-Err.ensures.refused.waited.ticked in
+    let w = c.hold.new.counters in
+    refused_uses request c.args.pass.now (pass_with versions version w c.refuse.new.refused) c.in-Err.fault c.refuse.result c.refuse.ensures.fault
+    (planned_uses request c.args.now c.args.pass.now versions version c.pass.inside.counters c.plan.new.counters c.pass.inside.refused (rules g c) (refused_plan g c) w
+    c.refuse.new.refused waited.added waited.ticks c.plan.ensures.order c.hold.ensures.uses)

@@ -18,6 +18,9 @@ use Rattle.rate_limiter.specs.Sought.{KnowsUnder, HasMissCause}
 use Rattle.rate_limiter.specs.declared.asked.Asked.{Asked}
 use Rattle.rate_limiter.specs.declared.not_open.NotOpen.{NotOpen}
 use Rattle.rate_limiter.proofs.AskedCounters.{there_of, knows_of, cause_of, over_known, over_none}
+use Rattle.rate_limiter.specs.Names.{names_under, name_keys}
+use Rattle.rate_limiter.specs.Used.{HasUsed}
+use Rattle.rate_limiter.proofs.FirstUses.{planned_uses, never_used}
 use Rattle.rate_limiter.proofs.HeldCounters.{held_known}
 use Rattle.rate_limiter.proofs.Knowing.{spots_same}
 use Rattle.rate_limiter.proofs.Noting.{knows_still}
@@ -26,6 +29,7 @@ use Rattle.rate_limiter.proofs.Planned.{IsPlanned}
 use Rattle.rate_limiter.proofs.Resting.{planned_pin}
 use Rattle.rate_limiter.proofs.Seeking.{spots_then}
 use Rattle.rate_limiter.proofs.Stepping.{step_of, answered_still}
+use Rattle.rate_limiter.proofs.Using.{uses_none, uses_then}
 use Rattle.rate_limiter.proofs.limiter.Limiter.check_open_into.Given.{Over}
 use Rattle.rate_limiter.proofs.limiter.Limiter.check_open_into.Goals as goal
 
@@ -47,6 +51,9 @@ answer-requires-clause-asked g c =
     let held = held_known cells request c.plan.new.counters w asked spots c.plan.ensures.asked c.hold_known.ensures.rest c.hold_known.ensures.same c.hold_known.ensures.pins
     held_all in
     subst (λ (l : List Asked). AreAsked cells request w l) (sym c.as_slice-in-Ok.ensures.value) held.asked_are
+
+pub returns-in-Some-clause-known : goal.returns-in-Some-clause-known
+returns-in-Some-clause-known g c = never_used c.args.request.now c.args.pass.now c.newer_version.new.pass c.newer_version.ensures.rest
 
 -- where the counters aren't held
 module _ (g : Over) (c : goal.After-of g) where
@@ -110,6 +117,21 @@ returns-in-Err-clause-pins g c =
     (subst (λ (l : List Asked). list_any (λ (a : Asked). is_to_count a.found a.hits a.known) l ≡ false) (sym c.as_slice.ensures.value)
     (over_none cells request v asked c.plan.ensures.asked over))).1 in
     (ap (λ (y : CountersView). y.cells.pairs) none, ap (λ (y : CountersView). y.cells.others) none))
+
+pub returns-in-Err-clause-known : goal.returns-in-Err-clause-known
+returns-in-Err-clause-known g c =
+    let request = c.args.request.now in
+    let v = c.plan.new.counters in
+    let w = c.hold_known.new.counters in
+    let n = c.pass.inside.refused in
+    let versions = versions_of c.pass.inside.version in
+    let version = pass_state c.pass.inside.version in
+    let planned = planned_open request c.args.now c.args.pass.now c.newer_version.new.pass c.tick.new.pass versions version c.pass.inside.counters v n c.pass.view_is
+    c.newer_version.ensures.rest c.tick.ensures.offered c.tick.ensures.rest c.tick.result c.tick.ensures.ticked c.newer_version.ensures.loaded c.newer_version.ensures.at
+    c.in_default.ensures.answer c.plan.ensures.rest c.plan.ensures.same (rules g c) (rules_are g c) in
+    planned_uses request c.args.now c.args.pass.now versions version c.pass.inside.counters v n (rules g c) planned w n [] (c.hold_known.ensures.same.ticks ∙ sym (append-nil v.cells.ticks))
+    c.plan.ensures.order
+    (uses_none (name_keys w.cells.moment (names_under request request.descriptors (rules g c))) v.known w.known (ap (λ (y : CountersView). y.known) c.hold_known.ensures.rest))
 
 -- where they are
 module _ (g : Over) (c : goal.After-pass-in-Ok-1 g) where
@@ -200,3 +222,18 @@ returns-in-Ok-clause-pins g c =
     (subst (λ (l : List Asked). list_any (λ (a : Asked). is_to_count a.found a.hits a.known) l ≡ false) (sym c.as_slice.ensures.value)
     (over_none cells request v asked c.plan.ensures.asked over))).1 in
     (still.pins ∙ ap (λ (y : CountersView). y.cells.pairs) none, still.others ∙ ap (λ (y : CountersView). y.cells.others) none))
+
+pub returns-in-Ok-clause-known : goal.returns-in-Ok-clause-known
+returns-in-Ok-clause-known g c =
+    let request = c.args.request.now in
+    let v = c.plan.new.counters in
+    let w = c.hold_known.new.counters in
+    let x = c.answer.new.counters in
+    let n = c.pass.inside.refused in
+    let names = names_under request request.descriptors (fs g c) in
+    let still = answered_still c.args.self.now request (fs g c) c.answer.new.reply c.version.result w x (answered g c) in
+    planned_uses request c.args.now c.args.pass.now (versions_of c.pass.inside.version) (pass_state c.pass.inside.version) c.pass.inside.counters v n (fs g c) (planned g c) x n []
+    (still.ticks ∙ c.hold_known.ensures.same.ticks ∙ sym (append-nil v.cells.ticks)) c.plan.ensures.order
+    (uses_then (name_keys x.cells.moment names) v.known w.known x.known
+    (uses_none (name_keys x.cells.moment names) v.known w.known (ap (λ (y : CountersView). y.known) c.hold_known.ensures.rest))
+    (subst (λ m. HasUsed [] (name_keys m names) w.known x.known) (sym still.moment) (answered g c).uses))

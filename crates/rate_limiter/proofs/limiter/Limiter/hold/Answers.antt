@@ -1,10 +1,11 @@
-use Rattle.std.proofs.Common.{◌≡◌, ◌∙◌, ◌≤◌, false, List, length, refl, sym, subst, ap, arith}
+use Rattle.std.proofs.Common.{◌≡◌, ◌∙◌, ◌≤◌, false, List, [], length, refl, sym, subst, ap, arith}
 use Rattle.std.specs.List.{list_any}
 use Rattle.counter_directory.specs.Passes.{DirectoryPassView}
+use Rattle.over_cache.specs.Entries.{Entries}
 use Rattle.rule_lookup.specs.declared.found.Found.{Found}
 use Rattle.rate_limiter.specs.Asked.{is_to_count, AreHeld, AreThere, IsNotHeld, NoneMissing, founds}
 use Rattle.rate_limiter.specs.Counters.{CountersView}
-use Rattle.rate_limiter.specs.Names.{names_under}
+use Rattle.rate_limiter.specs.Names.{names_under, name_keys}
 use Rattle.rate_limiter.specs.Passes.{bounds_of}
 use Rattle.rate_limiter.specs.Pinned.{HasPins, HasNoPins}
 use Rattle.rate_limiter.specs.Sought.{AreNoted}
@@ -13,7 +14,9 @@ use Rattle.rate_limiter.proofs.AskedCounters.{there_of, cause_of, some_named, ov
 use Rattle.rate_limiter.proofs.HeldCounters.{held_known, held_acquired}
 use Rattle.rate_limiter.proofs.Knowing.{no_pins_after}
 use Rattle.rate_limiter.proofs.Results.{not_both}
+use Rattle.rate_limiter.specs.Used.{asked_each, HasUsed}
 use Rattle.rate_limiter.proofs.Seeking.{missed_more}
+use Rattle.rate_limiter.proofs.Using.{uses_none, uses_then, uses_asked}
 use Rattle.rate_limiter.proofs.limiter.Limiter.hold.Goals as goal
 
 pub hold_known-requires-clause-there : goal.hold_known-requires-clause-there
@@ -170,3 +173,41 @@ returns-in-Ok-acquire-clause-held g c =
     (subst (λ (l : List Found). HasPins (names_under request request.descriptors l) spots mid.cells w.cells mid.claims.claims w.claims.claims) rules did.pinned) did.holds
     (subst (λ (l : List Found). AreNoted (names_under request request.descriptors l) w.cells.moment w.known) rules did.noted) did.once c.ask_each.ensures.rest
     c.ask_each.ensures.same (c.ask_each.ensures.founds ∙ rules) c.ask_each.ensures.asked
+
+pub returns-in-Ok-clause-uses : goal.returns-in-Ok-clause-uses
+returns-in-Ok-clause-uses g c =
+    let request = c.args.request.now in
+    let mid = c.hold_known.new.counters in
+    uses_none (name_keys mid.cells.moment (names_under request request.descriptors (founds c.args.scratch.now.asked.items))) c.args.counters.now.known mid.known
+    (ap (λ (u : CountersView). u.known) c.hold_known.ensures.rest)
+
+pub returns-in-Err-clause-uses : goal.returns-in-Err-clause-uses
+returns-in-Err-clause-uses g c =
+    let request = c.args.request.now in
+    let w = c.acquire.new.counters in
+    let fs = founds c.args.scratch.now.asked.items in
+    let rules : c.as_slice-rules.result.now ≡ fs = c.as_slice-rules.ensures.value ∙ c.requires.rules in
+    let known = ap (λ (u : CountersView). u.known) c.hold_known.ensures.rest in
+    subst (λ (k : Entries). HasUsed [] (name_keys w.cells.moment (names_under request request.descriptors fs)) k w.known) known
+    (subst (λ (l : List Found). HasUsed [] (name_keys w.cells.moment (names_under request request.descriptors l)) c.hold_known.new.counters.known w.known) rules
+    c.acquire.ensures.uses)
+
+pub returns-in-Ok-acquire-clause-uses : goal.returns-in-Ok-acquire-clause-uses
+returns-in-Ok-acquire-clause-uses g c =
+    let request = c.args.request.now in
+    let v = c.args.counters.now in
+    let w = c.acquire.new.counters in
+    let x = c.ask_each.new.counters in
+    let fs = founds c.args.scratch.now.asked.items in
+    let keys = name_keys w.cells.moment (names_under request request.descriptors fs) in
+    let rules : c.as_slice-rules.result.now ≡ fs = c.as_slice-rules.ensures.value ∙ c.requires.rules in
+    let known = ap (λ (u : CountersView). u.known) c.hold_known.ensures.rest in
+    let acquired : HasUsed [] keys v.known w.known
+    = subst (λ (k : Entries). HasUsed [] keys k w.known) known
+    (subst (λ (l : List Found). HasUsed [] (name_keys w.cells.moment (names_under request request.descriptors l)) c.hold_known.new.counters.known w.known) rules
+    c.acquire.ensures.uses) in
+    let asks : x.known ≡ asked_each keys w.known
+    = subst (λ (l : List Found). x.known ≡ asked_each (name_keys w.cells.moment (names_under request request.descriptors l)) w.known) rules c.ask_each.ensures.order in
+    let moment = ap (λ (u : CountersView). u.cells.moment) c.ask_each.ensures.rest in
+    subst (λ m. HasUsed [] (name_keys m (names_under request request.descriptors fs)) v.known x.known) (sym moment)
+    (uses_then keys v.known w.known x.known acquired (uses_asked keys w.known x.known asks))

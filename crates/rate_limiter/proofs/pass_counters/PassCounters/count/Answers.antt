@@ -1,8 +1,13 @@
-use Rattle.std.proofs.Common.{◌≡◌, sym, subst}
+use Rattle.std.proofs.Common.{◌≡◌, [], sym, subst}
 use Rattle.counter_directory.specs.Passes.{knows}
+use Rattle.window_keys.specs.Counter.{counter_of}
 use Rattle.rate_limiter.specs.Asked.{ReadyAt, known_for}
 use Rattle.rate_limiter.specs.Counted.{IsCounted, HaveRisen}
 use Rattle.rate_limiter.specs.Counters.{CountersView}
+use Rattle.rate_limiter.specs.Known.{key_of}
+use Rattle.rate_limiter.specs.Names.{name_under, name_keys}
+use Rattle.rate_limiter.specs.Used.{HasUsed}
+use Rattle.rate_limiter.proofs.Using.{uses_kept, uses_limited}
 use Rattle.rate_limiter.proofs.CountedCounters.{at_spot, at_seen, after_counted, risen_counted, is_counted}
 use Rattle.rate_limiter.proofs.pass_counters.PassCounters.count.Goals as goal
 
@@ -96,3 +101,16 @@ returns-clause-counted g c =
     ready known c.count_at-count.new.pass c.count_at-count.result c.count_at-count.ensures.done c.count_at-count.ensures.over c.value_after-value.result c.value_after-value.ensures.value
     c.moment-moment.result c.moment-moment.ensures c.note_value-is_noted.new.known c.note_value-is_noted.result c.note_value-is_noted.ensures.kept
     c.note_value-is_noted.ensures.noted c.status_for-status.result c.requires.ready.hits c.status_for-status.ensures)
+
+pub returns-clause-uses : goal.returns-clause-uses
+returns-clause-uses g c =
+    let r = c.args.request.now in
+    let d = c.args.descriptor.now in
+    let a = c.args.asked.now in
+    let es = c.self.inside.known in
+    let new = c.note_value-is_noted.new.known in
+    let one = uses_kept (key_of (counter_of r.domain d c.in-Limited.unit c.moment-moment.result)) c.in-Some.before.spot c.value_after-value.result es new
+    c.note_value-is_noted.result (λ e. (c.note_value-is_noted.ensures.kept e).0) c.note_value-is_noted.ensures.noted in
+    subst (λ (x : CountersView). HasUsed [] (name_keys x.cells.moment (name_under r d a.found)) x.known new) c.self.view_is
+    (subst (λ m. HasUsed [] (name_keys m (name_under r d a.found)) es new) c.moment-moment.ensures
+    (uses_limited r d a.found c.in-Limited.limit c.in-Limited.unit _ _ c.in-Limited.is c.moment-moment.result es new one))

@@ -2,7 +2,7 @@ use Rattle.std.proofs.Common.{◌≡◌, ◌∙◌, IfSome, subst, ap}
 use Rattle.counter_directory.specs.Passes.{knows}
 use Rattle.rate_types.specs.declared.counter_key.CounterKey.{CounterKey}
 use Rattle.window_keys.specs.Counter.{counter_of}
-use Rattle.over_cache.specs.Entries.{known_of}
+use Rattle.over_cache.specs.Entries.{known_of, asked}
 use Rattle.rate_limiter.specs.Counters.{CountersView}
 use Rattle.rate_limiter.specs.Known.{counter_named, key_of}
 use Rattle.rate_limiter.specs.Sought.{SameKnown, IsOwnSpot}
@@ -41,3 +41,12 @@ returns-clause-own g c =
     (own_entry cells (knows c.self.inside.claims).known v.pairs q
     (subst (λ (p : CounterKey). (x : CounterKey) → key_of x ≡ key_of p → x ≡ p) same c.find.ensures.alone) c.self.inside.known c.self.invariant.bound c.find.result
     (c.find.ensures.found ∙ ap (λ (p : CounterKey). known_of (key_of p) c.self.inside.known) same))
+
+pub returns-clause-order : goal.returns-clause-order
+returns-clause-order g c =
+    let same : counter_named c.domain.result.now c.args.descriptor.now.entries c.args.unit c.moment-moment.result
+    ≡ counter_of c.args.request.now.domain c.args.descriptor.now c.args.unit c.self.inside.cells.moment
+    = λ i. counter_named (c.domain.ensures.same i) c.args.descriptor.now.entries c.args.unit (c.moment-moment.ensures i) in
+    subst
+    (λ (x : CountersView). c.find.new.self ≡ asked (key_of (counter_of c.args.request.now.domain c.args.descriptor.now c.args.unit x.cells.moment)) x.known)
+    c.self.view_is (c.find.ensures.order ∙ ap (λ (q : CounterKey). asked (key_of q) c.self.inside.known) same)

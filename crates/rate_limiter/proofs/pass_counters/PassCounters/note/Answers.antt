@@ -1,5 +1,5 @@
 use Rattle.std.proofs.Common.{◌≡◌, ◌∙◌, refl, sym, subst, ap}
-use Rattle.std.specs.Prelude.{OnOk}
+use Rattle.std.specs.Prelude.{OnOk, OnErr}
 use Rattle.counter_directory.specs.Keys.{key_at}
 use Rattle.counter_directory.specs.Passes.{knows}
 use Rattle.rate_types.specs.declared.counter_name.CounterName.{CounterName}
@@ -39,3 +39,6 @@ returns-clause-noted g c =
     subst (λ (x : CountersView). OnOk c.note.result (c.note.new.self ≡ noted (key_of (key_at x.cells.moment found)) c.args.spot 0 x.known)) c.self.view_is
     (subst (λ n. OnOk c.note.result (c.note.new.self ≡ noted (key_of (key_at n found)) c.args.spot 0 c.self.inside.known)) c.moment-moment.ensures
     (subst (λ (n : CounterName). OnOk c.note.result (c.note.new.self ≡ noted (key_of (key_at m n)) c.args.spot 0 c.self.inside.known)) is c.note.ensures.noted))
+
+pub returns-clause-refused : goal.returns-clause-refused
+returns-clause-refused g c = subst (λ (x : CountersView). OnErr c.note.result (c.note.new.self ≡ x.known)) c.self.view_is c.note.ensures.refused
