@@ -1,10 +1,9 @@
 -- Uses of known counters, one after the other.
-use Rattle.std.proofs.Common.{◌≡◌, ◌⊎◌, inl, inr, ◌||◌, ◌+◌, ℕ, zero, suc, ◌<◌, List, [], ◌∷◌, ◌++◌, map, length, take, get_or, Bool, true, false, refl, sym, ap, ◌∙◌, subst, arith}
+use Rattle.std.proofs.Common.{◌≡◌, ◌⊎◌, inl, inr, ◌||◌, ◌+◌, ℕ, zero, suc, ◌<◌, List, [], ◌∷◌, ◌++◌, map, length, take, get_or, Bool, true, false, refl, sym, ap, ◌∙◌, subst}
 use Rattle.std.proofs.lemmas.List.{map-append}
 use Rattle.std.proofs.lemmas.List.Folds.{list_any-append}
 use Rattle.std.specs.Bool.{IsTrue}
 use Rattle.std.specs.Cmp.Lexicographic.{bytes_decides}
-use Rattle.std.specs.List.{list_any}
 use Rattle.std.specs.Prelude.{Option, None, Some}
 use mathlib.Core.Option.{some, some-injective, some-ne-none}
 use lib.ListN.{get_elem?}
@@ -12,7 +11,6 @@ use Rattle.rate_types.specs.Requests.{RequestParts}
 use Rattle.rate_types.specs.declared.rule_id.RuleId.{RuleId}
 use Rattle.rate_types.specs.declared.unit.Unit.{Unit}
 use Rattle.window_keys.specs.Counter.{counter_of}
-use Rattle.rate_types.specs.declared.counter_key.CounterKey.{CounterKey}
 use Rattle.rate_types.specs.declared.counter_name.CounterName.{CounterName}
 use Rattle.rate_types.specs.declared.request.Descriptor.{Descriptor}
 use Rattle.counter_directory.specs.Keys.{key_at, keys_at}
@@ -156,3 +154,10 @@ asked_next request m ds fs d f i lt len a b c before now =
 pub uses_limited : (request : RequestParts) (d : Descriptor) (f : Found) (limit : ℕ) (unit : Unit) (shadow : Bool) (rule : Option RuleId) → f ≡ Limited limit unit shadow rule
     → (m : ℕ) (old new : Entries) → HasUsed [] (key_of (counter_of request.domain d unit m) ∷ []) old new → HasUsed [] (name_keys m (name_under request d f)) old new
 uses_limited request d f limit unit shadow rule is m old new h = subst (λ (x : Found). HasUsed [] (name_keys m (name_under request d x)) old new) (sym is) h
+
+-- Of three counters the second is asked for, one that isn't known is asked for, and then another is noted: it and the second come first, the
+-- others in their order
+small : (a b c : Known) (s : Spot)
+    → used (Noted (4 ∷ []) s 7 ∷ Asked (5 ∷ []) ∷ Asked (2 ∷ []) ∷ []) ((1 ∷ [], a) ∷ (2 ∷ [], b) ∷ (3 ∷ [], c) ∷ [])
+    ≡ (4 ∷ [], record { spot = s; seen = 7 }) ∷ (2 ∷ [], b) ∷ (1 ∷ [], a) ∷ (3 ∷ [], c) ∷ []
+small a b c s = refl
