@@ -58,6 +58,14 @@ pub struct Shared<'a, N: CellNaming, L: ScriptLines, G: Gate> {
     pub stats: bool,
 }
 
+// What a worker keeps from line to line: where a line is read, its reply, and what was counted so far.
+#[derive(Drop)]
+struct Kept {
+    scratch: Scratch,
+    reply: Reply,
+    tally: Tally,
+}
+
 // Reads the line with this number, counted from 0, runs it, and answers its record. Where statistics are asked for, it is counted.
 #[inline(always)]
 fn run_drawn<N: CellNaming, L: ScriptLines, G: Gate, R: Wait>(
@@ -66,28 +74,34 @@ fn run_drawn<N: CellNaming, L: ScriptLines, G: Gate, R: Wait>(
     run: &Shared<'_, N, L, G>,
     worker: u32,
     pass: &mut Pass<N>,
-    scratch: &mut Scratch,
-    reply: &mut Reply,
-    tally: &mut Tally,
+    kept: &mut Kept,
     number: u64,
 ) -> Result<Record, OutOfMemory>
     requires pass { pass.old.limiter ≡ run.now.limiter.now.id }
     requires lines { length (L.lines run.now.lines.now) ≤ MOST_LINES }
     requires number { number < length (L.lines run.now.lines.now) }
-    requires room { tally.old.notes + MOST_DESCRIPTORS ≤ MOST_NOTES }
+    requires room { kept.old.tally.notes + MOST_DESCRIPTORS ≤ MOST_NOTES }
     ensures pass { pass.new.limiter ≡ run.now.limiter.now.id }
     ensures line { IfOk result (λ r. r.line ≡ number + 1) }
     ensures step { IfOk result (λ r. IsRecordStep (bounds_of N.setup.cells run.now.limiter.now) run.now.limiter.now run.now.start worker
         (L.lines run.now.lines.now) pass.old r pass.new) }
-    ensures counted { IfOk result (λ r. run.now.stats ≡ true → (notes : List Note) → AreSums notes tally.old.versions
-        → AreSums (notes ++ notes_shown_by (slice_get (L.lines run.now.lines.now) (r.line - 1)) r) tally.new.versions) }
-    ensures notes { IfOk result (λ r. tally.new.notes ≤ tally.old.notes + MOST_DESCRIPTORS) }
+    ensures counted { IfOk result (λ r. run.now.stats ≡ true → (notes : List Note) → AreSums notes kept.old.tally.versions
+        → AreSums (notes ++ notes_shown_by (slice_get (L.lines run.now.lines.now) (r.line - 1)) r) kept.new.tally.versions) }
+    ensures notes { IfOk result (λ r. kept.new.tally.notes ≤ kept.old.tally.notes + MOST_DESCRIPTORS) }
 {
     let index = number as usize;
     let number = number as u32 + 1;
     run.gate.before(worker, number);
-    let line = run.lines.read(alloc, scratch, index)?;
-    let outcome = run_line(rt, alloc, run.limiter, pass, &line, run.start, reply)?;
+    let line = run.lines.read(alloc, &mut kept.scratch, index)?;
+    let outcome = run_line(
+        rt,
+        alloc,
+        run.limiter,
+        pass,
+        &line,
+        run.start,
+        &mut kept.reply,
+    )?;
     let record = Record {
         line: number,
         worker,
@@ -95,7 +109,7 @@ fn run_drawn<N: CellNaming, L: ScriptLines, G: Gate, R: Wait>(
         moment: pass.moment(),
         outcome,
     };
-    count_line(run.stats, tally, &line, &record)?;
+    count_line(run.stats, &mut kept.tally, &line, &record)?;
     run.gate.after(worker, &line, &record, pass);
     Ok(record)
 }
@@ -121,28 +135,20 @@ pub fn work<N: CellNaming, L: ScriptLines, G: Gate, R: Wait>(
         mut pass,
         mut drawer,
     } = worker;
-    let mut scratch = Scratch::new(alloc);
-    let mut reply = Reply::new();
-    let mut tally = Tally::new(alloc);
+    let mut kept = Kept {
+        scratch: Scratch::new(alloc),
+        reply: Reply::new(),
+        tally: Tally::new(alloc),
+    };
     let mut journal = Journal::with_room(alloc, run.room)?;
     'lines: while let Some(number) = run.numbers.draw(&mut drawer) {
-        let record = run_drawn(
-            rt,
-            alloc,
-            run,
-            worker,
-            &mut pass,
-            &mut scratch,
-            &mut reply,
-            &mut tally,
-            number,
-        )?;
+        let record = run_drawn(rt, alloc, run, worker, &mut pass, &mut kept, number)?;
         journal.push(record)?;
     }
     Ok(Worked {
         pass,
         drawer,
         journal,
-        tally,
+        tally: kept.tally,
     })
 }

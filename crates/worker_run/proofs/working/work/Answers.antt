@@ -57,7 +57,7 @@ lines-preserved g c =
       drawn = c.in-Some.ensures.drawn ∙ ap (λ l. l ++ c.in-Some.number ∷ []) inv.drawn ∙ ap (λ n. map (λ x. x.line - 1) c.lines.journal ++ n ∷ [])
           (one_before r.line c.in-Some.number number)
           ∙ sym (map_push c.lines.journal r) ∙ ap (λ l. map (λ x. x.line - 1) l) (sym is);
-      counted = subst (λ l. HasCounted c.args.run.now.stats (g.L.ScriptLines.lines c.args.run.now.lines.now) l c.run_drawn.new.tally) (sym is)
-          (counted_push c.args.run.now.stats (g.L.ScriptLines.lines c.args.run.now.lines.now) c.lines.journal r c.in_ok-record.ensures.step.line c.lines.tally
-          c.run_drawn.new.tally c.in_ok-record.ensures.step.there inv.counted c.in_ok-record.ensures.counted c.in_ok-record.ensures.notes);
+      counted = subst (λ l. HasCounted c.args.run.now.stats (g.L.ScriptLines.lines c.args.run.now.lines.now) l c.run_drawn.new.kept.tally) (sym is)
+          (counted_push c.args.run.now.stats (g.L.ScriptLines.lines c.args.run.now.lines.now) c.lines.journal r c.in_ok-record.ensures.step.line c.lines.kept.tally
+          c.run_drawn.new.kept.tally c.in_ok-record.ensures.step.there inv.counted c.in_ok-record.ensures.counted c.in_ok-record.ensures.notes);
     }

@@ -14,5 +14,5 @@ invariant-lines g l = record {
   same : l.pass.limiter ≡ l.run.limiter.now.id;
   journal : Journal (bounds_of g.N.CellNaming.setup.cells l.run.limiter.now) l.run.limiter.now l.run.start l.worker (g.L.ScriptLines.lines l.run.lines.now) l.initial.pass l.journal l.pass;
   drawn : given l.drawer ≡ map (λ r. r.line - 1) l.journal;
-  counted : HasCounted l.run.stats (g.L.ScriptLines.lines l.run.lines.now) l.journal l.tally;
+  counted : HasCounted l.run.stats (g.L.ScriptLines.lines l.run.lines.now) l.journal l.kept.tally;
 }
