@@ -1,4 +1,5 @@
 use crate::peers::{CHECK_A, CHECK_B, HEALTH, answers, peer_of, serve, setup_of, slow_peer};
+use http_checks::SERVED_CLAIMS;
 use http_endpoint::{LinkCause, LinkEnd};
 use std::test::Fail;
 
@@ -139,4 +140,10 @@ fn each_call_of_the_listener_can_fail(rt: HostRuntime) -> Result<(), Fail> {
         }
     }
     Ok(())
+}
+
+// The number that the documents give.
+#[test]
+fn so_many_counters_have_cells_in_the_life_of_a_server(rt: HostRuntime) {
+    assert_eq!(rt; SERVED_CLAIMS, 16_777_216);
 }

@@ -1,5 +1,6 @@
 // The limits of length, and each read and write that fails in turn.
 use super::{A, CHECK_A, DOMAIN, Failing, NONE, joined, said};
+use cli_exits::MOST_RUN_BYTES;
 use std::test::Fail;
 
 // The record of a check whose counter has no cell left, of 262,144.
@@ -170,4 +171,10 @@ fn the_first_counter_past_the_cells_is_refused(rt: HostRuntime) -> Result<(), Fa
     assert_eq!(rt; answer.lines().nth(262_146), Some(FIRST_TOTAL));
     assert_eq!(rt; answer.lines().count(), 524_290);
     Ok(())
+}
+
+// The number that the documents give: a run of that size would take longer than all other tests.
+#[test]
+fn a_printed_run_has_at_most_so_many_bytes(rt: HostRuntime) {
+    assert_eq!(rt; MOST_RUN_BYTES, 1_073_741_824);
 }
